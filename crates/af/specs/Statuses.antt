@@ -2,8 +2,8 @@
 use Rattle.std.specs.Prelude.{ℕ}
 use Rattle.af_answer.specs.declared.end.AnswerEnd.{AnswerEnd}
 use Rattle.af_answer.specs.declared.end.AnswerEnd.TheVariants as ended
-use Rattle.af_tool.specs.declared.end.ToolEnd.{ToolEnd}
-use Rattle.af_tool.specs.declared.end.ToolEnd.TheVariants as end
+use Rattle.af_toolkit.specs.declared.end.ToolEnd.{ToolEnd}
+use Rattle.af_toolkit.specs.declared.end.ToolEnd.TheVariants as end
 
 abbrev pub tool_status : ToolEnd → ℕ
 tool_status end.Done = 0

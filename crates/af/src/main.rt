@@ -65,7 +65,7 @@ fn answer_status_of(end: AnswerEnd) -> u8
     }
 }
 
-// Says on standard error that the reply with this head is a bad one.
+// Says on standard error that the reply with this header is bad.
 fn report_bad_reply(rt: &impl Eprint, header: [u8; 8]) -> io::Result<()> {
     let [a, b, c, d, e, f, g, h] = header;
     let head = u64::from_be_bytes([a, b, c, d, e, f, g, h]);
@@ -136,7 +136,7 @@ fn main(rt: HostRuntime) -> ExitCode {
     }
 }
 
-// Says how a tool ended. Where standard error takes nothing, the status still does.
+// Says how a tool ended. If standard error takes nothing, the exit status still says it.
 fn said(rt: &impl Eprint, end: ToolEnd) -> ToolEnd
     ensures { result ≡ end }
 {
@@ -144,7 +144,7 @@ fn said(rt: &impl Eprint, end: ToolEnd) -> ToolEnd
     end
 }
 
-// Says how the answering machine ended.
+// Says how the answering machine ended. If standard error takes nothing, the exit status still says it.
 fn said_answer(rt: &impl Eprint, end: AnswerEnd) -> AnswerEnd
     ensures { result ≡ end }
 {
@@ -152,7 +152,7 @@ fn said_answer(rt: &impl Eprint, end: AnswerEnd) -> AnswerEnd
     end
 }
 
-// Runs the tool that the words name, over standard input, standard output and TCP, and says how that ended.
+// Runs the tool that the arguments name, over standard input, standard output and TCP.
 fn run(rt: &HostRuntime, words: &Args, details: bool) -> ToolEnd {
     let Ok(net) = rt.clone() else {
         return said(rt, ToolEnd::OutOfMemory);
@@ -169,7 +169,7 @@ fn run(rt: &HostRuntime, words: &Args, details: bool) -> ToolEnd {
     end
 }
 
-// Attends a line, over standard output, TCP, and the programs of the system, and says how that ended.
+// Attends a line, over standard output, TCP, and the programs of the system.
 fn attend(rt: &HostRuntime, words: &Args, details: bool) -> AnswerEnd {
     let Ok(net) = rt.clone() else {
         return said_answer(rt, AnswerEnd::OutOfMemory);

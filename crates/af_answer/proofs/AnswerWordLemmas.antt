@@ -1,4 +1,4 @@
--- When the words of an answering machine are spelled.
+-- When the arguments of an answering machine are valid.
 use Rattle.std.proofs.Common.{◌≡◌, ◌∙◌, Bool, true, false, ◌&&◌, List, ap, is_some, refl, if◌then◌else◌}
 use Rattle.std.specs.Prelude.{Option, None}
 use Rattle.clap.specs.Words.{Text, matches_of, takes}

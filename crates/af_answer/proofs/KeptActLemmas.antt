@@ -11,46 +11,40 @@ use Rattle.af_process.specs.Acts.{Told}
 use Rattle.af_request.specs.Asked.{hook_switch}
 use Rattle.af_request.specs.Requests.{request_bytes}
 use Rattle.af_lib.specs.declared.fault.ConnFault.{ConnFault}
-use Rattle.af_tool.specs.Trace.{ClientState, after_reply, answer_on}
+use Rattle.af_toolkit.specs.Trace.{ClientState, after_reply, answer_on}
 use Rattle.af_lib.specs.Calls.{as_done}
 use Rattle.af_answer.specs.declared.child.ChildEnd.{ChildEnd}
 use Rattle.af_answer.specs.declared.child.ChildEnd.TheVariants as ended
 use Rattle.af_answer.specs.declared.job.AnswerJob.{AnswerJob}
 use Rattle.af_answer.specs.declared.tally.Tally.{Tally}
 use Rattle.af_answer.specs.Acts.{MachineAct, acts_behind, acts_from, call_acts, call_end, greet, later_ends, leaves_off, off_after, off_hook, on_hook, record_message, rings_after, tally_after, write_tally}
-use Rattle.af_answer.specs.AnswerTrace.{ToCome, AnswerTrace, AnswerFinish, attends, awaits_call, most_for_a_call, having, behind_event, behind_from, child_starved, first_run, by_event, hearing, leaves_message, met_fault, off_hook_fault, on_hook_fault, next_event, rang_too_little, by_reply, writes_tally, requesting, requests, running, runs_child, stops, takes_call, unless_starved}
+use Rattle.af_answer.specs.AnswerTrace.{ToCome, AnswerTrace, AnswerFinish, attends, awaits_call, most_for_a_call, with_deeds, behind_event, behind_from, child_starved, first_run, by_event, event_deeds, leaves_message, met_fault, off_hook_fault, on_hook_fault, next_event, rang_too_little, by_reply, writes_tally, request_deeds, requests, child_deeds, runs_child, stops, takes_call, unless_starved}
 use Rattle.af_answer.specs.Answered.{SwitchesHook, bytes_of_act, children_of, requests_of, text_of_acts}
-use Rattle.af_answer.specs.Children.{ChildRun, run_end, run_told, shell_words}
-use Rattle.af_answer.proofs.AnswerStepLemmas.{awaits_is}
+use Rattle.af_answer.specs.Children.{ChildRun, run_end, told_of_run, shell_words}
+use Rattle.af_answer.proofs.AnswerStepLemmas.{awaits_is, child_is}
 
-child_is : (text : List ℕ) (w : ClientState) (runs : List ChildRun) (next : ChildEnd → ToCome → AnswerTrace) →
-    runs_child text (record { wire = w; runs = runs }) next ≡ having (running (run_told (shell_words text) (first_run runs))) (next (run_end (first_run runs)) (record { wire = w; runs = drop 1 runs }))
-unfolding runs_child
-child_is text w runs next = refl
-
--- the acts behind a call, by how it ended and the ends of the children to come
+-- the acts after a call, by how it ended and the ends of the children to come
 abbrev later_acts : AnswerJob → Tally → ChildEnd → List ChildEnd → List Event → List MachineAct
 later_acts job t how ends events = acts_behind how job.calls (tally_after how t) (acts_from job 0 (tally_after how t) events ends)
 
--- an event that is handed out leaves the order of a client
+-- an event that is given does not change the byte order of a client
 order_behind : (first : Option Event) (w : ClientState) → (behind_from first w).order ≡ w.order
 order_behind (Some e) w = refl
 order_behind None w = refl
 
--- the acts behind so many calls, of which n are left
+-- the acts after so many calls, with n still to come
 abbrev pub acts_at : AnswerJob → Tally → List Event → List ChildEnd → List MachineAct
 acts_at job t events ends = if t.answered == job.calls then write_tally t ∷ [] else acts_from job 0 t events ends
 
-abbrev pub attending : AnswerJob → ℕ → Tally → ToCome → AnswerTrace
-attending job n t b = attends n job t b (λ t b. writes_tally t)
+abbrev pub attend_trace : AnswerJob → ℕ → Tally → ToCome → AnswerTrace
+attend_trace job n t b = attends n job t b (λ t b. writes_tally t)
 
 counts_one : (how : ChildEnd) (t : Tally) (n calls : ℕ) → t.answered + suc n ≡ calls → (tally_after how t).answered + n ≡ calls
 counts_one ended.Good t n calls is = omega (arith, is)
-counts_one ended.Bad t n calls is = omega (arith, is)
-counts_one ended.NoMemory t n calls is = omega (arith, is)
+counts_one how t n calls is = omega (arith, is)
 
 module _ (order : Order) where
-  -- an OffHook was sent last, and the acts before it leave the hook on, which was so before them
+  -- an OffHook was sent last, and the acts before it leave the hook on, as it was before them
   pub record StopsOff (off : Bool) (job : AnswerJob) (acts : List MachineAct) (sends : List ℕ) : Type 0 where
     pub before : List MachineAct
     pub later : List MachineAct
@@ -79,21 +73,21 @@ module _ (order : Order) where
     pub whole : SwitchesHook t → (unsent ≡ []) × (untold ≡ []) × (unwritten ≡ [])
     pub stops : (f : ConnFault) → t.finish ≡ off_hook_fault f → StopsOff off job acts t.sends
 
-  -- one that ends where no act is left
+  -- a trace that ends when no act is left
   keeps_end : (job : AnswerJob) (runs : List ChildRun) (finish : AnswerFinish) → ((f : ConnFault) → finish ≢ off_hook_fault f) → KeepsTo false job [] runs (stops finish)
   keeps_end job runs finish other = record { unsent = []; untold = []; unwritten = []; sent = refl; children = refl; text = refl; whole = λ served. (refl, refl, refl); stops = λ f met. absurd (other f met) }
 
   keeps_report : (job : AnswerJob) (runs : List ChildRun) (t : Tally) → KeepsTo false job (write_tally t ∷ []) runs (writes_tally t)
   keeps_report job runs t = record { unsent = []; untold = []; unwritten = []; sent = refl; children = refl; text = refl; whole = λ served. (refl, refl, refl); stops = λ f met. cc met }
 
-  -- the same trace in other words
+  -- a trace that equals another
   keeps_same : (off : Bool) (job : AnswerJob) (acts : List Event → List MachineAct) (runs : List ChildRun) (t t' : AnswerTrace) → t' ≡ t → KeepsTo off job (acts t.heard) runs t → KeepsTo off job (acts t'.heard) runs t'
   keeps_same off job acts runs t t' is k = subst (λ (x : AnswerTrace). KeepsTo off job (acts x.heard) runs x) (sym is) k
 
-  -- an act was done: what it sends and what is told of its child come first
+  -- an act was done: what it sends and the acts of its child come first
   keeps_after : (off : Bool) (job : AnswerJob) (act : MachineAct) (acts : List MachineAct) (runs runs' : List ChildRun) (told : List Told) (t : AnswerTrace) →
       children_of job (act ∷ acts) runs ≡ told ++ children_of job acts runs' → text_of_acts (act ∷ acts) ≡ text_of_acts acts → KeepsTo (off_after off act) job acts runs' t →
-      KeepsTo off job (act ∷ acts) runs (having (record { heard = []; sends = bytes_of_act order job.device act; told = told }) t)
+      KeepsTo off job (act ∷ acts) runs (with_deeds (record { heard = []; sends = bytes_of_act order job.device act; told = told }) t)
   keeps_after off job act acts runs runs' told t children text k = record {
     unsent = k.unsent;
     untold = k.untold;
@@ -105,11 +99,11 @@ module _ (order : Order) where
     stops = λ f met. stops_after off job act acts t.sends (k.stops f met);
   }
 
-  -- a HookSwitch was answered with a fault: none of the acts behind it was done
+  -- a HookSwitch was answered with a fault: none of the acts after it was done
   keeps_until : (off : Bool) (job : AnswerJob) (act : MachineAct) (acts : List MachineAct) (runs : List ChildRun) (finish : AnswerFinish) →
       children_of job (act ∷ acts) runs ≡ children_of job acts runs → text_of_acts (act ∷ acts) ≡ text_of_acts acts → (SwitchesHook (stops finish) → ⊥) →
       ((f : ConnFault) → finish ≡ off_hook_fault f → StopsOff off job (act ∷ acts) (bytes_of_act order job.device act ++ [])) →
-      KeepsTo off job (act ∷ acts) runs (having (requesting (bytes_of_act order job.device act)) (stops finish))
+      KeepsTo off job (act ∷ acts) runs (with_deeds (request_deeds (bytes_of_act order job.device act)) (stops finish))
   keeps_until off job act acts runs finish children text never stopped = record {
     unsent = requests_of order job.device acts;
     untold = children_of job acts runs;
@@ -123,30 +117,30 @@ module _ (order : Order) where
 
   -- the hook is taken off, or put on
   keeps_off : (job : AnswerJob) (acts : List Event → List MachineAct) (runs : List ChildRun) (r : Result (Unit {0}) ConnFault) (b : ToCome) (next : ToCome → AnswerTrace) →
-      KeepsTo true job (acts (next b).heard) runs (next b) → (let t : AnswerTrace = having (requesting (request_bytes order (hook_switch job.device 1))) (by_reply (hook_switch job.device 1) r b next) in KeepsTo false job (off_hook ∷ acts t.heard) runs t)
+      KeepsTo true job (acts (next b).heard) runs (next b) → (let t : AnswerTrace = with_deeds (request_deeds (request_bytes order (hook_switch job.device 1))) (by_reply (hook_switch job.device 1) r b next) in KeepsTo false job (off_hook ∷ acts t.heard) runs t)
   keeps_off job acts runs (Ok u) b next k = keeps_after false job off_hook (acts (next b).heard) runs runs [] (next b) refl refl k
   keeps_off job acts runs (Err f) b next k =
       keeps_until false job off_hook (acts []) runs (off_hook_fault f) refl refl (λ switched. switched.1 f refl) (λ f met. record { before = []; later = acts []; are = refl; sent = refl; on = refl })
 
   keeps_on : (job : AnswerJob) (acts : List Event → List MachineAct) (runs : List ChildRun) (r : Result (Unit {0}) ConnFault) (b : ToCome) (next : ToCome → AnswerTrace) →
-      KeepsTo false job (acts (next b).heard) runs (next b) → (let t : AnswerTrace = having (requesting (request_bytes order (hook_switch job.device 0))) (by_reply (hook_switch job.device 0) r b next) in KeepsTo true job (on_hook ∷ acts t.heard) runs t)
+      KeepsTo false job (acts (next b).heard) runs (next b) → (let t : AnswerTrace = with_deeds (request_deeds (request_bytes order (hook_switch job.device 0))) (by_reply (hook_switch job.device 0) r b next) in KeepsTo true job (on_hook ∷ acts t.heard) runs t)
   keeps_on job acts runs (Ok u) b next k = keeps_after true job on_hook (acts (next b).heard) runs runs [] (next b) refl refl k
   keeps_on job acts runs (Err f) b next k = keeps_until true job on_hook (acts []) runs (on_hook_fault f) refl refl (λ switched. switched.0 f refl) (λ f met. cc met)
 
   -- the greeting is run, or the message
   keeps_greeting : (job : AnswerJob) (acts : List MachineAct) (runs : List ChildRun) (t : AnswerTrace) → KeepsTo true job acts (drop 1 runs) t →
-      KeepsTo true job (greet ∷ acts) runs (having (running (run_told (shell_words job.greeting.bytes) (first_run runs))) t)
-  keeps_greeting job acts runs t k = keeps_after true job greet acts runs (drop 1 runs) (run_told (shell_words job.greeting.bytes) (first_run runs)) t refl refl k
+      KeepsTo true job (greet ∷ acts) runs (with_deeds (child_deeds (told_of_run (shell_words job.greeting.bytes) (first_run runs))) t)
+  keeps_greeting job acts runs t k = keeps_after true job greet acts runs (drop 1 runs) (told_of_run (shell_words job.greeting.bytes) (first_run runs)) t refl refl k
 
   keeps_message : (job : AnswerJob) (acts : List MachineAct) (runs : List ChildRun) (t : AnswerTrace) → KeepsTo true job acts (drop 1 runs) t →
-      KeepsTo true job (record_message ∷ acts) runs (having (running (run_told (shell_words job.message.bytes) (first_run runs))) t)
-  keeps_message job acts runs t k = keeps_after true job record_message acts runs (drop 1 runs) (run_told (shell_words job.message.bytes) (first_run runs)) t refl refl k
+      KeepsTo true job (record_message ∷ acts) runs (with_deeds (child_deeds (told_of_run (shell_words job.message.bytes) (first_run runs))) t)
+  keeps_message job acts runs t k = keeps_after true job record_message acts runs (drop 1 runs) (told_of_run (shell_words job.message.bytes) (first_run runs)) t refl refl k
 
   requests_is : (device off : ℕ) (w : ClientState) (runs : List ChildRun) (next : ToCome → AnswerTrace) → w.order ≡ order →
-      requests (hook_switch device off) (record { wire = w; runs = runs }) next ≡ having (requesting (request_bytes order (hook_switch device off))) (by_reply (hook_switch device off) (answer_on (hook_switch device off) as_done w) (record { wire = after_reply w; runs = runs }) next)
+      requests (hook_switch device off) (record { wire = w; runs = runs }) next ≡ with_deeds (request_deeds (request_bytes order (hook_switch device off))) (by_reply (hook_switch device off) (answer_on (hook_switch device off) as_done w) (record { wire = after_reply w; runs = runs }) next)
   unfolding requests
   requests_is device off w runs next its =
-      ap (λ (o : Order). having (requesting (request_bytes o (hook_switch device off))) (by_reply (hook_switch device off) (answer_on (hook_switch device off) as_done w) (record { wire = after_reply w; runs = runs }) next)) its
+      ap (λ (o : Order). with_deeds (request_deeds (request_bytes o (hook_switch device off))) (by_reply (hook_switch device off) (answer_on (hook_switch device off) as_done w) (record { wire = after_reply w; runs = runs }) next)) its
 
   -- what follows a call keeps to them, wherever the link stands and however the children run
   abbrev KeepsLater : AnswerJob → Tally → (ChildEnd → ToCome → AnswerTrace) → Type 0
@@ -164,17 +158,16 @@ module _ (order : Order) where
         keeps_same true job (λ events. on_hook ∷ later_acts job t how (map run_end runs) events) runs _ _ (requests_is job.device 0 w runs (λ b. next how b) its)
         (keeps_on job (λ events. later_acts job t how (map run_end runs) events) runs (answer_on (hook_switch job.device 0) as_done w) b (λ b. next how b) (later how (after_reply w) runs its))
 
-    -- how a call ends behind a good greeting
+    -- how a call ends after a good greeting
     message_ends : (runs : List ChildRun) (w : ClientState) → w.order ≡ order →
         (let b : ToCome = record { wire = w; runs = drop 1 runs } in
         KeepsTo true job (on_hook ∷ later_acts job t (run_end (first_run runs)) (map run_end (drop 1 runs)) (hangs (run_end (first_run runs)) b).heard) (drop 1 runs) (hangs (run_end (first_run runs)) b))
     message_ends runs w its = call_ends (run_end (first_run runs)) w (drop 1 runs) its
 
-    -- the acts of a call behind its greeting
+    -- the acts of a call after its greeting
     abbrev tail_acts : ChildEnd → List ChildRun → List Event → List MachineAct
     tail_acts ended.Good runs events = record_message ∷ on_hook ∷ later_acts job t (run_end (first_run runs)) (map run_end (drop 1 runs)) events
-    tail_acts ended.Bad runs events = on_hook ∷ later_acts job t ended.Bad (map run_end runs) events
-    tail_acts ended.NoMemory runs events = on_hook ∷ later_acts job t ended.NoMemory (map run_end runs) events
+    tail_acts greeting runs events = on_hook ∷ later_acts job t greeting (map run_end runs) events
 
     tail_keeps : (greeting : ChildEnd) (w : ClientState) (runs : List ChildRun) → w.order ≡ order →
         (let x : AnswerTrace = leaves_message job greeting (record { wire = w; runs = runs }) hangs in KeepsTo true job (tail_acts greeting runs x.heard) runs x)
@@ -182,8 +175,7 @@ module _ (order : Order) where
         let b : ToCome = record { wire = w; runs = drop 1 runs } in
         keeps_same true job (λ events. tail_acts ended.Good runs events) runs _ _ (child_is job.message.bytes w runs hangs)
         (keeps_message job _ runs (hangs (run_end (first_run runs)) b) (message_ends runs w its))
-    tail_keeps ended.Bad w runs its = call_ends ended.Bad w runs its
-    tail_keeps ended.NoMemory w runs its = call_ends ended.NoMemory w runs its
+    tail_keeps greeting w runs its = call_ends greeting w runs its
 
     abbrev whole_acts : List ChildRun → List Event → List MachineAct
     whole_acts runs events = call_acts (map run_end runs) ++ later_acts job t (call_end (map run_end runs)) (later_ends (map run_end runs)) events
@@ -191,9 +183,7 @@ module _ (order : Order) where
     -- the acts of a call in one, and part by part
     acts_split : (r : ChildEnd) (rs : List ChildRun) (runs : List ChildRun) (events : List Event) → map run_end runs ≡ r ∷ map run_end rs → whole_acts runs events ≡ off_hook ∷ greet ∷ tail_acts r rs events
     acts_split ended.Good [] runs events is = ap (λ (l : List ChildEnd). call_acts l ++ later_acts job t (call_end l) (later_ends l) events) is
-    acts_split ended.Good (r ∷ rs) runs events is = ap (λ (l : List ChildEnd). call_acts l ++ later_acts job t (call_end l) (later_ends l) events) is
-    acts_split ended.Bad rs runs events is = ap (λ (l : List ChildEnd). call_acts l ++ later_acts job t (call_end l) (later_ends l) events) is
-    acts_split ended.NoMemory rs runs events is = ap (λ (l : List ChildEnd). call_acts l ++ later_acts job t (call_end l) (later_ends l) events) is
+    acts_split r rs runs events is = ap (λ (l : List ChildEnd). call_acts l ++ later_acts job t (call_end l) (later_ends l) events) is
 
     acts_of_call : (runs : List ChildRun) (events : List Event) → whole_acts runs events ≡ off_hook ∷ greet ∷ tail_acts (run_end (first_run runs)) (drop 1 runs) events
     acts_of_call [] events = refl
@@ -223,57 +213,51 @@ module _ (order : Order) where
     rung n rings e b = if rings_after job rings e == job.rings then taken b else awaits_call n job (rings_after job rings e) b taken
 
     heard_one : (rings : ℕ) (e : Event) (x : AnswerTrace) → KeepsTo false job (acts_from job rings t (e ∷ x.heard) (map run_end runs)) runs x →
-        (let y : AnswerTrace = having (hearing e) x in KeepsTo false job (acts_from job rings t y.heard (map run_end runs)) runs y)
+        (let y : AnswerTrace = with_deeds (event_deeds e) x in KeepsTo false job (acts_from job rings t y.heard (map run_end runs)) runs y)
     heard_one rings e x k = record { unsent = k.unsent; untold = k.untold; unwritten = k.unwritten; sent = k.sent; children = k.children; text = k.text; whole = k.whole; stops = k.stops }
 
-    rung_keeps : (n rings : ℕ) (e : Event) (w : ClientState) (is : Bool) → w.order ≡ order → (rings_after job rings e == job.rings) ≡ is →
-        ((rings : ℕ) (w : ClientState) → w.order ≡ order → (let x : AnswerTrace = awaits_call n job rings (record { wire = w; runs = runs }) taken in KeepsTo false job (acts_from job rings t x.heard (map run_end runs)) runs x)) →
+    -- a trace keeps to the acts from so many rings on; and so does waiting on for n events
+    abbrev KeepsFrom : ℕ → AnswerTrace → Type 0
+    KeepsFrom rings x = KeepsTo false job (acts_from job rings t x.heard (map run_end runs)) runs x
+
+    abbrev KeepsWaiting : ℕ → Type 0
+    KeepsWaiting n = (rings : ℕ) (w : ClientState) → w.order ≡ order → KeepsFrom rings (awaits_call n job rings (record { wire = w; runs = runs }) taken)
+
+    rung_keeps : (n rings : ℕ) (e : Event) (w : ClientState) → w.order ≡ order → KeepsWaiting n →
         (let x : AnswerTrace = rung n rings e (record { wire = w; runs = runs }) in KeepsTo false job (acts_from job rings t (e ∷ x.heard) (map run_end runs)) runs x)
     unfolding acts_from
-    rung_keeps n rings e w true its is more =
+    rung_keeps n rings e w its more =
         let b : ToCome = record { wire = w; runs = runs } in
         let ends = map run_end runs in
-        let same : rung n rings e b ≡ taken b = ap (λ (x : Bool). if x then taken b else awaits_call n job (rings_after job rings e) b taken) is in
-        subst (λ (x : AnswerTrace). KeepsTo false job (acts_from job rings t (e ∷ x.heard) ends) runs x) (sym same)
-        (subst (λ (l : List MachineAct). KeepsTo false job l runs (taken b))
-        (sym (ap (λ (x : Bool). if x then call_acts ends ++ later_acts job t (call_end ends) (later_ends ends) (taken b).heard else acts_from job (rings_after job rings e) t (taken b).heard ends) is))
-        (keeps w its))
-    rung_keeps n rings e w false its is more =
-        let b : ToCome = record { wire = w; runs = runs } in
-        let ends = map run_end runs in
-        let y = awaits_call n job (rings_after job rings e) b taken in
-        let same : rung n rings e b ≡ y = ap (λ (x : Bool). if x then taken b else y) is in
-        subst (λ (x : AnswerTrace). KeepsTo false job (acts_from job rings t (e ∷ x.heard) ends) runs x) (sym same)
-        (subst (λ (l : List MachineAct). KeepsTo false job l runs y)
-        (sym (ap (λ (x : Bool). if x then call_acts ends ++ later_acts job t (call_end ends) (later_ends ends) y.heard else acts_from job (rings_after job rings e) t y.heard ends) is))
-        (more (rings_after job rings e) w its))
+        let x : Bool → AnswerTrace = λ y. if y then taken b else awaits_call n job (rings_after job rings e) b taken in
+        elim (rings_after job rings e == job.rings) as (λ y. KeepsTo false job (if y then call_acts ends ++ later_acts job t (call_end ends) (later_ends ends) (x y).heard else acts_from job (rings_after job rings e) t (x y).heard ends) runs (x y)) [
+          | true ↦ keeps w its
+          | false ↦ more (rings_after job rings e) w its
+        ]
 
-    none_left : (rings : ℕ) (finish : AnswerFinish) → ((f : ConnFault) → finish ≢ off_hook_fault f) → KeepsTo false job (acts_from job rings t [] (map run_end runs)) runs (stops finish)
+    none_left : (rings : ℕ) (finish : AnswerFinish) → ((f : ConnFault) → finish ≢ off_hook_fault f) → KeepsFrom rings (stops finish)
     unfolding acts_from
     none_left rings finish other = keeps_end job runs finish other
 
-    handed_keeps : (n rings : ℕ) (r : Result Event ConnFault) (w : ClientState) → w.order ≡ order →
-        ((rings : ℕ) (w : ClientState) → w.order ≡ order → (let x : AnswerTrace = awaits_call n job rings (record { wire = w; runs = runs }) taken in KeepsTo false job (acts_from job rings t x.heard (map run_end runs)) runs x)) →
-        (let x : AnswerTrace = by_event r (record { wire = w; runs = runs }) (rung n rings) in KeepsTo false job (acts_from job rings t x.heard (map run_end runs)) runs x)
-    handed_keeps n rings (Ok e) w its more = heard_one rings e (rung n rings e (record { wire = w; runs = runs })) (rung_keeps n rings e w (rings_after job rings e == job.rings) its refl more)
+    handed_keeps : (n rings : ℕ) (r : Result Event ConnFault) (w : ClientState) → w.order ≡ order → KeepsWaiting n → KeepsFrom rings (by_event r (record { wire = w; runs = runs }) (rung n rings))
+    handed_keeps n rings (Ok e) w its more = heard_one rings e (rung n rings e (record { wire = w; runs = runs })) (rung_keeps n rings e w its more)
     handed_keeps n rings (Err f) w its more = none_left rings (met_fault f) (λ x e. cc e)
 
-    pub awaited_keeps : (n rings : ℕ) (w : ClientState) → w.order ≡ order → (let x : AnswerTrace = awaits_call n job rings (record { wire = w; runs = runs }) taken in KeepsTo false job (acts_from job rings t x.heard (map run_end runs)) runs x)
+    pub awaited_keeps : (n : ℕ) → KeepsWaiting n
     unfolding awaits_call
     awaited_keeps zero rings w its = none_left rings rang_too_little (λ x e. cc e)
     awaited_keeps (suc n) rings w its =
         let b : ToCome = record { wire = w; runs = runs } in
         keeps_same false job (λ events. acts_from job rings t events (map run_end runs)) runs _ _ (awaits_is b (rung n rings))
-        (handed_keeps n rings (next_event w) (behind_event w) (order_behind (slice_get w.ring.events 0) w ∙ its) (λ r v its'. awaited_keeps n r v its'))
+        (handed_keeps n rings (next_event w) (behind_event w) (order_behind (slice_get w.ring.events 0) w ∙ its) (awaited_keeps n))
 
   abbrev AttendsKept : AnswerJob → ℕ → Tally → Type 0
-  AttendsKept job n t = (w : ClientState) (runs : List ChildRun) → w.order ≡ order → (let x : AnswerTrace = attending job n t (record { wire = w; runs = runs }) in KeepsTo false job (acts_at job t x.heard (map run_end runs)) runs x)
+  AttendsKept job n t = (w : ClientState) (runs : List ChildRun) → w.order ≡ order → (let x : AnswerTrace = attend_trace job n t (record { wire = w; runs = runs }) in KeepsTo false job (acts_at job t x.heard (map run_end runs)) runs x)
 
   -- what follows a call, by how it ended
-  later_keeps : (job : AnswerJob) (n : ℕ) (t : Tally) → ((how : ChildEnd) → AttendsKept job n (tally_after how t)) → KeepsLater job t (λ how b. unless_starved how (attending job n (tally_after how t) b))
-  later_keeps job n t kept ended.Good w runs its = kept ended.Good w runs its
-  later_keeps job n t kept ended.Bad w runs its = kept ended.Bad w runs its
+  later_keeps : (job : AnswerJob) (n : ℕ) (t : Tally) → ((how : ChildEnd) → AttendsKept job n (tally_after how t)) → KeepsLater job t (λ how b. unless_starved how (attend_trace job n (tally_after how t) b))
   later_keeps job n t kept ended.NoMemory w runs its = keeps_end job runs child_starved (λ x e. cc e)
+  later_keeps job n t kept how w runs its = kept how w runs its
 
   pub attends_keeps : (job : AnswerJob) (n : ℕ) (t : Tally) → t.answered + n ≡ job.calls → AttendsKept job n t
   unfolding attends
@@ -282,7 +266,7 @@ module _ (order : Order) where
       (sym (ap (λ (x : Bool). if x then write_tally t ∷ [] else acts_from job 0 t [] (map run_end runs)) (eq-eqb t.answered job.calls (omega (arith, all)))))
       (keeps_report job runs t)
   attends_keeps job (suc n) t all w runs its =
-      let next : ChildEnd → ToCome → AnswerTrace = λ how b. unless_starved how (attending job n (tally_after how t) b) in
+      let next : ChildEnd → ToCome → AnswerTrace = λ how b. unless_starved how (attend_trace job n (tally_after how t) b) in
       let taken : ToCome → AnswerTrace = λ b. takes_call job b next in
       let later = later_keeps job n t (λ how. attends_keeps job n (tally_after how t) (counts_one how t n job.calls all)) in
       let x : AnswerTrace = awaits_call most_for_a_call job 0 (record { wire = w; runs = runs }) taken in
@@ -293,15 +277,12 @@ module _ (order : Order) where
 -- Whatever a machine hears, its acts leave the hook on.
 
 call_on : (off : Bool) (ends : List ChildEnd) (more : List MachineAct) → fold off_after off (call_acts ends ++ more) ≡ fold off_after false more
-call_on off [] more = refl
 call_on off (ended.Good ∷ ends) more = refl
-call_on off (ended.Bad ∷ ends) more = refl
-call_on off (ended.NoMemory ∷ ends) more = refl
+call_on off ends more = refl
 
 behind_on : (how : ChildEnd) (calls : ℕ) (t : Tally) (more : List MachineAct) → leaves_off more ≡ false → leaves_off (acts_behind how calls t more) ≡ false
 behind_on ended.NoMemory calls t more on = refl
-behind_on ended.Good calls t more on = elim (t.answered == calls) as (λ b. leaves_off (if b then write_tally t ∷ [] else more) ≡ false) [ true ↦ refl | false ↦ on ]
-behind_on ended.Bad calls t more on = elim (t.answered == calls) as (λ b. leaves_off (if b then write_tally t ∷ [] else more) ≡ false) [ true ↦ refl | false ↦ on ]
+behind_on how calls t more on = elim (t.answered == calls) as (λ b. leaves_off (if b then write_tally t ∷ [] else more) ≡ false) [ true ↦ refl | false ↦ on ]
 
 pub acts_leave_on : (job : AnswerJob) (rings : ℕ) (t : Tally) (events : List Event) (ends : List ChildEnd) → leaves_off (acts_from job rings t events ends) ≡ false
 unfolding acts_from

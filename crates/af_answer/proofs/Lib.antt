@@ -1,8 +1,6 @@
 pub mod AnswerPartLemmas
 pub mod AnswerStepLemmas
 pub mod CallLemmas
-pub mod RingLemmas
-pub mod AttendLemmas
 pub mod KeptActLemmas
 pub mod MachineLemmas
 pub mod RunLemmas

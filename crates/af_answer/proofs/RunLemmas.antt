@@ -1,5 +1,5 @@
 -- A machine on a link that is set up first.
-use Rattle.std.proofs.Common.{◌≡◌, ◌≢◌, ◌⊎◌, inl, inr, ℕ, true, false, List, [], ◌∷◌, ◌++◌, refl, sym, ap, ◌∙◌, subst, append_assoc}
+use Rattle.std.proofs.Common.{◌≡◌, ◌≢◌, ◌⊎◌, inl, inr, ℕ, true, List, [], ◌∷◌, ◌++◌, refl, sym, ap, ◌∙◌, subst}
 use Rattle.std.specs.Prelude.{Result, Ok, Err}
 use Rattle.std.specs.declared.option.Option.{Option}
 use Rattle.std.specs.declared.option.Option.TheVariants.{Some}
@@ -13,100 +13,76 @@ use Rattle.af_process.specs.Acts.{Told}
 use Rattle.af_request.specs.declared.reply.DeviceInfo.{DeviceInfo}
 use Rattle.af_lib.specs.declared.fault.ConnFault.{ConnFault}
 use Rattle.af_lib.specs.declared.fault.ConnFault.TheVariants as fault
-use Rattle.af_lib.specs.Calls.{ConnState, IsFresh, IsSetUp, Sends}
+use Rattle.af_lib.specs.Calls.{ConnState, IsSetUp}
 use Rattle.af_lib.specs.Ring.{RingState}
-use Rattle.af_tool.specs.Trace.{ClientState, set_up, setup_answer}
-use Rattle.af_tool.specs.Ends.{client_of}
-use Rattle.af_tool.proofs.TracePartLemmas.{client_begun, setup_known}
+use Rattle.af_toolkit.specs.Trace.{ClientState, new_client, client_after_setup, setup_answer}
+use Rattle.af_toolkit.specs.Ends.{client_of}
+use Rattle.af_toolkit.proofs.TracePartLemmas.{client_begun, setup_known}
 use Rattle.af_answer.specs.declared.end.AnswerEnd.{AnswerEnd}
-use Rattle.af_answer.specs.declared.end.AnswerEnd.TheVariants as end
 use Rattle.af_answer.specs.declared.job.AnswerJob.{AnswerJob}
 use Rattle.af_answer.specs.Children.{ChildRun}
-use Rattle.af_answer.specs.AnswerTrace.{AnswerTrace, answer_trace, having, connection_end, met_fault, requesting}
+use Rattle.af_answer.specs.AnswerTrace.{answer_trace, by_answer, with_deeds, connection_end, met_fault, request_deeds}
+use Rattle.af_answer.specs.AnswerParts.{AnswerPart}
 use Rattle.af_answer.specs.Answered.{AnswerRan, RanAs}
 use Rattle.clap.specs.Words.{Text}
 use Rattle.af_answer.specs.AnswerWords.{AnswerWords, answer_words, words_of_job}
-use Rattle.af_answer.specs.AnswerRun.{AskedForServer, Attended, RanAsked, LinkRan, NotDialled, RanOver, RanServer, by_setup, whole_trace}
-use Rattle.af_answer.proofs.AnswerPartLemmas.{both_deeds, matches_at_once, matches_behind, matches_early}
+use Rattle.af_answer.specs.AnswerRun.{AskedForServer, Attended, FailedSetup, RanAsked, LinkRan, NotDialled, RanOver, RanServer, by_setup, whole_trace}
+use Rattle.af_answer.proofs.AnswerPartLemmas.{both_deeds, matches_after}
+use Rattle.af_answer.proofs.AnswerStepLemmas.{exchange_goes}
 
-whole_is : (job : AnswerJob) (input : List ℕ) (runs : List ChildRun) → whole_trace job input runs ≡ having (requesting (setup_bytes Big)) (by_setup (setup_answer Big input) job (record { wire = set_up Big input; runs = runs }))
+whole_is : (job : AnswerJob) (input : List ℕ) (runs : List ChildRun) → whole_trace job input runs ≡ with_deeds (request_deeds (setup_bytes Big)) (by_setup (setup_answer Big input) job (record { wire = client_after_setup Big input; runs = runs }))
 unfolding whole_trace
 whole_is job input runs = refl
 
-module _ (job : AnswerJob) (input : List ℕ) (sent sent' : Option (List ℕ)) (acts : Option (List Told)) (held : Option (List ℕ)) where
-  -- the link failed within the setup
-  setup_failed : AppendedPrefix sent (setup_bytes Big) sent' → LinkRan job input end.LinkFault sent sent' acts acts held held
-  setup_failed front =
-      let t = by_setup (setup_answer Big input) job (record { wire = set_up Big input; runs = [] }) in
-      let is = whole_is job input [] in
-      record {
-        runs = [];
-        done = requesting front.front;
-        output = [];
-        link = front.appended;
-        children = appended_none acts;
-        sink = appended_none held;
-        followed = matches_early (requesting front.front) (record { heard = t.heard; sends = front.rest ++ t.sends; told = t.told }) _ end.LinkFault refl
-            (ap (λ (x : AnswerTrace). x.heard) is)
-            (ap (λ (x : AnswerTrace). x.sends) is ∙ ap (λ l. l ++ t.sends) front.whole ∙ append_assoc front.front front.rest t.sends)
-            (ap (λ (x : AnswerTrace). x.told) is);
-        attended = λ devices set. inl (record { fault = refl; part = front });
-      }
+-- the setup, before a machine goes on by its answer
+abbrev setting_up : List ℕ → List ChildRun → AnswerPart (List DeviceInfo)
+setting_up input runs next = with_deeds (request_deeds (setup_bytes Big)) (by_answer met_fault (setup_answer Big input) (record { wire = client_after_setup Big input; runs = runs }) next)
 
-  -- the setup was answered with another fault
-  setup_refused : (f : ConnFault) → (connection_end f ≡ end.OutOfMemory → ⊥) → Appended sent (setup_bytes Big) sent' → (let r : Result (List DeviceInfo) ConnFault = Err f in r ≡ setup_answer Big input) →
-      LinkRan job input (connection_end f) sent sent' acts acts held held
-  setup_refused f other appended same = record {
-    runs = [];
-    done = requesting (setup_bytes Big);
-    output = [];
-    link = appended;
-    children = appended_none acts;
-    sink = appended_none held;
-    followed = matches_at_once (requesting (setup_bytes Big)) _ (met_fault f) (connection_end f)
-        (whole_is job input [] ∙ ap (λ (r : Result (List DeviceInfo) ConnFault). having (requesting (setup_bytes Big)) (by_setup r job (record { wire = set_up Big input; runs = [] }))) (sym same)) refl (λ e. absurd (other e));
-    attended = λ devices set. absurd (let bad : (let r : Result (List DeviceInfo) ConnFault = Err f in r ≡ Ok devices) = same ∙ set in cc bad);
-  }
+abbrev IsSetupFault : List ℕ → ConnFault → Type 0
+IsSetupFault input f = let r : Result (List DeviceInfo) ConnFault = Err f in r ≡ setup_answer Big input
 
-  abbrev IsKnownSetup : ConnFault → Type 0
-  IsKnownSetup f = (let r : Result (List DeviceInfo) ConnFault = Err f in r ≢ Err fault.LinkFault) → (let r : Result (List DeviceInfo) ConnFault = Err f in r ≡ setup_answer Big input)
+-- a link that was not set up was answered with a fault, unless it failed
+setup_failed : (input : List ℕ) (f : ConnFault) {sent sent' : Option (List ℕ)} → AppendedPrefix sent (setup_bytes Big) sent' → ((let r : Result (List DeviceInfo) ConnFault = Err f in r ≢ Err fault.LinkFault) → IsSetupFault input f) →
+    (devices : List DeviceInfo) → setup_answer Big input ≡ Ok devices → FailedSetup (connection_end f) sent sent'
+setup_failed input fault.LinkFault front known devices set = record { fault = refl; part = front }
+setup_failed input f front known devices set = let bad : (let r : Result (List DeviceInfo) ConnFault = Err f in r ≡ Ok devices) = known (λ e. cc e) ∙ set in cc bad
 
-  setup_ends : (f : ConnFault) → Sends {X = List DeviceInfo} (Err f) sent (setup_bytes Big) sent' → (let r : Result (List DeviceInfo) ConnFault = Err f in IsFresh r) → IsKnownSetup f →
-      LinkRan job input (connection_end f) sent sent' acts acts held held
-  setup_ends fault.LinkFault sends fresh known = setup_failed sends.part
-  setup_ends fault.LinkEnded sends fresh known = setup_refused fault.LinkEnded (λ e. cc e) (sends.whole (λ e. cc e)) (known (λ e. cc e))
-  setup_ends (fault.ServerError code value) sends fresh known = setup_refused (fault.ServerError code value) (λ e. cc e) (sends.whole (λ e. cc e)) (known (λ e. cc e))
-  setup_ends (fault.BadReply header first) sends fresh known = setup_refused (fault.BadReply header first) (λ e. cc e) (sends.whole (λ e. cc e)) (known (λ e. cc e))
-  setup_ends fault.OutOfMemory sends fresh known = absurd fresh
-  setup_ends fault.EventFlood sends fresh known = setup_refused fault.EventFlood (λ e. cc e) (sends.whole (λ e. cc e)) (known (λ e. cc e))
-  setup_ends (fault.Spent first) sends fresh known = absurd fresh
-
--- a link that was not set up
-pub not_set_up_ran : {L : Type 0} (left sent : L → Option (List ℕ)) (faults : L → ℕ) (job : AnswerJob) (input : List ℕ) (old new : L) (ring : RingState) (f : ConnFault) (acts : Option (List Told)) (held : Option (List ℕ)) →
+pub not_set_up_ran : {L : Type 0} {left sent : L → Option (List ℕ)} {faults : L → ℕ} (job : AnswerJob) {input : List ℕ} {old new : L} {ring : RingState} {f : ConnFault} {acts : Option (List Told)} {held : Option (List ℕ)} →
     IsSetUp Big left sent faults old new ring (Err f) → left old ≡ Some input → LinkRan job input (connection_end f) (sent old) (sent new) acts acts held held
-not_set_up_ran left sent faults job input old new ring f acts held is told =
-    setup_ends job input (sent old) (sent new) acts held f is.sends is.fresh (λ sound. (setup_known Big left sent faults old new ring input (Err f) is told sound).2)
+not_set_up_ran {left} {sent} {faults} job {input} {old} {new} {ring} {f} {acts} {held} is told =
+    let known = setup_known Big left sent faults old new ring input (Err f) is told in
+    let g = exchange_goes met_fault (λ f. refl) (setup_bytes Big) (setup_answer Big input) (client_after_setup Big input) (setting_up input) (λ runs next. refl) (left new) (new_client Big ring) (sent old) (sent new) acts (Err f) is.fresh is.sends known in
+    record {
+      runs = g.runs ++ [];
+      done = g.done;
+      output = [];
+      link = g.link;
+      children = g.children;
+      sink = appended_none held;
+      followed = rw (whole_is job input (g.runs ++ [])) (g.came [] (λ devices a. answer_trace job devices a));
+      attended = λ devices set. inl (setup_failed input f is.sends.part (λ sound. (known sound).2) devices set);
+    }
 
 -- one that was
-pub set_up_ran : {L : Type 0} (left sent : L → Option (List ℕ)) (faults : L → ℕ) (job : AnswerJob) (input : List ℕ) (far : L) (conn : ConnState L) (how : AnswerEnd) (s' : Option (List ℕ)) (a a' : Option (List Told)) (h h' : Option (List ℕ)) →
+pub set_up_ran : {L : Type 0} {left sent : L → Option (List ℕ)} {faults : L → ℕ} (job : AnswerJob) {input : List ℕ} {far : L} (conn : ConnState L) {how : AnswerEnd} {s' : Option (List ℕ)} {a a' : Option (List Told)} {h h' : Option (List ℕ)} →
     conn.order ≡ Big → conn.sequence ≡ 0 → IsSetUp Big left sent faults far conn.link conn.ring (Ok conn.devices) → left far ≡ Some input →
     ((i : List ℕ) → left conn.link ≡ Some i → AnswerRan job conn.devices (client_of conn i) how (sent conn.link) s' a a' h h') → LinkRan job input how (sent far) s' a a' h h'
-set_up_ran left sent faults job input far conn how s' a a' h h' same_order first is told answered =
+set_up_ran {left} {sent} {faults} job {input} {far} conn {how} {s'} {a} {a'} {h} {h'} same_order first is told answered =
     let k = setup_known Big left sent faults far conn.link conn.ring input (Ok conn.devices) is told (λ e. cc e) in
     let r = answered k.0 k.1 in
-    let place : client_of conn k.0 ≡ set_up Big input = client_begun Big conn k.0 same_order first ∙ k.3 in
+    let place : client_of conn k.0 ≡ client_after_setup Big input = client_begun Big conn k.0 same_order first ∙ k.3 in
     let ran = subst (λ (v : ClientState). RanAs v.order job conn.devices (answer_trace job conn.devices (record { wire = v; runs = r.runs })) r.runs how (sent conn.link) s' a a' h h') place r.ran in
     let set : Appended (sent far) (setup_bytes Big) (sent conn.link) = is.sends.whole (λ e. cc e) in
-    let t = answer_trace job conn.devices (record { wire = set_up Big input; runs = r.runs }) in
+    let t = answer_trace job conn.devices (record { wire = client_after_setup Big input; runs = r.runs }) in
     record {
       runs = r.runs;
-      done = both_deeds (requesting (setup_bytes Big)) ran.done;
+      done = both_deeds (request_deeds (setup_bytes Big)) ran.done;
       output = ran.output;
       link = appended_on _ _ _ (setup_bytes Big) ran.done.sends set ran.link;
       children = ran.children;
       sink = ran.sink;
-      followed = matches_behind (requesting (setup_bytes Big)) ran.done t _ how ran.output
-          (whole_is job input r.runs ∙ ap (λ (x : Result (List DeviceInfo) ConnFault). having (requesting (setup_bytes Big)) (by_setup x job (record { wire = set_up Big input; runs = r.runs }))) (sym k.2)) ran.followed;
+      followed = matches_after (request_deeds (setup_bytes Big)) ran.done t _ how ran.output
+          (whole_is job input r.runs ∙ ap (λ (x : Result (List DeviceInfo) ConnFault). with_deeds (request_deeds (setup_bytes Big)) (by_setup x job (record { wire = client_after_setup Big input; runs = r.runs }))) (sym k.2)) ran.followed;
       attended = λ devices same.
           let both : (let x : Result (List DeviceInfo) ConnFault = Ok conn.devices in x ≡ Ok devices) = k.2 ∙ same in
           let devices_are : conn.devices ≡ devices = cc in
@@ -128,7 +104,7 @@ first_ran left sent job how far after (link ∷ links) back' a a' h h' first sta
   ran = subst (λ (s : Option (List ℕ)). RanOver job link.gives how s after a a' h h') first.1 (ran link.gives first.0);
 })
 
--- a job of the words that were asked
+-- a job of the arguments that were given
 pub asked_ran : (a : AnswerWords) (server : Text) (job : AnswerJob) {how : AnswerEnd} {links : List ToldLink} {links' : Option (List ToldLink)} {back back' : Option (List (List ℕ))} {acts acts' : Option (List Told)} {h h' : Option (List ℕ)} →
     words_of_job server job ≡ a → RanServer job how links links' back back' acts acts' h h' →
     NotDialled how links links' back back' acts acts' h h' ⊎ RanAsked a how links links' back back' acts acts' h h'
@@ -142,9 +118,6 @@ asked_server a server job how asked asked' same added = record {
   none = λ e. absurd (cc e);
   one = λ e. subst (λ (s : Text). Appended asked (s ∷ []) asked') (ap (λ (w : AnswerWords). w.server) same) added;
 }
-
-pub asked_none : (server : Text) (how : AnswerEnd) (asked : Option (List Text)) → how ≡ end.OutOfMemory → AskedForServer server how asked asked
-asked_none server how asked memory = record { named = false; none = λ e. (memory, refl); one = λ e. absurd (cc e) }
 
 -- words ask one thing
 pub one_asked : (words : List Text) (a b : AnswerWords) → answer_words words ≡ Some a → answer_words words ≡ Some b → a ≡ b

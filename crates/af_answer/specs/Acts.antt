@@ -1,4 +1,4 @@
--- What an answering machine does, by the events that it hears and the ends of its children.
+-- What an answering machine does, by the events that it gets and the ends of its children.
 use Rattle.std.specs.Prelude.{ℕ, ◌+◌, ◌==◌, if◌then◌else◌, Bool, true, false, List, [], ◌∷◌, ◌++◌, drop}
 use Rattle.std.specs.List.{fold}
 use Rattle.af_wire.specs.declared.event.Event.{Event}
@@ -9,8 +9,8 @@ use Rattle.af_answer.specs.declared.child.ChildEnd.TheVariants as end
 use Rattle.af_answer.specs.declared.job.AnswerJob.{AnswerJob}
 use Rattle.af_answer.specs.declared.tally.Tally.{Tally}
 
--- an act of an answering machine: the hook is taken off, the greeting is played, the message is recorded, the hook is put on, and
--- the numbers of calls are written
+-- one act of an answering machine: it takes the hook off, plays the greeting, records the message, puts the hook on, or writes
+-- the numbers of calls
 pub data MachineAct : Type 0 where
   off_hook : MachineAct
   greet : MachineAct
@@ -18,23 +18,23 @@ pub data MachineAct : Type 0 where
   on_hook : MachineAct
   write_tally : Tally → MachineAct
 
--- how often it has rung behind an event of the device: a ring that begins counts, and a hook that is taken off ends the row
-abbrev pub rung : EventKind → (value rings : ℕ) → ℕ
-rung kind.Ring value rings = if value == 1 then rings + 1 else rings
-rung kind.Hook value rings = if value == 1 then 0 else rings
-rung kind.Current value rings = rings
-rung kind.Digit value rings = rings
+-- how often it has rung after an event of the device: a ring that begins counts, and a hook that is taken off ends the row
+abbrev pub ring_count_after : EventKind → (value rings : ℕ) → ℕ
+ring_count_after kind.Ring value rings = if value == 1 then rings + 1 else rings
+ring_count_after kind.Hook value rings = if value == 1 then 0 else rings
+ring_count_after kind.Current value rings = rings
+ring_count_after kind.Digit value rings = rings
 
 -- an event of another device does nothing
 abbrev pub rings_after : AnswerJob → ℕ → Event → ℕ
-rings_after job rings e = if e.device == job.device then rung e.kind e.value rings else rings
+rings_after job rings e = if e.device == job.device then ring_count_after e.kind e.value rings else rings
 
--- the acts of a call, by the ends of the children to come: the message is recorded behind a good greeting
+-- the acts of a call, by the ends of the children to come: the message is recorded after a good greeting
 abbrev pub call_acts : List ChildEnd → List MachineAct
 call_acts (end.Good ∷ ends) = off_hook ∷ greet ∷ record_message ∷ on_hook ∷ []
 call_acts _ = off_hook ∷ greet ∷ on_hook ∷ []
 
--- a child whose end is not stated is a bad one
+-- a child whose end is not stated ends badly
 abbrev pub first_end : List ChildEnd → ChildEnd
 first_end [] = end.Bad
 first_end (e ∷ ends) = e
@@ -43,33 +43,30 @@ first_end (e ∷ ends) = e
 abbrev pub call_end : List ChildEnd → ChildEnd
 call_end [] = end.Bad
 call_end (end.Good ∷ ends) = first_end ends
-call_end (end.Bad ∷ ends) = end.Bad
-call_end (end.NoMemory ∷ ends) = end.NoMemory
+call_end (e ∷ ends) = e
 
 -- the ends of the children of later calls
 abbrev pub later_ends : List ChildEnd → List ChildEnd
 later_ends [] = []
 later_ends (end.Good ∷ ends) = drop 1 ends
-later_ends (end.Bad ∷ ends) = ends
-later_ends (end.NoMemory ∷ ends) = ends
+later_ends (e ∷ ends) = ends
 
 -- no call was answered yet
 abbrev pub no_calls : Tally
 no_calls = record { answered = 0; recorded = 0; failed = 0 }
 
--- the numbers behind a call: it was answered; a message was recorded, or a child has failed
+-- the numbers after a call: it was answered; a message was recorded, or a child has failed
 abbrev pub tally_after : ChildEnd → Tally → Tally
 tally_after end.Good t = record { answered = t.answered + 1; recorded = t.recorded + 1; failed = t.failed }
 tally_after end.Bad t = record { answered = t.answered + 1; recorded = t.recorded; failed = t.failed + 1 }
 tally_after end.NoMemory t = record { answered = t.answered + 1; recorded = t.recorded; failed = t.failed }
 
--- what follows a call: nothing if memory ran out in it; the numbers are written if it was the last
+-- the acts after a call: none if memory ran out in it, and the numbers are written if it was the last
 abbrev pub acts_behind : ChildEnd → (calls : ℕ) → Tally → List MachineAct → List MachineAct
 acts_behind end.NoMemory calls t more = []
-acts_behind end.Good calls t more = if t.answered == calls then write_tally t ∷ [] else more
-acts_behind end.Bad calls t more = if t.answered == calls then write_tally t ∷ [] else more
+acts_behind how calls t more = if t.answered == calls then write_tally t ∷ [] else more
 
--- the acts behind so many rings and calls: at the ring of the job's number a call is taken, and the rings begin anew
+-- the acts after so many rings and calls: at the ring of the job's number a call is taken, and rings are counted from 0 again
 unfoldable pub acts_from : AnswerJob → (rings : ℕ) → Tally → List Event → List ChildEnd → List MachineAct
 acts_from job rings t [] ends = []
 acts_from job rings t (e ∷ events) ends =
@@ -79,17 +76,15 @@ acts_from job rings t (e ∷ events) ends =
     (acts_from job 0 (tally_after (call_end ends) t) events (later_ends ends))
     else acts_from job (rings_after job rings e) t events ends
 
--- all that the machine does, by the events that it is handed and the ends of its children, each in order
+-- all that the machine does, by the events that it gets and the ends of its children, each in order
 abbrev pub answer_acts : AnswerJob → List Event → List ChildEnd → List MachineAct
 answer_acts job events ends = acts_from job 0 no_calls events ends
 
--- whether the hook is off behind an act
+-- whether the hook is off after an act
 abbrev pub off_after : Bool → MachineAct → Bool
 off_after off off_hook = true
-off_after off greet = off
-off_after off record_message = off
 off_after off on_hook = false
-off_after off (write_tally t) = off
+off_after off act = off
 
 -- whether these acts leave the hook off
 abbrev pub leaves_off : List MachineAct → Bool

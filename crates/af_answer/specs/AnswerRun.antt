@@ -1,5 +1,5 @@
 -- An answering machine by its words: its server is dialled, the link set up in Big order, and its job done.
-use Rattle.std.specs.Prelude.{◌≡◌, ◌⊎◌, ℕ, Bool, true, false, List, [], ◌∷◌, Result, Ok, Err}
+use Rattle.std.specs.Prelude.{◌≡◌, ◌⊎◌, ℕ, Bool, true, false, List, [], ◌∷◌, Result, Ok}
 use Rattle.std.specs.declared.option.Option.{Option}
 use Rattle.std.specs.declared.option.Option.TheVariants.{Some}
 use Rattle.clap.specs.Words.{Text}
@@ -11,13 +11,13 @@ use Rattle.af_wire.specs.Front.{setup_bytes}
 use Rattle.af_process.specs.Acts.{Told}
 use Rattle.af_request.specs.declared.reply.DeviceInfo.{DeviceInfo}
 use Rattle.af_lib.specs.declared.fault.ConnFault.{ConnFault}
-use Rattle.af_tool.specs.Trace.{set_up, setup_answer}
+use Rattle.af_toolkit.specs.Trace.{client_after_setup, setup_answer}
 use Rattle.af_answer.specs.declared.end.AnswerEnd.{AnswerEnd}
 use Rattle.af_answer.specs.declared.end.AnswerEnd.TheVariants as end
 use Rattle.af_answer.specs.declared.job.AnswerJob.{AnswerJob}
 use Rattle.af_answer.specs.Children.{ChildRun}
-use Rattle.af_answer.specs.AnswerTrace.{ToCome, AnswerTrace, Deeds, answer_trace, having}
-use Rattle.af_answer.specs.AnswerTrace.{machine_end, met_fault, requesting, stops}
+use Rattle.af_answer.specs.AnswerTrace.{ToCome, AnswerTrace, Deeds, answer_trace, by_answer, with_deeds}
+use Rattle.af_answer.specs.AnswerTrace.{met_fault, request_deeds}
 use Rattle.af_answer.specs.AnswerParts.{MatchesAnswer}
 use Rattle.af_answer.specs.Answered.{RanAs}
 use Rattle.af_answer.specs.AnswerWords.{AnswerWords, words_of_job}
@@ -25,25 +25,20 @@ use Rattle.af_answer.specs.Outcomes.{is_of_answer}
 
 -- what follows the answer to a setup
 abbrev pub by_setup : Result (List DeviceInfo) ConnFault → AnswerJob → ToCome → AnswerTrace
-by_setup (Ok devices) job a = answer_trace job devices a
-by_setup (Err fault) job a = stops (met_fault fault)
+by_setup answer job a = by_answer met_fault answer a (λ devices a. answer_trace job devices a)
 
--- the trace of a machine on a link that is set up first, by all bytes that the link gives and how the children run
+-- the trace of a machine on a link that is set up first, by all bytes that the link gives and by how the children run
 unfoldable pub whole_trace : AnswerJob → List ℕ → List ChildRun → AnswerTrace
 whole_trace job input runs =
-    having (requesting (setup_bytes Big))
-    (by_setup (setup_answer Big input) job (record { wire = set_up Big input; runs = runs }))
-
--- how a machine ends, by these
-abbrev pub answer_end : AnswerJob → List ℕ → List ChildRun → AnswerEnd
-answer_end job input runs = machine_end (whole_trace job input runs).finish
+    with_deeds (request_deeds (setup_bytes Big))
+    (by_setup (setup_answer Big input) job (record { wire = client_after_setup Big input; runs = runs }))
 
 -- a link was set up, and then the machine ran on it
 pub record Attended (job : AnswerJob) (devices : List DeviceInfo) (input : List ℕ) (runs : List ChildRun) (how : AnswerEnd)
     (sent sent' : Option (List ℕ)) (acts acts' : Option (List Told)) (held held' : Option (List ℕ)) : Type 0 where
   pub between : Option (List ℕ)
   pub set : Appended sent (setup_bytes Big) between
-  pub ran : RanAs Big job devices (answer_trace job devices (record { wire = set_up Big input; runs = runs })) runs how between
+  pub ran : RanAs Big job devices (answer_trace job devices (record { wire = client_after_setup Big input; runs = runs })) runs how between
       sent' acts acts' held held'
 
 -- the link failed before it was set up
@@ -51,8 +46,8 @@ pub record FailedSetup (how : AnswerEnd) (sent sent' : Option (List ℕ)) : Type
   pub fault : how ≡ end.LinkFault
   pub part : AppendedPrefix sent (setup_bytes Big) sent'
 
--- What came of a link that gives these bytes: what was done and written is that of the trace, and how the machine ended, unless
--- something from outside ended it; and where the link was set up, all of what is said of a machine on a connection.
+-- What came of a link that gives these bytes. What was done and written is that of the trace, and so is the end, unless something
+-- from outside ended the machine. If the link was set up, all of what is said of a machine on a connection holds.
 pub record LinkRan (job : AnswerJob) (input : List ℕ) (how : AnswerEnd) (sent sent' : Option (List ℕ))
     (acts acts' : Option (List Told)) (held held' : Option (List ℕ)) : Type 0 where
   pub runs : List ChildRun
@@ -79,7 +74,7 @@ abbrev pub RanOver : AnswerJob → List ℕ → AnswerEnd → (sent sent' : Opti
 RanOver job input how sent sent' acts acts' held held' =
     IsIdle how sent sent' acts acts' held held' ⊎ LinkRan job input how sent sent' acts acts' held held'
 
--- the server could not be dialled, or memory ran out for that
+-- the server could not be dialled, or there was no memory for that
 pub record NotDialled (how : AnswerEnd) (links : List ToldLink) (links' : Option (List ToldLink))
     (back back' : Option (List (List ℕ))) (acts acts' : Option (List Told)) (held held' : Option (List ℕ)) : Type 0 where
   pub way : (how ≡ end.DialFault) ⊎ (how ≡ end.OutOfMemory)
@@ -88,7 +83,7 @@ pub record NotDialled (how : AnswerEnd) (links : List ToldLink) (links' : Option
   pub children : acts' ≡ acts
   pub sink : held' ≡ held
 
--- the first link was had, the machine ran over it, and it was given back, with all that it had been sent
+-- the first link was dialled, the machine ran over it, and it was given back, with all that it had been sent
 pub record RanFirst (job : AnswerJob) (how : AnswerEnd) (links : List ToldLink) (links' : Option (List ToldLink))
     (back back' : Option (List (List ℕ))) (acts acts' : Option (List Told)) (held held' : Option (List ℕ)) : Type 0 where
   pub first : ToldLink
@@ -104,21 +99,21 @@ abbrev pub RanServer : AnswerJob → AnswerEnd → List ToldLink → Option (Lis
 RanServer job how links links' back back' acts acts' held held' =
     NotDialled how links links' back back' acts acts' held held' ⊎ RanFirst job how links links' back back' acts acts' held held'
 
--- the same of a job, by what a dial, a spawner and a sink tell
+-- the same for a job, if a dial, a spawner and a sink are observable
 abbrev pub RunsJobOn : {D S K : Type 0} → (links : D → Option (List ToldLink)) → (back : D → Option (List (List ℕ))) →
     (acts : S → Option (List Told)) → (held : K → Option (List ℕ)) →
     AnswerJob → AnswerEnd → (dial dial' : D) → (spawner spawner' : S) → (sink sink' : K) → Type 0
 RunsJobOn links back acts held job how dial dial' spawner spawner' sink sink' = (told : List ToldLink) → links dial ≡ Some told →
     RanServer job how told (links dial') (back dial) (back dial') (acts spawner) (acts spawner') (held sink) (held sink')
 
--- a job of these words was done so
+-- a job of these arguments was done in this way
 pub record RanAsked (asked : AnswerWords) (how : AnswerEnd) (links : List ToldLink) (links' : Option (List ToldLink))
     (back back' : Option (List (List ℕ))) (acts acts' : Option (List Told)) (held held' : Option (List ℕ)) : Type 0 where
   pub job : AnswerJob
   pub is : words_of_job asked.server job ≡ asked
   pub ran : RanFirst job how links links' back back' acts acts' held held'
 
--- the same by what a dial, a spawner and a sink tell, if the server was dialled
+-- the same if a dial, a spawner and a sink are observable, and the server was dialled
 abbrev pub RunsAsked : {D S K : Type 0} → (links : D → Option (List ToldLink)) → (back : D → Option (List (List ℕ))) →
     (acts : S → Option (List Told)) → (held : K → Option (List ℕ)) →
     AnswerWords → AnswerEnd → (dial dial' : D) → (spawner spawner' : S) → (sink sink' : K) → Type 0
@@ -127,13 +122,13 @@ RunsAsked links back acts held asked how dial dial' spawner spawner' sink sink' 
     NotDialled how told (links dial') (back dial) (back dial') (acts spawner) (acts spawner') (held sink) (held sink')
     ⊎ RanAsked asked how told (links dial') (back dial) (back dial') (acts spawner) (acts spawner') (held sink) (held sink')
 
--- the server was asked for, if the machine came to that: nothing but want of memory ends it before
+-- the server was dialled, if the machine came to that: only out of memory ends it before
 pub record AskedForServer (server : Text) (how : AnswerEnd) (asked asked' : Option (List Text)) : Type 0 where
   pub named : Bool
   pub none : named ≡ false → (how ≡ end.OutOfMemory) × (asked' ≡ asked)
   pub one : named ≡ true → Appended asked (server ∷ []) asked'
 
--- the ends of a machine that dials, and of one that reads its words
+-- the ends of a machine that dials, and of one that reads its arguments
 abbrev pub is_of_dial : AnswerEnd → Bool
 is_of_dial end.DialFault = true
 is_of_dial how = is_of_answer how

@@ -1,6 +1,6 @@
--- The trace of an answering machine: the events that it is handed, what it sends, what is told of its children, what it writes,
--- and why it ends, by what the link gives and how the children run. It sends each request when the reply to the one before it was
--- read, so a trace goes on from reply to reply.
+-- The trace of an answering machine: the events that it gets, what it sends, the acts of its children, what it writes, and why it
+-- ends. It goes by what the link gives and by how the children run. The machine sends each request once it has read the reply to
+-- the one before, so a trace goes on from reply to reply.
 use Rattle.std.specs.Prelude.{ℕ, zero, suc, ◌==◌, if◌then◌else◌, Bool, true, false, List, [], ◌∷◌}
 use Rattle.std.specs.Prelude.{◌++◌, codes, decimal, drop, length, slice_get, Result, Ok, Err}
 use Rattle.std.specs.declared.option.Option.{Option}
@@ -14,7 +14,7 @@ use Rattle.af_lib.specs.declared.fault.ConnFault.{ConnFault}
 use Rattle.af_lib.specs.declared.fault.ConnFault.TheVariants as fault
 use Rattle.af_lib.specs.Calls.{as_done, event_of}
 use Rattle.af_lib.specs.Incoming.{behind_message}
-use Rattle.af_tool.specs.Trace.{ClientState, after_reply, answer_on}
+use Rattle.af_toolkit.specs.Trace.{ClientState, after_reply, answer_on}
 use Rattle.af_answer.specs.declared.child.ChildEnd.{ChildEnd}
 use Rattle.af_answer.specs.declared.child.ChildEnd.TheVariants as ended
 use Rattle.af_answer.specs.declared.end.AnswerEnd.{AnswerEnd}
@@ -22,7 +22,7 @@ use Rattle.af_answer.specs.declared.end.AnswerEnd.TheVariants as end
 use Rattle.af_answer.specs.declared.job.AnswerJob.{AnswerJob}
 use Rattle.af_answer.specs.declared.tally.Tally.{Tally}
 use Rattle.af_answer.specs.Acts.{no_calls, rings_after, tally_after}
-use Rattle.af_answer.specs.Children.{ChildRun, run_end, run_told, shell_words, start_failed}
+use Rattle.af_answer.specs.Children.{ChildRun, run_end, told_of_run, shell_words, start_failed}
 
 -- what is to come from outside: the bytes of the link, from where a client stands in them, and how the next children run
 pub record ToCome : Type 0 where
@@ -34,12 +34,12 @@ pub data AnswerFinish : Type 0 where
   all_answered : AnswerFinish
   device_missing : (devices : ℕ) → AnswerFinish
   line_missing : (device : ℕ) → AnswerFinish
-  -- an OffHook was answered with this fault, or an OnHook
+  -- the fault came in place of the reply to an OffHook, or to an OnHook
   off_hook_fault : (fault : ConnFault) → AnswerFinish
   on_hook_fault : (fault : ConnFault) → AnswerFinish
-  -- another request was, or a wait for an event
+  -- it came in place of the reply to another request, or of an event
   met_fault : (fault : ConnFault) → AnswerFinish
-  -- the most events were handed out and no call was taken
+  -- the most events were read and no call was taken
   rang_too_little : AnswerFinish
   -- memory ran out for a child
   child_starved : AnswerFinish
@@ -55,15 +55,15 @@ pub record AnswerTrace : Type 0 where
 abbrev pub stops : AnswerFinish → AnswerTrace
 stops finish = record { heard = []; sends = []; told = []; output = []; finish = finish }
 
--- what a machine has done: the events that it was handed, what it sent, and what is told of its children
+-- what a machine has done: the events that it got, what it sent, and the acts of its children
 pub record Deeds : Type 0 where
   pub heard : List Event
   pub sends : List ℕ
   pub told : List Told
 
 -- these were done first
-abbrev pub having : Deeds → AnswerTrace → AnswerTrace
-having d t =
+abbrev pub with_deeds : Deeds → AnswerTrace → AnswerTrace
+with_deeds d t =
     record {
       heard = d.heard ++ t.heard;
       sends = d.sends ++ t.sends;
@@ -72,33 +72,38 @@ having d t =
       finish = t.finish;
     }
 
-abbrev pub hearing : Event → Deeds
-hearing e = record { heard = e ∷ []; sends = []; told = [] }
+abbrev pub event_deeds : Event → Deeds
+event_deeds e = record { heard = e ∷ []; sends = []; told = [] }
 
-abbrev pub requesting : List ℕ → Deeds
-requesting bytes = record { heard = []; sends = bytes; told = [] }
+abbrev pub request_deeds : List ℕ → Deeds
+request_deeds bytes = record { heard = []; sends = bytes; told = [] }
 
-abbrev pub running : List Told → Deeds
-running told = record { heard = []; sends = []; told = told }
+abbrev pub child_deeds : List Told → Deeds
+child_deeds told = record { heard = []; sends = []; told = told }
 
--- why a machine ends whose request was answered with a fault
+-- why a machine ends if its request is answered with a fault
 abbrev pub refusal : Asked → ConnFault → AnswerFinish
 refusal (hook_switch device zero) fault = on_hook_fault fault
 refusal (hook_switch device (suc off)) fault = off_hook_fault fault
 refusal _ fault = met_fault fault
 
--- what follows the answer to a request: a fault ends the machine
+-- what follows an answer: a fault ends the machine, for this reason
+abbrev pub by_answer : {X : Type 0} → (ConnFault → AnswerFinish) → Result X ConnFault → ToCome → (X → ToCome → AnswerTrace) →
+    AnswerTrace
+by_answer reason (Ok x) a next = next x a
+by_answer reason (Err fault) a next = stops (reason fault)
+
+-- what follows the answer to a request
 abbrev pub by_reply : Asked → Result (Unit {0}) ConnFault → ToCome → (ToCome → AnswerTrace) → AnswerTrace
-by_reply asked (Ok x) a next = next a
-by_reply asked (Err fault) a next = stops (refusal asked fault)
+by_reply asked reply a next = by_answer (refusal asked) reply a (λ _ a. next a)
 
 -- a request is sent, and what follows goes by its answer
 unfoldable pub requests : Asked → ToCome → (ToCome → AnswerTrace) → AnswerTrace
 requests asked a next =
-    having (requesting (request_bytes a.wire.order asked))
+    with_deeds (request_deeds (request_bytes a.wire.order asked))
     (by_reply asked (answer_on asked as_done a.wire) (record { wire = after_reply a.wire; runs = a.runs }) next)
 
--- the event that a client is handed next: the oldest of its ring, or else the next message
+-- the event that a client gets next: the oldest of its ring, or else the next message
 abbrev pub event_at_hand : Option Event → ClientState → Result Event ConnFault
 event_at_hand (Some e) w = Ok e
 event_at_hand None w = event_of w.order w.input
@@ -106,7 +111,7 @@ event_at_hand None w = event_of w.order w.input
 abbrev pub next_event : ClientState → Result Event ConnFault
 next_event w = event_at_hand (slice_get w.ring.events 0) w
 
--- a client behind that event
+-- a client after that event
 abbrev pub behind_from : Option Event → ClientState → ClientState
 behind_from (Some e) w =
     record { order = w.order; sequence = w.sequence; ring = record w.ring { events = drop 1 w.ring.events }; input = w.input }
@@ -117,14 +122,13 @@ behind_event w = behind_from (slice_get w.ring.events 0) w
 
 -- what follows an event that was waited for
 abbrev pub by_event : Result Event ConnFault → ToCome → (Event → ToCome → AnswerTrace) → AnswerTrace
-by_event (Ok e) a next = having (hearing e) (next e a)
-by_event (Err fault) a next = stops (met_fault fault)
+by_event event a next = by_answer met_fault event a (λ e a. with_deeds (event_deeds e) (next e a))
 
 -- an event is waited for, and what follows goes by it
 unfoldable pub awaits_event : ToCome → (Event → ToCome → AnswerTrace) → AnswerTrace
 awaits_event a next = by_event (next_event a.wire) (record { wire = behind_event a.wire; runs = a.runs }) next
 
--- how the next child runs: one of which nothing is stated does not start
+-- how the next child runs: if nothing is stated of it, it does not start
 abbrev pub first_run : List ChildRun → ChildRun
 first_run [] = start_failed
 first_run (run ∷ runs) = run
@@ -132,16 +136,15 @@ first_run (run ∷ runs) = run
 -- a text is run as a child, and what follows goes by its end
 unfoldable pub runs_child : List ℕ → ToCome → (ChildEnd → ToCome → AnswerTrace) → AnswerTrace
 runs_child text a next =
-    having (running (run_told (shell_words text) (first_run a.runs)))
+    with_deeds (child_deeds (told_of_run (shell_words text) (first_run a.runs)))
     (next (run_end (first_run a.runs)) (record { wire = a.wire; runs = drop 1 a.runs }))
 
--- the message is recorded behind a good greeting, and else the call ends as the greeting did
+-- the message is recorded after a good greeting, and else the call ends as the greeting did
 abbrev pub leaves_message : AnswerJob → ChildEnd → ToCome → (ChildEnd → ToCome → AnswerTrace) → AnswerTrace
 leaves_message job ended.Good a next = runs_child job.message.bytes a next
-leaves_message job ended.Bad a next = next ended.Bad a
-leaves_message job ended.NoMemory a next = next ended.NoMemory a
+leaves_message job greeting a next = next greeting a
 
--- a call is taken, and the hook put on again
+-- a call is taken, and then the hook is put on
 unfoldable pub takes_call : AnswerJob → ToCome → (ChildEnd → ToCome → AnswerTrace) → AnswerTrace
 takes_call job a next =
     requests (hook_switch job.device 1) a (λ a.
@@ -149,11 +152,11 @@ takes_call job a next =
     leaves_message job greeting a (λ how a.
     requests (hook_switch job.device 0) a (λ a. next how a))))
 
--- how many events are handed out for one call, at most
+-- the most events that are read while waiting for one call
 abbrev pub most_for_a_call : ℕ
 most_for_a_call = 1000000
 
--- It rings until a call is to be taken, or n events were handed out without that.
+-- It rings until a call is to be taken, or n events were read without that.
 unfoldable pub awaits_call : ℕ → AnswerJob → (rings : ℕ) → ToCome → (ToCome → AnswerTrace) → AnswerTrace
 awaits_call zero job rings a next = stops rang_too_little
 awaits_call (suc n) job rings a next = awaits_event a (λ e a.
@@ -162,10 +165,9 @@ awaits_call (suc n) job rings a next = awaits_event a (λ e a.
 -- what follows a call: nothing if memory ran out in it
 abbrev pub unless_starved : ChildEnd → AnswerTrace → AnswerTrace
 unless_starved ended.NoMemory t = stops child_starved
-unless_starved ended.Good t = t
-unless_starved ended.Bad t = t
+unless_starved how t = t
 
--- n calls are awaited and taken, behind so many
+-- n calls are awaited and taken, after those that are counted
 unfoldable pub attends : ℕ → AnswerJob → Tally → ToCome → (Tally → ToCome → AnswerTrace) → AnswerTrace
 attends zero job t a next = next t a
 attends (suc n) job t a next =

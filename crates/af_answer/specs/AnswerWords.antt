@@ -1,5 +1,5 @@
--- The words of an answering machine: they are one simple command of clap, and what they ask is that of the matches that clap
--- defines.
+-- The arguments of an answering machine: they are one simple command of clap, and they ask what its matches, which clap defines,
+-- state.
 use Rattle.std.specs.Prelude.{ℕ, ◌-◌, ◌&&◌, Bool, false, nat_le, List, [], ◌∷◌, length, Option, Some}
 use Rattle.std.specs.Prelude.{None, codes, is_some, option_and_then, option_map, if◌then◌else◌}
 use Rattle.std.specs.Str.{bytes_eq}
@@ -11,7 +11,7 @@ use Rattle.af_cli.specs.Words.{address_at, number_at, rule_at, with_rules}
 use Rattle.af_answer.specs.declared.job.AnswerJob.{AnswerJob}
 use Rattle.af_answer.specs.declared.options.AnswerCall.{AnswerCall}
 
--- what the words ask: a server, and the values of a job
+-- what the arguments ask: a server, and the values of a job
 pub record AnswerWords : Type 0 where
   pub server : Text
   pub device : ℕ
@@ -20,7 +20,7 @@ pub record AnswerWords : Type 0 where
   pub greeting : Text
   pub message : Text
 
--- what a job with its server was asked by
+-- the arguments that ask for a job with its server
 abbrev pub words_of_job : Text → AnswerJob → AnswerWords
 words_of_job server job =
     record {
@@ -52,7 +52,7 @@ shell_text text = if nat_le 1 (length text) && nat_le (length text) 200 then Som
 abbrev pub shell_text_at : Text → List Row → Option Text
 shell_text_at id rows = option_and_then shell_text (first_of id rows)
 
--- what is asked by the matches of the command, where each value is in its range
+-- what the matches of the command ask, if each value is in its range
 abbrev pub words_in : List Row → Option AnswerWords
 words_in rows =
     option_and_then (λ server.
@@ -80,10 +80,10 @@ abbrev pub names_answer : List Text → Bool
 names_answer [] = false
 names_answer (name ∷ words) = bytes_eq name (codes "answer")
 
--- what words ask that name the machine, where each value is in its range
+-- what arguments ask that name the machine, if each value is in its range
 unfoldable pub answer_words : List Text → Option AnswerWords
 answer_words words = if names_answer words then words_in (matches_of answer_app words) else None
 
--- the words are spelled: they name the machine, its command takes them, and each value is in its range
+-- the arguments are valid: they name the machine, its command takes them, and each value is in its range
 unfoldable pub is_answer_spelled : List Text → Bool
 is_answer_spelled words = names_answer words && takes answer_app words && is_some (answer_words words)

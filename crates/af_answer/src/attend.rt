@@ -1,10 +1,11 @@
-// A line is attended until all calls were answered.
+// Attends a line until all calls were answered.
 ghost use Rattle.std.specs.Prelude.{◌≡◌, ◌≤◌, true, IfErr};
 ghost use Rattle.std.specs.declared.option.Option.TheVariants.{None};
 ghost use Rattle.af_request.specs.Asked.{select_events};
+ghost use Rattle.af_toolkit.specs.Ends.{KeepsConnectionBy};
 ghost use Rattle.af_answer.specs.Acts.{no_calls};
 ghost use Rattle.af_answer.specs.AnswerTrace.{attends, requests};
-ghost use Rattle.af_answer.specs.AnswerParts.{GoesBy, HoldsConnection};
+ghost use Rattle.af_answer.specs.AnswerParts.{GoesBy};
 ghost use Rattle.af_answer.specs.Outcomes.{is_of_calls};
 
 use crate::call::take_call;
@@ -17,10 +18,10 @@ use af_lib::Conn;
 use af_process::Spawner;
 use std::alloc::Global;
 
-// What rings and hooks of a line are in a mask of events.
+// Rings and hooks of a line, in a mask of events.
 const RINGS_AND_HOOKS: u32 = 3;
 
-// Takes all calls. Where memory runs out for a child, the machine ends behind that call.
+// Takes all calls. If memory runs out for a child, the machine ends after that call.
 fn take_calls<L: Link + Drop, S: Spawner>(
     alloc: Global,
     job: &AnswerJob,
@@ -31,7 +32,7 @@ fn take_calls<L: Link + Drop, S: Spawner>(
     requires rings { (1 ≤ job.now.rings) × (job.now.rings ≤ 20) }
     ensures goes { GoesBy L.left L.sent conn.old conn.new (S.acts spawner.old) (S.acts spawner.new)
         (λ a. attends job.now.calls job.now no_calls a) result }
-    ensures holds { HoldsConnection L.left L.faults conn.old conn.new result }
+    ensures holds { KeepsConnectionBy AnswerEnd.LinkFault L.left L.faults conn.old conn.new result }
     ensures end { IfErr result (λ how. is_of_calls how ≡ true) }
     ensures count { S.faults spawner.old ≤ S.faults spawner.new }
 {
@@ -60,7 +61,7 @@ pub fn attend<L: Link + Drop, S: Spawner>(
     requires rings { (1 ≤ job.now.rings) × (job.now.rings ≤ 20) }
     ensures goes { GoesBy L.left L.sent conn.old conn.new (S.acts spawner.old) (S.acts spawner.new)
         (λ a next. requests (select_events job.now.device 3) a (λ a. attends job.now.calls job.now no_calls a next)) result }
-    ensures holds { HoldsConnection L.left L.faults conn.old conn.new result }
+    ensures holds { KeepsConnectionBy AnswerEnd.LinkFault L.left L.faults conn.old conn.new result }
     ensures end { IfErr result (λ how. is_of_calls how ≡ true) }
     ensures count { S.faults spawner.old ≤ S.faults spawner.new }
 {

@@ -1,9 +1,10 @@
 // One call, from the hook off to the hook on.
 ghost use Rattle.std.specs.Prelude.{◌≡◌, ◌≤◌, true, IfErr};
 ghost use Rattle.std.specs.declared.option.Option.TheVariants.{None};
+ghost use Rattle.af_toolkit.specs.Ends.{KeepsConnectionBy};
 ghost use Rattle.af_answer.specs.AnswerTrace.{takes_call};
-ghost use Rattle.af_answer.specs.AnswerParts.{GoesBy, HoldsConnection};
-ghost use Rattle.af_answer.specs.Calls.{LeavesMessage};
+ghost use Rattle.af_answer.specs.AnswerParts.{GoesBy};
+ghost use Rattle.af_answer.specs.Children.{LeavesMessage};
 ghost use Rattle.af_answer.specs.Outcomes.{is_of_machine};
 
 use crate::child::{ChildEnd, run_child};
@@ -14,7 +15,7 @@ use af_lib::Conn;
 use af_process::Spawner;
 use std::alloc::Global;
 
-// Records the message behind a good greeting. A call ends as its last child does.
+// Records the message after a good greeting. A call ends as its last child does.
 fn leave_message<S: Spawner>(
     alloc: Global,
     job: &AnswerJob,
@@ -30,7 +31,7 @@ fn leave_message<S: Spawner>(
     }
 }
 
-/// Takes a call: the greeting is played, the message recorded, and the hook is put on again whatever came of the two.
+/// Takes a call: it plays the greeting, records the message, and puts the hook on, whatever came of the two.
 pub fn take_call<L: Link + Drop, S: Spawner>(
     alloc: Global,
     job: &AnswerJob,
@@ -40,7 +41,7 @@ pub fn take_call<L: Link + Drop, S: Spawner>(
     requires { conn.old.cause ≡ None }
     ensures goes { GoesBy L.left L.sent conn.old conn.new (S.acts spawner.old) (S.acts spawner.new)
         (λ a. takes_call job.now a) result }
-    ensures holds { HoldsConnection L.left L.faults conn.old conn.new result }
+    ensures holds { KeepsConnectionBy AnswerEnd.LinkFault L.left L.faults conn.old conn.new result }
     ensures end { IfErr result (λ how. is_of_machine how ≡ true) }
     ensures count { S.faults spawner.old ≤ S.faults spawner.new }
 {

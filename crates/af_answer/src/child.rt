@@ -37,7 +37,7 @@ fn word(text: &str) -> ArrayString<200>
     word
 }
 
-// The words of a shell that runs a text.
+// The arguments of a shell that runs a text.
 fn shell_words(text: &ArrayString<200>) -> Words
     ensures words { words_of result ≡ shell_words text.now.bytes }
     ensures some { 1 ≤ array_vec_len result }

@@ -1,4 +1,4 @@
-// The answering machine, on a connection.
+// The answering machine, over a connection.
 ghost use Rattle.std.specs.Prelude.{◌≡◌, ◌≤◌, length, slice_get, true};
 ghost use Rattle.std.specs.declared.option.Option.TheVariants.{None};
 ghost use Rattle.af_io.specs.Observed.{CountsFault};
@@ -14,7 +14,7 @@ use af_lib::Conn;
 use af_process::Spawner;
 use std::alloc::Global;
 
-// Whether the device of a job is there and has a line, or how the machine ends for want of that.
+// Whether the job's device exists and has a line, or else the end of the machine.
 fn find_line<L: Link + Drop>(job: &AnswerJob, conn: &Conn<L>) -> Result<(), AnswerEnd>
     ensures { result ≡ line_or_end job.now (slice_get conn.now.devices job.now.device) (length conn.now.devices) }
 {

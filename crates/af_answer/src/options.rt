@@ -1,4 +1,4 @@
-// What an answering machine is asked to do, by its words.
+// What an answering machine is asked to do, by its arguments.
 ghost use Rattle.std.specs.Prelude.{◌≡◌, ◌≤◌, true, false, length, map, option_map, string_bytes, Err, IfErr, IfOk, IfSome};
 ghost use Rattle.std.specs.declared.option.Option.TheVariants.{Some};
 ghost use Rattle.clap.specs.Words.{found_of, kind_of, matches_of, rows_of, takes};
@@ -41,7 +41,7 @@ fn command_words<'a>() -> (&'a str, &'a [Argument<'a>])
     ("answer", ANSWER.as_slice())
 }
 
-// The matches of the command. The first of the words is its name.
+// The matches of the command. The first argument is its name.
 fn answer_matches<'a>(alloc: Global, given: &'a [String]) -> Result<ArgMatches<'a>, Error>
     ensures ok { IfOk result (λ m. rows_of (found_of m) ≡ matches_of answer_app (map string_bytes given.entry.now)) }
     ensures err { IfErr result (λ e.
@@ -98,8 +98,8 @@ pub fn names_answer(words: &Args) -> bool
     }
 }
 
-/// What these words ask, of which the first names the machine. Usage where they are not spelled, or where the command takes them
-/// all the same and a value is out of its range.
+/// What these arguments ask. The first of them names the machine. Usage only if they are not valid: they do not name the machine,
+/// its command refuses them, or a value is out of range.
 pub fn call_of(alloc: Global, words: &Args) -> Result<AnswerCall<'_>, OptionsFault>
     ensures ok { IfOk result (λ call. answer_words words.now ≡ Some (words_of_call call)) }
     ensures range { IfOk result (λ call. IsAnswerJob call.job × IsAddress call.server.now) }

@@ -8,9 +8,9 @@ ghost use Rattle.af_answer.specs.Outcomes.{is_of_line};
 use crate::end::AnswerEnd;
 use crate::tally::Tally;
 use af_io::{Put, Sink};
-use af_tool::{put, put_number};
+use af_toolkit::{put, put_number};
 
-// Writes the line into a buffer: its length.
+// Writes the line into a buffer, and answers its length.
 fn write_line(out: &mut [u8], tally: Tally) -> usize
     requires { 160 ≤ length out.old }
     ensures within { result ≤ length out.new }

@@ -1,9 +1,10 @@
 // Waiting for a call.
 ghost use Rattle.std.specs.Prelude.{◌≡◌, ◌<◌, ◌≤◌, ◌+◌, ◌^◌, true, IfErr};
 ghost use Rattle.std.specs.declared.option.Option.TheVariants.{None};
+ghost use Rattle.af_toolkit.specs.Ends.{KeepsConnectionBy};
 ghost use Rattle.af_answer.specs.Acts.{rings_after};
 ghost use Rattle.af_answer.specs.AnswerTrace.{awaits_call, most_for_a_call};
-ghost use Rattle.af_answer.specs.AnswerParts.{GoesAlone, HoldsConnection};
+ghost use Rattle.af_answer.specs.AnswerParts.{GoesAlone};
 ghost use Rattle.af_answer.specs.Outcomes.{is_of_machine};
 
 use crate::end::AnswerEnd;
@@ -12,10 +13,10 @@ use af_io::Link;
 use af_lib::Conn;
 use af_wire::{Event, EventKind};
 
-// The most events that are handed out for one call.
+// The most events that are read while waiting for one call.
 const MOST_FOR_A_CALL: u32 = 1000000;
 
-// How often it has rung behind an event. A hook that is taken off ends the row.
+// How often it has rung in a row after an event. A hook that is taken off ends the row.
 fn rings_after(job: &AnswerJob, rings: u32, event: Event) -> u32
     requires { rings + 1 < 2 ^ 32 }
     ensures rings { result ≡ rings_after job.now rings event }
@@ -37,7 +38,7 @@ pub fn await_call<L: Link + Drop>(job: &AnswerJob, conn: &mut Conn<L>) -> Result
     requires rings { (1 ≤ job.now.rings) × (job.now.rings ≤ 20) }
     ensures goes { GoesAlone L.left L.sent conn.old conn.new
         (λ a next. awaits_call most_for_a_call job.now 0 a (next tt)) result }
-    ensures holds { HoldsConnection L.left L.faults conn.old conn.new result }
+    ensures holds { KeepsConnectionBy AnswerEnd.LinkFault L.left L.faults conn.old conn.new result }
     ensures end { IfErr result (λ how. is_of_machine how ≡ true) }
 {
     let mut rings = 0;

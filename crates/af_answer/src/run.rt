@@ -1,4 +1,4 @@
-// The answering machine, by its words.
+// The answering machine, by its arguments.
 ghost use Rattle.std.specs.Prelude.{◌≡◌, ◌≢◌, ◌≤◌, ◌⊎◌, ◌∷◌, [], true, ℕ, List};
 ghost use Rattle.std.specs.declared.option.Option.TheVariants.{None, Some};
 ghost use Rattle.af_io.specs.Observed.{Appended, CountsFault, FaultCounted};
@@ -19,7 +19,7 @@ use af_process::Spawner;
 use af_wire::Order;
 use std::alloc::Global;
 
-// Sets a link up in Big order, and attends a line over it. The link comes back.
+// Sets a link up in big-endian order, and attends a line over it. The link comes back.
 fn answer_over<L: Link + Drop, S: Spawner, K: Sink>(
     alloc: Global,
     job: &AnswerJob,
@@ -74,8 +74,8 @@ fn answer_on<K: Sink, D: Dial, S: Spawner>(
     }
 }
 
-/// The answering machine by its words, of which the first is its name: the server is dialled, the line of the device is attended,
-/// and the link is given back before any answer. All memory but that for children is taken before the first request.
+/// The answering machine by its arguments; the first is its name. The server is dialled, the line of the device is attended, and
+/// the link is given back before any answer. All memory is taken before the first request, except that for children.
 pub fn answer_run<K: Sink, D: Dial, S: Spawner>(
     alloc: Global,
     words: &Args,
@@ -83,7 +83,7 @@ pub fn answer_run<K: Sink, D: Dial, S: Spawner>(
     dial: &mut D,
     spawner: &mut S,
 ) -> AnswerEnd
-    // Usage never where the words are spelled; all others get it, but for those that the command takes all the same
+    // valid arguments never get Usage; all others get it, except those that the command accepts as well
     ensures usage { is_answer_spelled words.now ≡ true → result ≢ AnswerEnd.Usage }
     ensures other { answer_words words.now ≡ None → (result ≡ AnswerEnd.Usage) ⊎ (result ≡ AnswerEnd.OutOfMemory) }
     ensures untouched { result ≡ AnswerEnd.Usage → (sink.new ≡ sink.old) × (dial.new ≡ dial.old) × (spawner.new ≡ spawner.old) }

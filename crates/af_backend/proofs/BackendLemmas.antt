@@ -1,4 +1,4 @@
--- What captures and emits leave alone: what stands behind each device, and the orders of the codec.
+-- What captures and emits leave alone: the backend of each device, and the orders of the codec.
 use Rattle.std.proofs.Common.{◌≡◌, ℕ, List, map, slice_set, option_map, ap, ◌∙◌}
 use Rattle.std.proofs.Math.Seq.{map-set_same}
 use Rattle.std.specs.declared.option.Option.{Option}
@@ -14,7 +14,7 @@ kind_kept : (old new : List (Option BackendState)) (d : ℕ) (after : Option Bac
 unfolding all_without_bytes
 kind_kept old new d after same is = ap (map (option_map without_bytes)) is ∙ map-set_same (option_map without_bytes) old d after None same
 
--- what a card is to do stays where its orders are kept
+-- the orders of a card stay if its use keeps them
 orders_kept : (before after : CardUse) → KeepsOrders before after → card_orders after ≡ card_orders before
 orders_kept before after same =
     ap (λ s. orders_of s after.between.starts.restarts after.words) same.shape

@@ -19,7 +19,7 @@ Consumes-trans (Some xs) None after front back first second = absurd first
 Consumes-trans (Some xs) (Some ys) None front back first second = absurd second
 Consumes-trans (Some xs) (Some ys) (Some zs) front back first second = first ∙ ap (λ left. front ++ left) second ∙ sym (append_assoc front back zs)
 
--- a slice whose first bytes stand before what was read into the rest of it
+-- a slice whose first bytes come before what was read into the rest of it
 take-part : (filled count : ℕ) (into part past : List ℕ) → filled ≤ length into → count ≤ length part →
     take (filled + count) (take filled into ++ (part ++ past)) ≡ take filled into ++ take count part
 take-part filled count into part past fits few =

@@ -3,10 +3,10 @@ use Rattle.std.proofs.Common.{◌≡◌, ◌≢◌, ◌⊎◌, ⊎_elim, inl, in
 use Rattle.std.proofs.lemmas.Bool.{cases_lt, cases_eq, false≢true}
 use Rattle.std.proofs.lemmas.List.{get_or-set_same, get_or-set_other, get_or_default}
 use Rattle.af_limits.specs.Limits.{most_devices, longest_tick}
-use Rattle.af_clock.specs.Pacing.{PaceState, first_reading, gone_by, due_at, after_due}
+use Rattle.af_clock.specs.Pacing.{PaceState, first_reading, frames_gone_by, due_at, after_due}
 use Rattle.af_backend.specs.declared.source.Source.{Source}
 use Rattle.af_backend.specs.declared.source.Source.TheVariants as source
-use Rattle.af_backend.specs.Rounds.{source_in, goes_by_program, due_of, read_at, IsDue, FindsDue, SourcesRead, NoneDue, NoneFrom, NoneByProgram, IsSettled}
+use Rattle.af_backend.specs.Rounds.{source_in, goes_by_program, due_of, some_source_after, IsDue, FindsDue, SourcesRead, NoneDue, NoneFrom, NoneByProgram, IsSettled}
 use Rattle.af_backend.specs.Backends.{BackendState, behind_at}
 use Rattle.af_backend.specs.Asked.{IsAsked, IsAskedWhere, DevicesAsked, DeviceTicks}
 
@@ -20,15 +20,15 @@ none_read nanos from sources = record {
 }
 
 pub one_more_read : (nanos from d : ℕ) (old now : List (Option Source)) (s : Option Source) → from ≤ d → d < length now →
-    SourcesRead nanos from d old now → s ≡ read_at nanos (source_in now d) → SourcesRead nanos from (d + 1) old (slice_set now d s)
+    SourcesRead nanos from d old now → s ≡ some_source_after nanos (source_in now d) → SourcesRead nanos from (d + 1) old (slice_set now d s)
 one_more_read nanos from d old now s on fits read is =
-    let here : source_in (slice_set now d s) d ≡ read_at nanos (source_in old d)
-    = get_or-set_same now d s None fits ∙ is ∙ ap (read_at nanos) (read.above d (omega arith)) in
+    let here : source_in (slice_set now d s) d ≡ some_source_after nanos (source_in old d)
+    = get_or-set_same now d s None fits ∙ is ∙ ap (some_source_after nanos) (read.above d (omega arith)) in
     let there : (e : ℕ) → e ≢ d → source_in (slice_set now d s) e ≡ source_in now e
     = λ e other. get_or-set_other now d e s None other in
     record {
       inside = λ e below at.
-          ⊎_elim (λ same. subst (λ k. source_in (slice_set now d s) k ≡ read_at nanos (source_in old k)) (sym same) here)
+          ⊎_elim (λ same. subst (λ k. source_in (slice_set now d s) k ≡ some_source_after nanos (source_in old k)) (sym same) here)
           (λ other. there e other ∙ read.inside e (omega arith) at)
           (cases_eq e d);
       below = λ e before. there e (λ same. omega arith) ∙ read.below e before;
@@ -42,13 +42,13 @@ one_more_is_not_due nanos from d old now none read is = λ e below at.
     (λ other. none e (omega arith) at)
     (cases_eq e d)
 
--- no device is attached beyond the end, so that none of them has a clock to be read
+-- no device is attached beyond the end, so there is no clock to be read
 pub read_to_the_last : (nanos from end : ℕ) (old new : List (Option Source)) → end ≤ most_devices → NoneFrom end old → SourcesRead nanos from (max from end) old new →
     SourcesRead nanos from (max from most_devices) old new
 read_to_the_last nanos from end old new few none read = record {
   inside = λ d below on.
       ⊎_elim (λ inside. read.inside d inside on)
-      (λ beyond. read.above d beyond ∙ none d (omega arith) ∙ sym (ap (read_at nanos) (none d (omega arith))))
+      (λ beyond. read.above d beyond ∙ none d (omega arith) ∙ sym (ap (some_source_after nanos) (none d (omega arith))))
       (cases_lt d (max from end));
   below = read.below;
   above = λ d beyond. read.above d (omega arith);
@@ -132,13 +132,13 @@ settled_asked nanos from to sources behind settled = record {
 
 -- What stays
 
-read_by_program : (nanos : ℕ) (s : Option Source) → goes_by_program (read_at nanos s) ≡ goes_by_program s
+read_by_program : (nanos : ℕ) (s : Option Source) → goes_by_program (some_source_after nanos s) ≡ goes_by_program s
 read_by_program nanos None = refl
 read_by_program nanos (Some (source.Clock pace)) = refl
 read_by_program nanos (Some source.Program) = refl
 
 at_each : (nanos from to : ℕ) (old new : List (Option Source)) → SourcesRead nanos from to old new → (d : ℕ) →
-    (source_in new d ≡ source_in old d) ⊎ (source_in new d ≡ read_at nanos (source_in old d))
+    (source_in new d ≡ source_in old d) ⊎ (source_in new d ≡ some_source_after nanos (source_in old d))
 at_each nanos from to old new read d =
     ⊎_elim (λ before. inl (read.below d before))
     (λ on. ⊎_elim (λ inside. inr (read.inside d inside on)) (λ beyond. inl (read.above d beyond)) (cases_lt d to))
@@ -152,9 +152,9 @@ none_by_program nanos from to old new read none = λ d.
 
 pub none_beyond : (nanos from to end : ℕ) (old new : List (Option Source)) → SourcesRead nanos from to old new → NoneFrom end old → NoneFrom end new
 none_beyond nanos from to end old new read none = λ d beyond.
-    ⊎_elim (λ same. same ∙ none d beyond) (λ later. later ∙ ap (read_at nanos) (none d beyond)) (at_each nanos from to old new read d)
+    ⊎_elim (λ same. same ∙ none d beyond) (λ later. later ∙ ap (some_source_after nanos) (none d beyond)) (at_each nanos from to old new read d)
 
--- At a reading at which nothing was due of any device, nothing is due again.
+-- If no device had a frame due at a reading, none has one due at it again.
 
 nothing_more : (gone answered : ℕ) → min (gone - answered) longest_tick ≡ 0 →
     min (gone - (answered + min (gone - answered) longest_tick)) longest_tick ≡ 0
@@ -163,11 +163,11 @@ nothing_more gone answered none = omega (arith, none)
 settled_pace : (p : PaceState) (nanos : ℕ) → due_at p nanos ≡ 0 →
     (due_at (after_due p nanos) nanos ≡ 0) × (after_due (after_due p nanos) nanos ≡ after_due p nanos)
 settled_pace p nanos none =
-    let again : due_at (after_due p nanos) nanos ≡ 0 = nothing_more (gone_by p nanos) p.answered none in
+    let again : due_at (after_due p nanos) nanos ≡ 0 = nothing_more (frames_gone_by p nanos) p.answered none in
     (again, ap (λ (n : ℕ). record { rate = p.rate; first = Some (first_reading p nanos); answered = n }) (omega (arith, again)))
 
 settled_source : (s : Option Source) (nanos : ℕ) → due_of nanos s ≡ 0 → goes_by_program s ≡ false →
-    (due_of nanos (read_at nanos s) ≡ 0) × (read_at nanos (read_at nanos s) ≡ read_at nanos s) × (goes_by_program (read_at nanos s) ≡ false)
+    (due_of nanos (some_source_after nanos s) ≡ 0) × (some_source_after nanos (some_source_after nanos s) ≡ some_source_after nanos s) × (goes_by_program (some_source_after nanos s) ≡ false)
 settled_source None nanos none by = (refl, refl, refl)
 settled_source (Some (source.Clock p)) nanos none by =
     let p' = settled_pace p nanos none in (p'.0, ap (λ (q : PaceState). Some (source.Clock q)) p'.1, refl)
@@ -177,13 +177,14 @@ pub settles : (nanos end : ℕ) (old new : List (Option Source)) → NoneFrom en
     NoneDue nanos 0 (max 0 end) old → SourcesRead nanos 0 (max 0 end) old new → IsSettled nanos new
 settles nanos end old new none by quiet read = λ d.
     ⊎_elim
-    (λ inside. subst (λ s. (due_of nanos s ≡ 0) × (read_at nanos s ≡ s) × (goes_by_program s ≡ false)) (sym (read.inside d inside (omega arith)))
+    (λ inside. subst (λ s. (due_of nanos s ≡ 0) × (some_source_after nanos s ≡ s) × (goes_by_program s ≡ false)) (sym (read.inside d inside (omega arith)))
     (settled_source (source_in old d) nanos (quiet d inside (omega arith)) (by d)))
-    (λ beyond. subst (λ s. (due_of nanos s ≡ 0) × (read_at nanos s ≡ s) × (goes_by_program s ≡ false)) (sym (read.above d beyond ∙ none d (omega arith)))
+    (λ beyond. subst (λ s. (due_of nanos s ≡ 0) × (some_source_after nanos s ≡ s) × (goes_by_program s ≡ false)) (sym (read.above d beyond ∙ none d (omega arith)))
     (refl, refl, refl))
     (cases_lt d (max 0 end))
 
--- A round has come to a device, between those that it was to pass over and the last. Its clock was read, and it was asked.
+-- A round has come to a device: after those that it passes over, and at most to the last. The clock of the device was read, and
+-- it was asked.
 pub record Came (nanos from d n : ℕ) (sources now : List (Option Source)) (old behind : List (Option BackendState)) (s : Option Source) (b : Option BackendState) : Type 0 where
   pub on : from ≤ d
   pub source_fits : d < length now
@@ -193,13 +194,13 @@ pub record Came (nanos from d n : ℕ) (sources now : List (Option Source)) (old
   pub asked : DevicesAsked nanos from d sources old behind
   pub due : IsDue nanos (source_in now d) n
   pub all : due_of nanos (source_in now d) ≤ n
-  pub later : s ≡ read_at nanos (source_in now d)
+  pub later : s ≡ some_source_after nanos (source_in now d)
   pub asks : IsAsked nanos n (source_in now d) (behind_at behind d) b
 
--- the same, where what is read of a list is so at any default
+-- the same, if what is read of a list is so at any default
 pub came : (nanos from d n : ℕ) (sources now : List (Option Source)) (old behind : List (Option BackendState)) (s x : Option Source) (b y : Option BackendState) →
     from ≤ d → d < length now → d < length behind → NoneDue nanos from d sources → SourcesRead nanos from d sources now → DevicesAsked nanos from d sources old behind →
-    IsDue nanos (slice_index_or now d x) n → due_of nanos (slice_index_or now d x) ≤ n → s ≡ read_at nanos (slice_index_or now d x) →
+    IsDue nanos (slice_index_or now d x) n → due_of nanos (slice_index_or now d x) ≤ n → s ≡ some_source_after nanos (slice_index_or now d x) →
     IsAsked nanos n (slice_index_or now d x) (slice_index_or behind d y) b → Came nanos from d n sources now old behind s b
 came nanos from d n sources now old behind s x b y on sfits dfits none read asked due all later asks =
     let xs : slice_index_or now d x ≡ source_in now d = get_or_default now d x None sfits in
@@ -213,7 +214,7 @@ came nanos from d n sources now old behind s x b y on sfits dfits none read aske
       asked = asked;
       due = subst (λ o. IsDue nanos o n) xs due;
       all = subst (λ o. due_of nanos o ≤ n) xs all;
-      later = later ∙ ap (read_at nanos) xs;
+      later = later ∙ ap (some_source_after nanos) xs;
       asks = subst (λ o. IsAsked nanos n (source_in now d) o b) ys (subst (λ o. IsAsked nanos n o (slice_index_or behind d y) b) xs asks);
     }
 
@@ -243,7 +244,7 @@ asks_it nanos from d n sources now old behind s b c =
     this_one_ticks nanos from d n sources old behind b c.on c.device_fits c.asked
     (subst (λ o. IsAsked nanos n o (behind_at behind d) b) (still nanos from d n sources now old behind s b c) c.asks)
 
--- It has none due, and is passed over.
+-- It has none due, and the round goes on.
 pub passes_it : (nanos from d : ℕ) (sources now : List (Option Source)) (old behind : List (Option BackendState)) (s : Option Source) (b : Option BackendState) →
     Came nanos from d 0 sources now old behind s b →
     NoneDue nanos from (d + 1) sources × SourcesRead nanos from (d + 1) sources (slice_set now d s) × DevicesAsked nanos from (d + 1) sources old (slice_set behind d b)

@@ -1,4 +1,4 @@
--- What a round does to the devices whose time is that of a program: each that it comes to is asked what is due.
+-- What a round does to the devices that go by a program: each that it comes to is asked what is due.
 use Rattle.std.specs.Prelude.{◌≡◌, ℕ, ◌≤◌, ◌<◌, max, Bool, true, false, List, Option, Some, None}
 use Rattle.af_backend.specs.declared.source.Source.{Source}
 use Rattle.af_backend.specs.Rounds.{RoundState, source_in, goes_by_program}
@@ -17,24 +17,24 @@ abbrev pub IsAskedWhere : Bool → ℕ → ℕ → Option BackendState → Optio
 IsAskedWhere true nanos n b b' = IsAskedOf nanos n b b'
 IsAskedWhere false nanos n b b' = b' ≡ b
 
--- A device that goes by its program is asked, and so many frames of it are due. No other is changed.
+-- A device that goes by its program is asked, and so many frames are due. No other device is changed.
 abbrev pub IsAsked : ℕ → ℕ → Option Source → Option BackendState → Option BackendState → Type 0
 IsAsked nanos n s b b' = IsAskedWhere (goes_by_program s) nanos n b b'
 
--- of the devices between two each was asked, and has nothing due; no other is changed
+-- each device between two was asked, and has nothing due; no other is changed
 pub record DevicesAsked (nanos from to : ℕ) (sources : List (Option Source)) (old new : List (Option BackendState)) : Type 0 where
   pub inside : (d : ℕ) → d < to → from ≤ d → IsAsked nanos 0 (source_in sources d) (behind_at old d) (behind_at new d)
   pub below : (d : ℕ) → d < from → behind_at new d ≡ behind_at old d
   pub above : (d : ℕ) → to ≤ d → behind_at new d ≡ behind_at old d
 
--- of those before a device each was asked, and has nothing due; so many frames of this one are due; no other is changed
+-- each device before one was asked, and has nothing due; this one has so many frames due; no other is changed
 pub record DeviceTicks (nanos from d n : ℕ) (sources : List (Option Source)) (old new : List (Option BackendState)) : Type 0 where
   pub passed : (e : ℕ) → e < d → from ≤ e → IsAsked nanos 0 (source_in sources e) (behind_at old e) (behind_at new e)
   pub ticks : IsAsked nanos n (source_in sources d) (behind_at old d) (behind_at new d)
   pub below : (e : ℕ) → e < from → behind_at new e ≡ behind_at old e
   pub above : (e : ℕ) → d < e → behind_at new e ≡ behind_at old e
 
--- the same of the first device, from one on and before another, of which frames are due
+-- the same for the first device with frames due, from one on and before another
 abbrev pub AsksUpTo : ℕ → ℕ → ℕ → List (Option Source) → Option (ℕ × ℕ) → List (Option BackendState) → List (Option BackendState) → Type 0
 AsksUpTo nanos from to sources None old new = DevicesAsked nanos from (max from to) sources old new
 AsksUpTo nanos from to sources (Some (d, n)) old new = DeviceTicks nanos from d n sources old new

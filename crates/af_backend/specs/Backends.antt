@@ -1,5 +1,5 @@
--- What stands behind a device: silence, two files, whose bytes are known where std's readers and writers tell them, the codec, or a
--- program whose time is that of the device.
+-- The backends of devices: silence; two files, whose bytes are known if std's readers and writers are observable; the codec; or a
+-- program that the device goes by.
 use Rattle.std.specs.Prelude.{◌≡◌, ℕ, Bool, true, false, List, length, map, replicate, slice_index_or, slice_set, option_map}
 use Rattle.std.specs.declared.option.Option.{Option}
 use Rattle.std.specs.declared.option.Option.TheVariants.{None, Some}
@@ -15,7 +15,7 @@ use Rattle.af_world.specs.declared.live.Kind.TheVariants as kind
 use Rattle.af_world.specs.declared.script.DeviceSpec.{DeviceSpec}
 use Rattle.af_world.specs.Outside.{silent_byte}
 use Rattle.af_process.specs.Acts.{words_of}
-use Rattle.af_clock.specs.Pacing.{begun}
+use Rattle.af_clock.specs.Pacing.{new_pace}
 use Rattle.af_backend.specs.declared.source.Source.{Source}
 use Rattle.af_backend.specs.declared.source.Source.TheVariants as source
 use Rattle.af_backend.specs.Rounds.{RoundState, round_with}
@@ -25,8 +25,8 @@ use Rattle.af_backend.specs.declared.attached_device.Backend.TheVariants as back
 use Rattle.af_backend.specs.FileBytes.{FileState, FillsRoom}
 use Rattle.af_backend.specs.CodecUse.{CodecUse, CodecTakes}
 
--- what stands behind a device that is attached: silence of a sample type; two files; the codec, with silence of a sample type to be
--- captured; or a program whose time is that of the device
+-- the backend of an attached device: silence of a sample type; two files; the codec, with silence of a sample type as its input;
+-- or a program that the device goes by
 pub data BackendState : Type 0 where
   always_silent : SampleType → BackendState
   over_files : FileState → BackendState
@@ -43,18 +43,18 @@ backend_state (backend.Card card) = over_card card
 abbrev pub none_attached : List (Option BackendState)
 none_attached = replicate most_devices None
 
--- what stands behind the device with a number, if it is attached
+-- the backend of the device with a number, if it is attached
 abbrev pub behind_at : List (Option BackendState) → ℕ → Option BackendState
 behind_at devices d = slice_index_or devices d None
 
--- the same, whatever its files hold, and whatever went by between it and its program
+-- the same, whatever its files hold, and whatever went between it and its program
 abbrev pub without_bytes : BackendState → BackendState
 without_bytes (always_silent ty) = always_silent ty
 without_bytes (over_files f) = over_files (record f { input = None; output = None })
 without_bytes (over_codec ty) = over_codec ty
 without_bytes (over_card card) = over_card (card_orders card)
 
--- what stands behind each device, whatever files hold and whatever went by
+-- the backend of each device, whatever its files hold and whatever went by
 unfoldable pub all_without_bytes : List (Option BackendState) → List (Option BackendState)
 all_without_bytes devices = map (option_map without_bytes) devices
 
@@ -64,8 +64,8 @@ all_without_bytes devices = map (option_map without_bytes) devices
 abbrev pub IsSilence : SampleType → Put → List ℕ → Type 0
 IsSilence ty answer into = (answer ≡ put.Done) × (into ≡ replicate (length into) (silent_byte ty))
 
--- Of silence, and of the codec, silence is captured; of files what the input gives, and nothing else of them changes; of a card what its
--- program gave. None captures nothing.
+-- Silence and the codec give silence. Files give what their input has, and nothing else of them changes. A card gives what its
+-- program gave. Without a backend nothing is captured.
 abbrev pub CapturesBy : Option BackendState → Put → List ℕ → Option BackendState → Type 0
 CapturesBy None answer into after = (answer ≡ put.Failed) × (after ≡ None)
 CapturesBy (Some (always_silent ty)) answer into after = IsSilence ty answer into × (after ≡ Some (always_silent ty))
@@ -75,14 +75,14 @@ CapturesBy (Some (over_files f)) answer into after =
 CapturesBy (Some (over_card card)) answer into after =
     (card' : CardUse) × CardCaptures answer card into card' × (after ≡ Some (over_card card'))
 
--- a device captures by what stands behind it, and no other device is changed
+-- a device captures from its backend, and no other device is changed
 abbrev pub CapturesAt : ℕ → Put → List ℕ → List (Option BackendState) → List (Option BackendState) → Type 0
 CapturesAt d answer into old new = (after : Option BackendState) × CapturesBy (behind_at old d) answer into after × (new ≡ slice_set old d after)
 
 -- Emits
 
--- Silence takes all. Files have all of a piece added to their output, or a prefix of it if that failed. The codec takes it as it does,
--- and nothing else is given to it. A card hands it to its program. None takes nothing.
+-- Silence takes all. Files have all of a piece added to their output, or a prefix of it if that failed. The codec takes one emit,
+-- and is not changed otherwise. A card hands the piece to its program. Without a backend nothing is taken.
 abbrev pub EmitsBy : Option BackendState → Put → List ℕ → Option BackendState → CodecUse → CodecUse → Type 0
 EmitsBy None answer sound after codec codec' = (answer ≡ put.Failed) × (after ≡ None) × (codec' ≡ codec)
 EmitsBy (Some (always_silent ty)) answer sound after codec codec' =
@@ -94,7 +94,7 @@ EmitsBy (Some (over_codec ty)) answer sound after codec codec' =
 EmitsBy (Some (over_card card)) answer sound after codec codec' =
     (card' : CardUse) × CardEmits answer card sound card' × (after ≡ Some (over_card card')) × (codec' ≡ codec)
 
--- a device hands sound out by what stands behind it, and no other device is changed
+-- a device emits to its backend, and no other device is changed
 abbrev pub EmitsAt : ℕ → Put → List ℕ → List (Option BackendState) → List (Option BackendState) → CodecUse → CodecUse → Type 0
 EmitsAt d answer sound old new codec codec' =
     (after : Option BackendState) × EmitsBy (behind_at old d) answer sound after codec codec' × (new ≡ slice_set old d after)
@@ -108,7 +108,7 @@ may_be_refused (kind.Card which restarts words) = true
 may_be_refused kind.Silent = false
 may_be_refused (kind.Codec restarts words) = false
 
--- what stands behind a device of this kind that was just attached
+-- the backend of a device of this kind that was just attached
 abbrev pub IsBackend : Kind → DeviceSpec → BackendState → Type 0
 IsBackend kind.Silent spec b = b ≡ always_silent spec.ty
 IsBackend (kind.Files input output) spec b = (f : FileState) × (f.silent ≡ silent_byte spec.ty) × (b ≡ over_files f)
@@ -116,19 +116,19 @@ IsBackend (kind.Codec restarts words) spec b = b ≡ over_codec spec.ty
 IsBackend (kind.Card which restarts words) spec b =
     (begun_card : CardUse) × IsBegun which restarts (words_of words.now) spec begun_card × (b ≡ over_card begun_card)
 
--- an attach that was done puts a device there; no other attach changes any
+-- an attach that was done puts a device there; any other attach changes nothing
 abbrev pub AttachesAt : Ready → Kind → ℕ → DeviceSpec → List (Option BackendState) → List (Option BackendState) → Type 0
 AttachesAt ready.Done k d spec old new = (b : BackendState) × IsBackend k spec b × (new ≡ slice_set old d (Some b))
 AttachesAt _ k d spec old new = new ≡ old
 
--- the clock of a device of this kind: that of its program, or that of the system, of which it has so many frames a second
+-- the clock of a device of this kind: its program, or the system's clock with so many frames a second
 abbrev pub source_of : Kind → ℕ → Source
 source_of (kind.Card which restarts words) rate = source.Program
-source_of (kind.Files input output) rate = source.Clock (begun rate)
-source_of (kind.Codec restarts words) rate = source.Clock (begun rate)
-source_of kind.Silent rate = source.Clock (begun rate)
+source_of (kind.Files input output) rate = source.Clock (new_pace rate)
+source_of (kind.Codec restarts words) rate = source.Clock (new_pace rate)
+source_of kind.Silent rate = source.Clock (new_pace rate)
 
--- the round after an attach: where that was done, the device goes on by its clock
+-- the round after an attach: if that was done, the device goes on by its clock
 abbrev pub round_after : Ready → Kind → RoundState → ℕ → ℕ → RoundState
 round_after ready.Done k r d rate = round_with r d (source_of k rate)
 round_after _ k r d rate = r

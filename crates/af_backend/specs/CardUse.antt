@@ -1,4 +1,4 @@
--- A device whose time is that of a program, as a server has it: of the program its acts alone.
+-- A device that goes by a program, as a server has it: only the acts of the program are kept.
 use Rattle.std.specs.Prelude.{◌≡◌, ⊤, ℕ, true, is_some, List, [], ◌∷◌, length, MatchOption}
 use Rattle.std.specs.declared.option.Option.{Option}
 use Rattle.std.specs.declared.option.Option.TheVariants.{None}
@@ -11,13 +11,13 @@ use Rattle.af_program.specs.Acts.{ToldAct, captured, launched}
 use Rattle.af_world.specs.declared.card_kind.CardKind.{CardKind}
 use Rattle.af_world.specs.declared.script.DeviceSpec.{DeviceSpec}
 use Rattle.af_world.specs.Outside.{silent_byte}
-use Rattle.af_clock.specs.Pacing.{PaceState, begun}
+use Rattle.af_clock.specs.Pacing.{PaceState, new_pace}
 use Rattle.af_card.specs.declared.shape.Shape.{Shape}
 use Rattle.af_card.specs.Between.{BetweenState, new_between, captured_of}
 use Rattle.af_card.specs.Card.{CardState, DueOf, EmitsAndStarts, IsFed, StartsOnly, captures, emits}
 
--- the acts of its program, if they are observed; what lies between the two; the words of each start; its pace while no program runs; and
--- the latest moment
+-- the acts of its program, if they are observable; what stands between the two; the command line of each start; its pace while no
+-- program runs; and the latest moment
 pub record CardUse : Type 0 where
   pub acts : Option (List ToldAct)
   pub between : BetweenState
@@ -28,11 +28,11 @@ pub record CardUse : Type 0 where
 abbrev pub card_use : {P : Type 0} → (P → Option (List ToldAct)) → CardState P → CardUse
 card_use acts card = record { acts = acts card.program; between = card.between; words = card.words; pace = card.pace; at = card.at }
 
--- if the acts are observed, what a card promises holds of them
+-- if the acts are observable, what a card promises holds of them
 abbrev pub IsFedUse : CardUse → Type 0
 IsFedUse card = MatchOption card.acts ⊤ (λ told. IsFed card.between.shape card.between.starts.restarts told)
 
--- what kind of device it is, how often its program may be started, and by which words, stay
+-- the kind of device, how often its program may be started, and its command line stay
 pub record KeepsOrders (before after : CardUse) : Type 0 where
   pub shape : after.between.shape ≡ before.between.shape
   pub restarts : after.between.starts.restarts ≡ before.between.starts.restarts
@@ -41,7 +41,7 @@ pub record KeepsOrders (before after : CardUse) : Type 0 where
 -- the same, whatever went by
 abbrev pub orders_of : Shape → ℕ → List (List ℕ) → CardUse
 orders_of shape restarts words =
-    record { acts = None; between = new_between shape restarts; words = words; pace = begun shape.rate; at = 0 }
+    record { acts = None; between = new_between shape restarts; words = words; pace = new_pace shape.rate; at = 0 }
 
 abbrev pub card_orders : CardUse → CardUse
 card_orders card = orders_of card.between.shape card.between.starts.restarts card.words
@@ -50,7 +50,7 @@ card_orders card = orders_of card.between.shape card.between.starts.restarts car
 abbrev pub shape_of : CardKind → ℕ → DeviceSpec → Shape
 shape_of kind width spec = record { kind = kind; frame_bytes = width; silence = silent_byte spec.ty; rate = spec.rate }
 
--- It was just attached: its program was started once, by these words, and runs.
+-- It was just attached: its program was started once, by this command line, and runs.
 pub record IsBegun (kind : CardKind) (restarts : ℕ) (words : List (List ℕ)) (spec : DeviceSpec) (card : CardUse) : Type 0 where
   pub shape : card.between.shape ≡ shape_of kind (frame_bytes spec.ty spec.channels) spec
   pub started_anew : card.between.starts.restarts ≡ restarts
@@ -60,7 +60,8 @@ pub record IsBegun (kind : CardKind) (restarts : ℕ) (words : List (List ℕ)) 
   pub launched_once : MatchOption card.acts ⊤ (λ acts. acts ≡ launched card.at words launch.Runs ∷ [])
   pub fed : IsFedUse card
 
--- It is asked at a moment, and so many frames are due: those that its program gave or takes next while it runs, else those of the clock.
+-- It is asked at a moment, and so many frames are due: while its program runs, those that it gave or takes next, and else those
+-- of the clock.
 pub record AsksCard (at frames : ℕ) (before after : CardUse) : Type 0 where
   pub due : DueOf before.between.tick before.between.running at frames before.between after.between before.pace after.pace
   pub words : before.between.running ≡ None → StartsOnly at before.words before.acts after.acts
@@ -76,8 +77,8 @@ pub record CardCaptures (answer : Put) (before : CardUse) (into : List ℕ) (aft
   pub fed : IsFedUse after
   pub same : KeepsOrders before after
 
--- It hands its sound to its program, as far as that takes it. It fails exactly if it is dead, or if this is not the tick that was
--- captured.
+-- It hands its sound to its program, as far as the program takes it. It fails exactly if it is dead, or if this is not the tick
+-- that was captured.
 pub record CardEmits (answer : Put) (before : CardUse) (sound : List ℕ) (after : CardUse) : Type 0 where
   pub answers : answer ≡ emits before.between (length sound)
   pub failed : answer ≡ put.Failed → after ≡ before

@@ -15,8 +15,8 @@ use Rattle.af_config.specs.Stating.{is_command_line}
 use Rattle.af_backend.specs.declared.codec_device.CodecStage.{CodecStage}
 use Rattle.af_backend.specs.declared.codec_device.CodecStage.TheVariants as stage
 
--- The codec: its orders, what is fed, whether a sound was emitted, and the acts of its spawner, if they are observed; and how far it
--- is: it waits for its orders, it takes sound, or it has failed.
+-- The codec: its orders, what its children were fed, whether a sound was emitted, the acts of its spawner, if they are
+-- observable, and its stage: it waits for its orders, it takes sound, or it has failed.
 pub record CodecUse : Type 0 where
   pub orders : OrdersState
   pub feeding : Feeding
@@ -28,19 +28,19 @@ pub record CodecUse : Type 0 where
 abbrev pub begun_codec : Option (List Told) → CodecUse
 begun_codec acts = record { orders = record { restarts = 0; words = [] }; feeding = feeding_start; emitted = false; acts = acts; stage = stage.Unset }
 
--- Before its first orders it has emitted nothing. While it takes sound, it has words, and no emit has failed.
+-- Before its first orders it has emitted nothing. While it takes sound, it has a command line, and no emit has failed.
 abbrev pub IsInStage : CodecStage → OrdersState → Feeding → Bool → Type 0
 IsInStage stage.Unset orders feeding emitted = (emitted ≡ false) × (feeding.failed ≡ false)
 IsInStage stage.Takes orders feeding emitted = (1 ≤ length orders.words) × (feeding.failed ≡ false)
 IsInStage stage.Dead orders feeding emitted = ⊤
 
--- how far it is behind an emit
+-- its stage after an emit
 abbrev pub stage_behind : Put → CodecStage
 stage_behind put.Done = stage.Takes
 stage_behind put.Failed = stage.Dead
 
--- One emit of the codec: it adds to the acts exactly the calls that a sound asks for, and answers as they do. Its orders stay. From then
--- on a sound was emitted.
+-- One emit of the codec: it adds to the acts exactly the calls that a sound asks for, and answers as they do. Its orders stay.
+-- From then on a sound was emitted.
 pub record CodecEmits (answer : Put) (sound : List ℕ) (before after : CodecUse) : Type 0 where
   pub feeds : Feeds before.orders before.feeding after.feeding sound before.acts after.acts answer
   pub all : IsFed after.orders after.feeding true after.acts
@@ -48,7 +48,7 @@ pub record CodecEmits (answer : Put) (sound : List ℕ) (before after : CodecUse
   pub emitted : after.emitted ≡ true
   pub stage : after.stage ≡ stage_behind answer
 
--- Sound that is handed to it: one emit where it takes sound. Else none is made, and that has failed.
+-- Sound is handed to it. If it takes sound, that is one emit. Else there is none, and the call fails.
 abbrev pub CodecTakesAt : CodecStage → Put → List ℕ → CodecUse → CodecUse → Type 0
 CodecTakesAt stage.Takes answer sound before after = CodecEmits answer sound before after
 CodecTakesAt stage.Unset answer sound before after = (answer ≡ put.Failed) × (after ≡ before)
@@ -63,7 +63,7 @@ is_unset stage.Unset = true
 is_unset stage.Takes = false
 is_unset stage.Dead = false
 
--- whether it can be given these orders: they are the first, and in their ranges
+-- whether it can be given these orders: they are the first, and in range
 abbrev pub may_set : CodecStage → ℕ → List (List ℕ) → Bool
 may_set s restarts words = is_unset s && nat_le restarts 100 && is_command_line words
 
@@ -71,19 +71,19 @@ may_set s restarts words = is_unset s && nat_le restarts 100 && is_command_line 
 abbrev pub with_orders : CodecUse → ℕ → List (List ℕ) → CodecUse
 with_orders u restarts words = record u { orders = record { restarts = restarts; words = words }; stage = stage.Takes }
 
--- the codec where a device of this kind was attached: that of a codec device has its orders
+-- the codec once a device of this kind was attached: a codec device gives it its orders
 abbrev pub codec_with : Kind → CodecUse → CodecUse
 codec_with (kind.Codec restarts words) u = with_orders u restarts (words_of words.now)
 codec_with (kind.Files input output) u = u
 codec_with (kind.Card which restarts words) u = u
 codec_with kind.Silent u = u
 
--- the codec behind an attach
+-- the codec after an attach
 abbrev pub codec_behind : Ready → Kind → CodecUse → CodecUse
 codec_behind ready.Done k u = codec_with k u
 codec_behind _ k u = u
 
--- whether an attach of this kind can be done, as far as the codec goes
+-- whether the codec allows an attach of this kind
 abbrev pub codec_allows : CodecUse → Kind → Bool
 codec_allows u (kind.Codec restarts words) = may_set u.stage restarts (words_of words.now)
 codec_allows u (kind.Files input output) = true

@@ -1,4 +1,4 @@
--- What a device over two files captures, whose bytes are known where std's readers tell them.
+-- What a device over two files captures. The bytes are known if std's readers are observable.
 use Rattle.std.specs.Prelude.{◌≡◌, ℕ, ◌≤◌, List, ◌++◌, length, replicate}
 use Rattle.std.specs.declared.option.Option.{Option}
 use Rattle.std.specs.Io.KnownBytes.{Consumes, IsAtEnd}
@@ -11,7 +11,7 @@ pub record FileState : Type 0 where
   pub input : Option (List ℕ)
   pub output : Option (List ℕ)
 
--- A room is filled with what a reader gave, in order; behind that, if it has ended, with silence.
+-- A room is filled with what a reader gave, in order, and then with silence, if the reader has ended.
 pub record FilledFrom (silent : ℕ) (before : Option (List ℕ)) (into : List ℕ) (after : Option (List ℕ)) : Type 0 where
   pub given : List ℕ
   pub silences : ℕ
@@ -19,7 +19,7 @@ pub record FilledFrom (silent : ℕ) (before : Option (List ℕ)) (into : List �
   pub consumed : Consumes before after given
   pub ended : 1 ≤ silences → IsAtEnd after
 
--- A reader gave no more than there is room for.
+-- A reader gave at most as many bytes as there is room for.
 pub record GaveWithin (before : Option (List ℕ)) (into : List ℕ) (after : Option (List ℕ)) : Type 0 where
   pub given : List ℕ
   pub consumed : Consumes before after given

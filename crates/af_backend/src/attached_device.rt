@@ -1,4 +1,4 @@
-// A device that is attached, and what stands behind it.
+// A device that is attached, with its backend.
 ghost use Rattle.std.specs.Prelude.{◌≡◌, ◌≤◌, ◌<◌, length, false, IfOk, IsOk};
 ghost use Rattle.std.specs.declared.option.Option.TheVariants.{Some};
 ghost use Rattle.af_limits.specs.Limits.{longest_tick};
@@ -28,7 +28,7 @@ pub enum Backend<F: Read + Write + Drop, P: Program + Drop> {
     Files(FileDevice<F>),
     /// The codec of the world. It captures silence of its sample type.
     Codec(SampleType),
-    /// A program whose time is that of the device.
+    /// A program that the device goes by.
     Card(CardDevice<P>),
 }
 
@@ -47,8 +47,8 @@ impl<F: Read + Write + Drop, P: Program + Drop> Model for AttachedDevice<F, P> {
 }
 
 impl<F: Read + Write + Drop, P: Program + Drop> AttachedDevice<F, P> {
-    /// A device with the backend that its kind names. Files are opened, and the output is made where it is not there. A program whose time
-    /// is that of the device is started.
+    /// A device with the backend that its kind names. Files are opened, and the output is made if it does not exist. A program
+    /// that the device goes by is started.
     pub fn new<R: Files<File = F>, G: Programs<Made = P>>(
         rt: &R,
         programs: &mut G,

@@ -19,7 +19,8 @@ use std::marker::Model;
 /// The least buffer that the system has for a socket. It holds one to six pieces of sound, 10 to 60 milliseconds.
 const SHORTEST_INPUT: u32 = 2304;
 
-/// What the program of a device is to be: which sound it gives and is given, how often it may be started again, and by which words.
+/// What the program of a device is to be: which sound it gives and is given, how often it may be started again, and by which
+/// words.
 #[derive(Clone, Copy)]
 pub(crate) struct CardOrders<'a> {
     pub card: CardKind,
@@ -27,7 +28,7 @@ pub(crate) struct CardOrders<'a> {
     pub words: &'a Words,
 }
 
-/// A device whose time is that of a program. It lies in a box, so that devices without a program are small.
+/// A device that goes by a program. It is in a box, so that devices without a program are small.
 #[derive(Drop)]
 pub struct CardDevice<P: Program + Drop> {
     card: Box<Card<P>>,
@@ -120,8 +121,9 @@ fn ways_of(card: CardKind) -> Ways {
     }
 }
 
-/// How many bytes may lie before the program: of a loudspeaker as few as the system can have, since that is the delay of its sound; of a
-/// card a quarter of a second. The system doubles this, and counts pieces of 10 or 20 milliseconds twice as long as they are.
+/// How many bytes may wait before the program. A loudspeaker has as few as the system can have, since that is the delay of its
+/// sound. A card has a quarter of a second. The system doubles this, and counts pieces of 10 or 20 milliseconds twice as long as
+/// they are.
 fn input_bytes(shape: &Shape) -> u32 {
     match shape.kind {
         CardKind::Speaker | CardKind::Microphone => SHORTEST_INPUT,

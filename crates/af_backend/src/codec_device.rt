@@ -15,7 +15,7 @@ use std::marker::Model;
 /// How far a codec is.
 #[derive(Clone, Copy, PartialEq, Eq)]
 pub enum CodecStage {
-    /// It waits for the words of its child programs.
+    /// It waits for the command line of its child programs.
     Unset,
     /// It takes sound.
     Takes,
@@ -47,7 +47,7 @@ impl<S: Spawner + Drop> Model for CodecDevice<S> {
 }
 
 impl<S: Spawner + Drop> CodecDevice<S> {
-    /// A codec that waits for its words, over a spawner that tells of no act.
+    /// A codec that waits for its command line, over a spawner with no acts so far.
     pub fn new(alloc: Global, spawner: S) -> CodecDevice<S>
         requires { TellsThese [] (S.acts spawner) }
         ensures { result ≡ begun_codec (S.acts spawner) }

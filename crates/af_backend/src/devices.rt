@@ -1,4 +1,4 @@
-// The devices of a world, each at its number, and how one is attached.
+// The devices of a world, by number, and how one is attached.
 ghost use Rattle.std.specs.Prelude.{◌≡◌, ◌≢◌, ◌<◌, [], length, false, true, not, ◌&&◌, nat_lt};
 ghost use Rattle.std.specs.declared.option.Option.TheVariants.{Some};
 ghost use Rattle.af_limits.specs.Limits.{most_devices};
@@ -34,7 +34,7 @@ pub struct NewDevice<'a> {
     pub at: u64,
 }
 
-/// The devices that are attached, the codec, which one of them may stand over, and the round over all of them.
+/// The devices that are attached, the codec, which may be the backend of one of them, and the round over all of them.
 #[derive(Drop)]
 pub struct Devices<F: Read + Write + Drop, S: Spawner + Drop, P: Program + Drop> {
     pub attached: [Option<AttachedDevice<F, P>>; MOST_DEVICES],
@@ -90,8 +90,8 @@ impl<F: Read + Write + Drop, S: Spawner + Drop, P: Program + Drop> Devices<F, S,
         Ready::Done
     }
 
-    /// The next device of the round of which a frame is due at this reading of the clock, and how many are. Devices whose time is that of
-    /// their program are asked.
+    /// The next device of the round with frames due at this reading of the clock, and how many. Devices that go by their program
+    /// are asked.
     pub fn next_tick(&mut self, nanos: u64) -> Option<(u8, u32)>
         ensures on { GoesOn nanos self.old.round result self.new.round }
         ensures over { GoesOver nanos self.old.round result self.new.round self.old.attached self.new.attached }
@@ -100,7 +100,7 @@ impl<F: Read + Write + Drop, S: Spawner + Drop, P: Program + Drop> Devices<F, S,
         self.round.next_tick(nanos, &mut self.attached)
     }
 
-    /// The device of a program whose time is that of the device, if this is one.
+    /// The device with its program, if this device goes by one.
     pub fn card(&self, device: u8) -> Option<&Card<P>> {
         self.attached.get(device as usize)?.as_ref()?.card()
     }
@@ -131,7 +131,7 @@ impl<F: Read + Write + Drop, S: Spawner + Drop, P: Program + Drop> Devices<F, S,
     }
 }
 
-/// The clock of a device of this kind, of which so many frames a second go by where it is that of the system.
+/// The clock of a device of this kind: its program, or the system's clock with so many frames a second.
 fn source_of(kind: Kind<'_>, rate: u32) -> Source
     ensures { result ≡ source_of kind.entry rate }
 {

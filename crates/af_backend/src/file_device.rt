@@ -1,4 +1,4 @@
-// A device that stands over two files.
+// A device over two files.
 ghost use Rattle.std.specs.Prelude.{◌≡◌, ◌<◌, length, IfOk};
 ghost use Rattle.af_io.specs.Observed.{CountsOneFault};
 ghost use Rattle.af_world.specs.Outside.{silent_byte};
@@ -31,7 +31,7 @@ impl<F: Read + Write + Drop> Model for FileDevice<F> {
 }
 
 impl<F: Read + Write + Drop> FileDevice<F> {
-    /// Opens both files. The output is made where it is not there.
+    /// Opens both files. The output is made if it does not exist.
     pub fn open<R: Files<File = F>>(
         rt: &R,
         ty: SampleType,

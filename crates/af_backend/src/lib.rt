@@ -1,5 +1,5 @@
-//! The devices of a server on real time, each over its backend: silence, two files, the codec, or a program whose time is that
-//! of the device; and rounds over all of them.
+//! The devices of a server on real time, each with its backend: silence, two files, the codec, or a program that the device goes
+//! by; and rounds over all of them.
 #![tactic(auto)]
 
 mod attached_device;

@@ -1,7 +1,7 @@
-// A round over the devices, in which each has the frames that are due of it.
+// A round over the devices: each is asked how many frames are due, and ticks by them.
 ghost use Rattle.std.specs.Prelude.{◌≡◌, ◌≤◌, ◌<◌, true, false, IfSome};
 ghost use Rattle.af_limits.specs.Limits.{most_devices, longest_tick};
-ghost use Rattle.af_backend.specs.Rounds.{due_of, read_at, reading_after, new_round, round_with, round_begun, is_attached, FindsDue, GoesOn, IsDue, IsSettled};
+ghost use Rattle.af_backend.specs.Rounds.{due_of, some_source_after, reading_after, new_round, round_with, next_round, is_attached, FindsDue, GoesOn, IsDue, IsSettled, NoneByProgram};
 ghost use Rattle.af_backend.specs.Asked.{AsksUpTo, GoesOver, IsAsked, IsAskedOf};
 
 use crate::attached_device::AttachedDevice;
@@ -15,8 +15,9 @@ use std::marker::Model;
 /// up, its clients are served between steps that are short against what they send and get at once.
 pub const LONGEST_STEP_NANOS: u64 = 20_000_000;
 
-/// The round over the attached devices. It has the clock of each, the device that comes next, and whether one ticked in it. It has its
-/// reading of the system's clock, once it has come to a device, and the last reading that this or an earlier round went by.
+/// The round over the attached devices. It has the clock of each, the device that comes next, and whether one ticked in it. It
+/// has its reading of the system's clock, once it has come to a device, and the last reading that this or an earlier round went
+/// by.
 #[derive(Drop)]
 pub struct Round {
     sources: [Option<Source>; MOST_DEVICES],
@@ -26,10 +27,10 @@ pub struct Round {
     ticked: bool,
     reading: Option<u64>,
     last: Option<u64>,
-    // A reading at which nothing is due of any device: rounds by it need not ask them again, and where there is much to do there are
-    // many within a millisecond.
+    // A reading at which no device has a frame due. Later rounds by it skip all devices: a busy server makes many within a
+    // millisecond.
     settled: Option<u64>,
-    // Whether one goes by its program, which may have frames due at the same reading again.
+    // Whether a device goes by its program, which may have more frames due at the same reading.
     has_programs: bool,
 }
 
@@ -85,6 +86,13 @@ impl Round {
         self.settled = None;
     }
 
+    /// Whether a device may go by its program.
+    pub fn has_programs(&self) -> bool
+        ensures { result ≡ false → NoneByProgram self.now.sources }
+    {
+        self.has_programs
+    }
+
     /// The reading of the clock that the round goes by, once it has come to a device.
     pub fn reading(&self) -> Option<u64>
         ensures { result ≡ self.now.reading }
@@ -92,8 +100,8 @@ impl Round {
         self.reading
     }
 
-    /// The reading that a round goes by if the clock shows this as it comes to its first device: at most 20 milliseconds after that
-    /// of the round before.
+    /// The reading that a round goes by if the clock shows this as it comes to its first device: at most 20 milliseconds after
+    /// that of the round before.
     pub fn reading_after(&self, shown: u64) -> u64
         ensures { result ≡ reading_after self.now.last shown }
     {
@@ -103,7 +111,7 @@ impl Round {
         }
     }
 
-    // Whether it is known that nothing is due of any device at a reading.
+    // Whether it is known that no device has a frame due at a reading.
     fn is_settled(&self, nanos: u64) -> bool
         ensures { result ≡ true → IsSettled nanos self.now.sources }
     {
@@ -113,8 +121,8 @@ impl Round {
         }
     }
 
-    /// The next device of the round of which a frame is due at this reading of the clock, and how many are. The round goes by
-    /// it from now on. Devices whose time is that of their program are asked.
+    /// The next device of the round with frames due at this reading of the clock, and how many. The round goes by that reading
+    /// from now on. Devices that go by their program are asked.
     pub(crate) fn next_tick<F: Read + Write + Drop, P: Program + Drop>(
         &mut self,
         nanos: u64,
@@ -153,7 +161,7 @@ impl Round {
 
     /// A new round begins.
     pub fn begin(&mut self)
-        ensures { self.new ≡ round_begun self.old }
+        ensures { self.new ≡ next_round self.old }
     {
         self.next = 0;
         self.ticked = false;
@@ -172,7 +180,7 @@ fn settled_at(nanos: u64, from: usize, has_programs: bool) -> Option<u64>
     }
 }
 
-/// The first device between two of which frames are due at this reading, and how many are.
+/// The first device between two with frames due at this reading, and how many.
 fn first_due<F: Read + Write + Drop, P: Program + Drop>(
     sources: &mut [Option<Source>; MOST_DEVICES],
     attached: &mut [Option<AttachedDevice<F, P>>; MOST_DEVICES],
@@ -202,7 +210,7 @@ fn due<F: Read + Write + Drop, P: Program + Drop>(
     ensures value { IsDue nanos source.old result }
     ensures all { due_of nanos source.old ≤ result }
     ensures most { result ≤ longest_tick }
-    ensures later { source.new ≡ read_at nanos source.old }
+    ensures later { source.new ≡ some_source_after nanos source.old }
     ensures asked { IsAsked nanos result source.old device.old device.new }
 {
     match source {

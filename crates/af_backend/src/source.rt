@@ -1,4 +1,4 @@
-// By which clock the time of a device goes.
+// The clock that the time of a device goes by.
 ghost use Rattle.std.specs.Prelude.{◌≡◌};
 ghost use Rattle.std.specs.declared.option.Option.TheVariants.{Some};
 ghost use Rattle.af_backend.specs.Rounds.{goes_by_program};

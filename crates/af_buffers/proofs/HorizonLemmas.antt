@@ -25,7 +25,7 @@ samples_within channels n count h =
       | inr two ↦ subst (λ m. (32000 ≤ m * n) × (m * n ≤ 384000)) (sym two) (omega arith, omega arith)
     ]
 
--- what is a listed rate, is four times one as well
+-- if a rate is listed, four times it is four times a listed one
 listed_times : (rate : ℕ) (rates : List ℕ) → list_any (λ listed. rate == listed) rates ≡ true → list_any (λ listed. rate * 4 == listed * 4) rates ≡ true
 listed_times rate [] h = h
 listed_times rate (first ∷ rates) h = elim (or_cases (rate == first) (list_any (λ listed. rate == listed) rates) h) [

@@ -1,4 +1,4 @@
--- Where a time is from a buffer's time, and where its frame is in a ring.
+-- How far a time is from a buffer's time, and the place of its frame in a ring.
 use Rattle.std.proofs.Common.{◌≡◌, ℕ, ◌+◌, ◌-◌, ◌*◌, ◌%◌, ◌^◌, ◌<◌, ◌≤◌, inl, inr, ◌↔◌, Bool, true, false, sym, ap, ◌∙◌, arith}
 use Rattle.std.proofs.lemmas.Bool.{cases_lt}
 use Rattle.std.proofs.lemmas.Nat.{mul-mod_first}
@@ -28,7 +28,7 @@ near t start word word' =
     let meant : IsMeant (whole_time t) start (unwrap (whole_time t) start) = unwrap_meant (whole_time t) start (omega arith) word' in
     record { first = meant.word; second = omega arith; early = meant.early; late = meant.late }
 
--- a start whose word is before a buffer's is before it, and no other
+-- a start is before a buffer's time exactly if the comparison of their words says so
 pub is_late : (t start : ℕ) (before : Bool) → t < 2 ^ 32 → start < 2 ^ 32 → ((a b : ℕ) → AreNear a b start t → (before ≡ true) ↔ (a < b)) → before ≡ true → unwrap (whole_time t) start < whole_time t
 is_late t start before word word' tells yes' = (tells (unwrap (whole_time t) start) (whole_time t) (near t start word word')).0 yes'
 

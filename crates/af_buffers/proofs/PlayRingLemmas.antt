@@ -1,4 +1,4 @@
--- Plays and what is handed out, over a ring, which knows no frames: it has samples at places, channels * time + channel.
+-- Plays and what is handed out, over a ring. The ring knows no frames: it has samples at places, channels * time + channel.
 use Rattle.std.proofs.Common.{◌≡◌, ℕ, ℤ, pos, ◌+◌, ◌-◌, ◌*◌, ◌/◌, ◌%◌, ◌^◌, ◌<◌, ◌≤◌, inl, inr, Bool, List, ◌++◌, replicate, length, get_or, take, drop, refl, sym, ap, ◌∙◌, subst, arith, length-drop, length-append, get_or-drop}
 use Rattle.std.proofs.lemmas.List.{get_or_past, get_or-replicate, length-replicate, ext_get_or, get_or-take, length-take-le, get_or_append_left, get_or-append_right}
 use Rattle.std.proofs.lemmas.Bool.{cases_lt}
@@ -8,7 +8,7 @@ use Rattle.std.proofs.Math.Nat.{mod-mod}
 use Rattle.af_limits.specs.Limits.{longest_tick}
 use Rattle.af_time.specs.DeviceTime.{unwrap}
 use Rattle.af_sample.specs.Channels.{AreWholeFrames, frame_count}
-use Rattle.af_sample.specs.Heard.{AcceptedPlay, blended, with_entry}
+use Rattle.af_sample.specs.Heard.{AcceptedPlay, sound_with_sample, with_entry}
 use Rattle.af_sample.proofs.FrameLemmas.{some_channel}
 use Rattle.af_ring.specs.Cells.{cell, ChangesRun, IsRunAt, IsSize}
 use Rattle.af_ring.proofs.RingStepLemmas.{same_cell, around, in_run, past_run, before_run}
@@ -24,7 +24,7 @@ length-next_of cells t channels n = length-map-range_with_len (λ j. cell cells 
 pub get_or-next_of : (cells : List ℤ) (t channels n j : ℕ) → j < channels * n → get_or (next_of cells t channels n).next j (pos 0) ≡ cell cells (channels * t + j)
 get_or-next_of cells t channels n j low = get_or-map-range_with_len (λ j. cell cells (channels * t + j)) 0 (channels * n) j j (pos 0) low (omega arith)
 
--- each cell of a ring, by the place from a word on, is what one play more makes of it
+-- each cell of a ring, by the place from a word on, is what one more play makes of it
 pub record LaysOver (channels : ℕ) (old new : List ℤ) (t : ℕ) (play : AcceptedPlay) : Type 0 where
   pub size : length new ≡ length old
   pub each : (j : ℕ) → j < length old → cell new (channels * t + j) ≡ with_entry channels (whole_time t + j / channels) (j % channels) (cell old (channels * t + j)) play
@@ -38,9 +38,9 @@ along channels word first whole u k cell_is is same =
 -- a run from the start of a play that is not before now
 pub lays_ahead : (channels : ℕ) (old new samples : List ℤ) (t start first : ℕ) (preempt : Bool) → 0 < channels → AreWholeFrames channels samples → IsSize (length old) → unwrap (whole_time t) start % 2 ^ 32 ≡ start →
     whole_time t ≤ unwrap (whole_time t) start → channels * unwrap (whole_time t) start + length samples ≤ channels * whole_time t + length old →
-    first ≡ channels * start % 2 ^ 32 → ChangesRun old new first (length samples) (λ k x. blended preempt x (get_or samples k (pos 0))) → LaysOver channels old new t (accepted_at (whole_time t) start samples preempt)
+    first ≡ channels * start % 2 ^ 32 → ChangesRun old new first (length samples) (λ k x. sound_with_sample preempt x (get_or samples k (pos 0))) → LaysOver channels old new t (accepted_at (whole_time t) start samples preempt)
 lays_ahead channels old new samples t start first preempt some whole size word ahead within cell_is run =
-    let f = λ (k : ℕ) (x : ℤ). blended preempt x (get_or samples k (pos 0)) in
+    let f = λ (k : ℕ) (x : ℤ). sound_with_sample preempt x (get_or samples k (pos 0)) in
     let begins : channels * whole_time t ≤ channels * unwrap (whole_time t) start = mul-le channels (whole_time t) channels (unwrap (whole_time t) start) (omega arith) ahead in
     record {
       size = run.size;
@@ -64,20 +64,20 @@ lays_ahead channels old new samples t start first preempt some whole size word a
 
 -- a run of the rest of a play that began before now
 pub lays_rest : (channels : ℕ) (old new samples rest : List ℤ) (t start late first : ℕ) (preempt : Bool) → 0 < channels → AreWholeFrames channels samples → IsSize (length old) → unwrap (whole_time t) start + late ≡ whole_time t → late * channels ≤ length samples →
-    length samples ≤ length old → rest ≡ drop (late * channels) samples → first ≡ channels * t % 2 ^ 32 → ChangesRun old new first (length rest) (λ k x. blended preempt x (get_or rest k (pos 0))) →
+    length samples ≤ length old → rest ≡ drop (late * channels) samples → first ≡ channels * t % 2 ^ 32 → ChangesRun old new first (length rest) (λ k x. sound_with_sample preempt x (get_or rest k (pos 0))) →
     LaysOver channels old new t (accepted_at (whole_time t) start samples preempt)
 lays_rest channels old new samples rest t start late first preempt some whole size begun past room is cell_is run =
     let left : length rest ≡ length samples - late * channels = ap length is ∙ length-drop (late * channels) samples in
     let places : channels * (unwrap (whole_time t) start + late) ≡ channels * whole_time t = ap (λ m. channels * m) begun in
     let here : (j : ℕ) → (first + j) % 2 ^ 32 ≡ (channels * t + j) % 2 ^ 32 = λ j. ap (λ m. (m + j) % 2 ^ 32) cell_is ∙ run_place channels t t j refl in
-    let f = λ (k : ℕ) (x : ℤ). blended preempt x (get_or rest k (pos 0)) in
+    let f = λ (k : ℕ) (x : ℤ). sound_with_sample preempt x (get_or rest k (pos 0)) in
     record {
       size = run.size;
       each = λ j low. elim (cases_lt j (length rest)) [
         | inl inside ↦
             in_run old new first (channels * t + j) j (length rest) f size run (here j) inside (omega arith)
-            ∙ ap (λ xs. blended preempt (cell old (channels * t + j)) (get_or xs j (pos 0))) is
-            ∙ ap (blended preempt (cell old (channels * t + j))) (get_or-drop (late * channels) samples j (pos 0))
+            ∙ ap (λ xs. sound_with_sample preempt (cell old (channels * t + j)) (get_or xs j (pos 0))) is
+            ∙ ap (sound_with_sample preempt (cell old (channels * t + j))) (get_or-drop (late * channels) samples j (pos 0))
             ∙ sym (at_sample channels (accepted_at (whole_time t) start samples preempt) (whole_time t) j (late * channels + j) (cell old (channels * t + j)) some whole (omega arith) (omega arith) (omega arith))
         | inr over ↦
             past_run old new first (channels * t + j) j (length rest) f size run (here j) over low
@@ -139,7 +139,7 @@ ring_of_play channels old new t n play ring whole within laid =
           ∙ ring.silent j past (omega arith);
     }
 
--- no more is given than is next
+-- at most as many samples are given out as are next
 given_few : (channels n : ℕ) (old given : List ℤ) (t : ℕ) → IsRingOf old t channels n → frame_count channels given ≤ longest_tick → AreWholeFrames channels given → length given ≤ channels * n
 given_few channels n old given t ring count whole =
     let bounds : (32000 ≤ n) × (n ≤ 192000) = horizon_within n ring.horizon in
@@ -182,7 +182,7 @@ handed channels old new given t n ring few whole run j low =
           ∙ sym (silent (omega arith))
     ]
 
--- what comes next behind the given is as long
+-- what comes next after the given samples is as long as before
 length-rest : (channels : ℕ) (old given : List ℤ) (t n : ℕ) → length given ≤ channels * n → length (drop (length given) (next_of old t channels n).next ++ replicate (length given) (pos 0)) ≡ channels * n
 length-rest channels old given t n few =
     let long : length (next_of old t channels n).next ≡ channels * n = length-next_of old t channels n in

@@ -6,22 +6,22 @@ use Rattle.std.proofs.lemmas.List.FromFn.{length-map-range_with_len, get_or-map-
 use Rattle.std.proofs.Math.Nat.{mod-add-mod}
 use Rattle.af_time.specs.DeviceTime.{unwrap}
 use Rattle.af_sample.specs.Channels.{IsChannelCount, AreWholeFrames, frame_count}
-use Rattle.af_sample.specs.Window.{recorded, window}
+use Rattle.af_sample.specs.Window.{recorded_sample, window}
 use Rattle.af_sample.proofs.FrameLemmas.{some_channel, channel_within, frame_at, channel_at, place_before}
-use Rattle.af_sample.proofs.HeardLemmas.{recorded_within, recorded_before, recorded-append}
+use Rattle.af_sample.proofs.HeardLemmas.{recorded_within, recorded_before, recorded_sample-append}
 use Rattle.af_buffers.specs.Horizons.{whole_time}
 use Rattle.af_buffers.specs.RecordBuffer.{RecordWindow, Captures, frames_before, frames_until_past, sample_at, samples_from, Keeps}
 use Rattle.af_buffers.proofs.AcceptedPlayLemmas.{unwrap-same}
 use Rattle.af_buffers.proofs.RecordRingLemmas.{by_count, frame_within, sample_before, sample_within, sample_after}
 
 -- a time further back than the horizon, and one from now on
-recorded_older : (channels : ℕ) (captured : List ℤ) (begin now horizon t channel : ℕ) → t + horizon < now → recorded channels captured begin now horizon t channel ≡ pos 0
-unfolding recorded
+recorded_older : (channels : ℕ) (captured : List ℤ) (begin now horizon t channel : ℕ) → t + horizon < now → recorded_sample channels captured begin now horizon t channel ≡ pos 0
+unfolding recorded_sample
 recorded_older channels captured begin now horizon t channel older =
     ap (λ b. cond (b && (nat_lt t now && nat_le begin t)) (get_or captured (channels * (t - begin) + channel) (pos 0)) (pos 0)) (lt-leb now (t + horizon) older)
 
-recorded_later : (channels : ℕ) (captured : List ℤ) (begin now horizon t channel : ℕ) → now ≤ t → recorded channels captured begin now horizon t channel ≡ pos 0
-unfolding recorded
+recorded_later : (channels : ℕ) (captured : List ℤ) (begin now horizon t channel : ℕ) → now ≤ t → recorded_sample channels captured begin now horizon t channel ≡ pos 0
+unfolding recorded_sample
 recorded_later channels captured begin now horizon t channel later =
     ap (λ b. cond (b && (nat_lt t now && nat_le begin t)) (get_or captured (channels * (t - begin) + channel) (pos 0)) (pos 0)) (le-leb now (t + horizon) (omega arith))
     ∙ ap (λ b. cond (b && nat_le begin t) (get_or captured (channels * (t - begin) + channel) (pos 0)) (pos 0)) (le-ltb t now later)
@@ -29,24 +29,24 @@ recorded_later channels captured begin now horizon t channel later =
 -- a window has the samples of its frames
 length-window : (channels : ℕ) (captured : List ℤ) (begin now horizon start n : ℕ) → length (window channels captured begin now horizon start n) ≡ channels * n
 length-window channels captured begin now horizon start n =
-    length-map-range_with_len (λ j. recorded channels captured begin now horizon (start + j / channels) (j % channels)) 0 (channels * n)
+    length-map-range_with_len (λ j. recorded_sample channels captured begin now horizon (start + j / channels) (j % channels)) 0 (channels * n)
 
 get_or-window : (channels : ℕ) (captured : List ℤ) (begin now horizon start n j : ℕ) → j < channels * n →
-    get_or (window channels captured begin now horizon start n) j (pos 0) ≡ recorded channels captured begin now horizon (start + j / channels) (j % channels)
+    get_or (window channels captured begin now horizon start n) j (pos 0) ≡ recorded_sample channels captured begin now horizon (start + j / channels) (j % channels)
 get_or-window channels captured begin now horizon start n j low =
-    get_or-map-range_with_len (λ j. recorded channels captured begin now horizon (start + j / channels) (j % channels)) 0 (channels * n) j j (pos 0) low (omega arith)
+    get_or-map-range_with_len (λ j. recorded_sample channels captured begin now horizon (start + j / channels) (j % channels)) 0 (channels * n) j j (pos 0) low (omega arith)
 
--- a sample of what a buffer keeps
+-- a sample that a buffer keeps
 kept_at : (b : RecordWindow) (channels : ℕ) (captured : List ℤ) (begin now j : ℕ) → Keeps b channels captured begin now → j < channels * b.horizon →
-    get_or b.last j (pos 0) ≡ recorded channels captured begin now b.horizon (now - b.horizon + j / channels) (j % channels)
+    get_or b.last j (pos 0) ≡ recorded_sample channels captured begin now b.horizon (now - b.horizon + j / channels) (j % channels)
 kept_at b channels captured begin now j k low =
     ap (λ xs. get_or xs j (pos 0)) k.last ∙ get_or-window channels captured begin now b.horizon (now - b.horizon) b.horizon j low
 
--- how many samples are last
+-- how many samples a buffer keeps
 pub length-last : (b : RecordWindow) (channels : ℕ) (captured : List ℤ) (begin now : ℕ) → Keeps b channels captured begin now → length b.last ≡ channels * b.horizon
 length-last b channels captured begin now k = ap length k.last ∙ length-window channels captured begin now b.horizon (now - b.horizon) b.horizon
 
--- silence is kept where nothing was captured
+-- silence is kept if nothing was captured
 pub keeps_silence : (b : RecordWindow) (channels now n : ℕ) → 2 ^ 32 ≤ now → n ≤ 2 ^ 32 → IsChannelCount channels → b.time ≡ now % 2 ^ 32 → b.channels ≡ channels → b.horizon ≡ n →
     b.last ≡ replicate (channels * n) (pos 0) → Keeps b channels [] now now
 keeps_silence b channels now n late short count time same horizon last =
@@ -87,7 +87,7 @@ frames_beyond-same b channels captured begin now start n k word =
     let same = unwrap-same (whole_time b.time) now start (omega arith) (omega arith) (omega arith) word in
     omega arith
 
--- as many samples are last behind a capture
+-- as many samples are kept after a capture
 pub size_capture : (b c : RecordWindow) (samples : List ℤ) → Captures b c samples → length c.last ≡ length b.last
 size_capture b c samples more = let all : length (b.last ++ samples) ≡ length b.last + length samples = length-append b.last samples in ap length more.last ∙ length-drop (length samples) (b.last ++ samples) ∙ omega arith
 
@@ -95,7 +95,7 @@ size_capture b c samples more = let all : length (b.last ++ samples) ≡ length 
 place_later : (channels j n : ℕ) → IsChannelCount channels → ((channels * n + j) / channels ≡ n + j / channels) × ((channels * n + j) % channels ≡ j % channels)
 place_later channels j n count = by_count (λ ch. ((ch * n + j) / ch ≡ n + j / ch) × ((ch * n + j) % ch ≡ j % ch)) (omega arith, omega arith) (omega arith, omega arith) channels count
 
--- the place of what is captured, among all that is and among the fresh samples
+-- the place of what is captured, among all that is captured and among the new samples
 fresh_place : (channels begin now n horizon j : ℕ) → IsChannelCount channels → begin ≤ now → horizon ≤ now → channels * horizon ≤ channels * n + j →
     channels * n + j - channels * horizon + channels * (now - begin) ≡ channels * (now + n - horizon + j / channels - begin) + j % channels
 fresh_place channels begin now n horizon j count begun late =
@@ -108,9 +108,9 @@ later_frames channels j n horizon count = by_count (λ ch. ch * horizon ≤ ch *
 all_frames : (channels begin now n : ℕ) → IsChannelCount channels → begin ≤ now → channels * (now - begin) + channels * n ≡ channels * (now + n - begin)
 all_frames channels begin now n count begun = by_count (λ ch. ch * (now - begin) + ch * n ≡ ch * (now + n - begin)) (omega arith) (omega arith) channels count
 
--- a sample behind a capture of n frames: one that was there, or a fresh one
+-- a sample after a capture of n frames: an old one, or a new one
 captured_at : (b : RecordWindow) (channels : ℕ) (captured samples : List ℤ) (begin now n j : ℕ) → Keeps b channels captured begin now → length samples ≡ channels * n → j < channels * b.horizon →
-    get_or (b.last ++ samples) (length samples + j) (pos 0) ≡ recorded channels (captured ++ samples) begin (now + n) b.horizon (now + n - b.horizon + j / channels) (j % channels)
+    get_or (b.last ++ samples) (length samples + j) (pos 0) ≡ recorded_sample channels (captured ++ samples) begin (now + n) b.horizon (now + n - b.horizon + j / channels) (j % channels)
 captured_at b channels captured samples begin now n j k whole low =
     let late : 2 ^ 32 ≤ begin = k.late in
     let begun : begin ≤ now = k.begun in
@@ -125,9 +125,9 @@ captured_at b channels captured samples begin now n j k whole low =
           let within : (length samples + j) / channels < b.horizon = frame_within channels (length samples + j) b.horizon k.count low' in
           get_or_append_left b.last samples (pos 0) (length samples + j) kept
           ∙ kept_at b channels captured begin now (length samples + j) k low'
-          ∙ ap (recorded channels captured begin now b.horizon (now - b.horizon + (length samples + j) / channels)) same
-          ∙ ap (λ t. recorded channels captured begin now b.horizon t (j % channels)) (let e : now - b.horizon + (length samples + j) / channels ≡ now + n - b.horizon + j / channels = omega arith in e)
-          ∙ sym (recorded-append channels captured samples begin now n b.horizon (now + n - b.horizon + j / channels) (j % channels) k.all (channel_within channels j (some_channel channels k.count)) (omega arith) (omega arith))
+          ∙ ap (recorded_sample channels captured begin now b.horizon (now - b.horizon + (length samples + j) / channels)) same
+          ∙ ap (λ t. recorded_sample channels captured begin now b.horizon t (j % channels)) (let e : now - b.horizon + (length samples + j) / channels ≡ now + n - b.horizon + j / channels = omega arith in e)
+          ∙ sym (recorded_sample-append channels captured samples begin now n b.horizon (now + n - b.horizon + j / channels) (j % channels) k.all (channel_within channels j (some_channel channels k.count)) (omega arith) (omega arith))
       | inr fresh ↦
           let fresh' : channels * b.horizon ≤ channels * n + j = subst (λ m. m ≤ channels * n + j) size (subst (λ m. length b.last ≤ m + j) whole fresh) in
           let later : b.horizon ≤ n + j / channels = later_frames channels j n b.horizon k.count fresh' in
@@ -168,7 +168,7 @@ keeps_capture b c channels captured samples begin now k whole more =
 
 -- a sample of a channel at a time near now is as it is recorded
 recorded_at : (b : RecordWindow) (channels : ℕ) (captured : List ℤ) (begin now t u c : ℕ) → Keeps b channels captured begin now → c < channels → u + now ≡ t + whole_time b.time →
-    sample_at b u c ≡ recorded channels captured begin now b.horizon t c
+    sample_at b u c ≡ recorded_sample channels captured begin now b.horizon t c
 recorded_at b channels captured begin now t u c k listed same =
     let late : 2 ^ 32 ≤ begin = k.late in
     let begun : begin ≤ now = k.begun in
@@ -182,9 +182,9 @@ recorded_at b channels captured begin now t u c k listed same =
             sample_within b u c frame (omega arith) (omega arith)
             ∙ ap (λ m. get_or b.last (m * frame + c) (pos 0)) k.channels
             ∙ kept_at b channels captured begin now (channels * frame + c) k low
-            ∙ ap (recorded channels captured begin now b.horizon (now - b.horizon + (channels * frame + c) / channels)) (channel_at channels frame c listed)
-            ∙ ap (λ i. recorded channels captured begin now b.horizon (now - b.horizon + i) c) (frame_at channels frame c listed)
-            ∙ ap (λ s. recorded channels captured begin now b.horizon s c) (let e : now - b.horizon + frame ≡ t = omega arith in e)
+            ∙ ap (recorded_sample channels captured begin now b.horizon (now - b.horizon + (channels * frame + c) / channels)) (channel_at channels frame c listed)
+            ∙ ap (λ i. recorded_sample channels captured begin now b.horizon (now - b.horizon + i) c) (frame_at channels frame c listed)
+            ∙ ap (λ s. recorded_sample channels captured begin now b.horizon s c) (let e : now - b.horizon + frame ≡ t = omega arith in e)
         | inr later ↦ sample_after b u c (omega arith) ∙ sym (recorded_later channels captured begin now b.horizon t c later)
       ]
     ]

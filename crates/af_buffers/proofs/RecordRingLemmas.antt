@@ -15,7 +15,7 @@ use Rattle.af_buffers.specs.Horizons.{IsRoomFor, whole_time}
 use Rattle.af_buffers.specs.RecordBuffer.{RecordWindow, last_of, Captures, sample_at, samples_from, HoldsLast, IsRoomOf, frames_before}
 use Rattle.af_buffers.proofs.HorizonLemmas.{horizon_within, silent_cell}
 
--- what holds of one channel and of two
+-- what holds for one channel and for two holds for any count
 pub by_count : (P : ℕ → Type 0) → P 1 → P 2 → (channels : ℕ) → IsChannelCount channels → P channels
 by_count P one two channels count = elim (one_or_two channels count) [
   | inl mono ↦ subst P (sym mono) one
@@ -51,7 +51,7 @@ length-cells_from cells p h = length-map-range_with_len (λ j. cell cells (p + j
 get_or-cells_from : (cells : List ℤ) (p h j : ℕ) → j < h → get_or (cells_from cells p h) j (pos 0) ≡ cell cells (p + j)
 get_or-cells_from cells p h j low = get_or-map-range_with_len (λ j. cell cells (p + j)) 0 h j j (pos 0) low (omega arith)
 
--- h cells up to a place q, behind which samples are put, and the h cells up to the end of these
+-- h cells up to a place q, from which samples are put, and the h cells up to the end of these
 put_behind : (old new samples : List ℤ) (p p' q h : ℕ) → IsSize (length old) → h ≤ length old → length samples ≤ h → (p + h) % 2 ^ 32 ≡ q % 2 ^ 32 → p' % 2 ^ 32 ≡ (p + length samples) % 2 ^ 32 →
     ChangesRun old new q (length samples) (λ k _. get_or samples k (pos 0)) → cells_from new p' h ≡ drop (length samples) (cells_from old p h ++ samples)
 put_behind old new samples p p' q h power enough count from to run =
@@ -81,7 +81,7 @@ place_end : (t channels n : ℕ) → IsChannelCount channels → n ≤ 192000 �
 place_end t channels n count few =
     by_count (λ ch. (ch * (whole_time t - n) + ch * n) % 2 ^ 32 ≡ ch * t % 2 ^ 32 % 2 ^ 32) (omega arith) (omega arith) channels count
 
--- its first place goes on with its time
+-- its first place moves on with its time
 first_place_later : (t channels n frames : ℕ) → IsChannelCount channels → n ≤ 192000 →
     channels * (whole_time ((t + frames) % 2 ^ 32) - n) % 2 ^ 32 ≡ (channels * (whole_time t - n) + channels * frames) % 2 ^ 32
 first_place_later t channels n frames count few =
@@ -106,7 +106,7 @@ captures old new samples t channels n room few whole run =
           run;
     }
 
--- a time before the window, one of it, and one from now on
+-- a time before the window, one in it, and one from now on
 pub sample_before : (b : RecordWindow) (t channel : ℕ) → t + b.horizon < whole_time b.time → sample_at b t channel ≡ pos 0
 sample_before b t channel before =
     ap (λ p. cond (p && nat_lt t (whole_time b.time)) (get_or b.last (b.channels * (t + b.horizon - whole_time b.time) + channel) (pos 0)) (pos 0)) (lt-leb (whole_time b.time) (t + b.horizon) before)

@@ -3,7 +3,7 @@ use Rattle.std.specs.Prelude.{◌≡◌, ℕ, ◌+◌, ◌-◌, ◌*◌, ◌/◌
 use Rattle.std.specs.List.{range_with_len, All}
 use Rattle.af_time.specs.DeviceTime.{unwrap}
 use Rattle.af_sample.specs.Channels.{IsChannelCount, frame_count}
-use Rattle.af_sample.specs.Heard.{AcceptedPlay, covers, with_entry, heard, blended}
+use Rattle.af_sample.specs.Heard.{AcceptedPlay, covers, with_entry, heard_sample, sound_with_sample}
 use Rattle.af_ring.specs.Cells.{cell, ChangesRun}
 use Rattle.af_buffers.specs.Horizons.{IsHorizon, IsRoomFor, whole_time}
 
@@ -20,11 +20,11 @@ abbrev pub accepted_at : ℕ → ℕ → List ℤ → Bool → AcceptedPlay
 accepted_at now start samples preempt =
     record { start = unwrap now start; samples = samples; preempt = preempt; at = now }
 
--- the same at a buffer's time
+-- the same, accepted at a buffer's time
 abbrev pub accepted_by : PlayWindow → ℕ → List ℤ → Bool → AcceptedPlay
 accepted_by b start samples preempt = accepted_at (whole_time b.time) start samples preempt
 
--- the frames from a word to the horizon: more than a horizon's worth if it is late, 0 if it is beyond
+-- how many frames lie from a word to the end of the horizon: those before now count too, and there are none past that end
 abbrev pub frames_within : PlayWindow → ℕ → ℕ
 frames_within b start = whole_time b.time + b.horizon - unwrap (whole_time b.time) start
 
@@ -36,12 +36,12 @@ frames_beyond b start n = unwrap (whole_time b.time) start + n - (whole_time b.t
 abbrev pub EndsWithin : PlayWindow → ℕ → ℕ → Type 0
 EndsWithin b start n = unwrap (whole_time b.time) start + n ≤ whole_time b.time + b.horizon
 
--- the sample at a place of the next ones, with one entry more
+-- the next sample at a place, with one more accepted play
 abbrev pub next_with : PlayWindow → AcceptedPlay → ℕ → ℤ
 next_with b play j =
     with_entry b.channels (whole_time b.time + j / b.channels) (j % b.channels) (slice_index_or b.next j (pos 0)) play
 
--- a play is laid over the next samples: each is what one accepted play more makes of it
+-- a play is laid over the next samples: each is what one more accepted play makes of it
 pub record Plays (old new : PlayWindow) (play : AcceptedPlay) : Type 0 where
   pub time : new.time ≡ old.time
   pub channels : new.channels ≡ old.channels
@@ -55,7 +55,8 @@ pub record ChangesCovered (old new : PlayWindow) (play : AcceptedPlay) : Type 0 
   pub kept : (j : ℕ) → j < length old.ring → covers old.channels play (whole_time old.time + j / old.channels) ≡ false →
       cell new.ring (old.channels * old.time + j) ≡ cell old.ring (old.channels * old.time + j)
 
--- the first of the next frames are given out: the rest and as much silence come next, and time goes on by the number of the frames
+-- the first of the next frames are given out; the rest and as much silence come next, and time goes on by the number of the
+-- frames
 pub record HandsOut (old new : PlayWindow) (given : List ℤ) : Type 0 where
   pub time : new.time ≡ (old.time + frame_count old.channels given) % 2 ^ 32
   pub channels : new.channels ≡ old.channels
@@ -63,8 +64,8 @@ pub record HandsOut (old new : PlayWindow) (given : List ℤ) : Type 0 where
   pub first : given ≡ take (length given) old.next
   pub next : new.next ≡ drop (length given) old.next ++ replicate (length given) (pos 0)
 
--- A ring that has each next sample in its cell, that of channel c of a frame at time t at channels * t + c, and silence in every
--- other cell.
+-- A ring that has each next sample in its cell: that of channel c of a frame at time t at channels * t + c. Every other cell is
+-- silent.
 pub record HoldsNext (b : PlayWindow) : Type 0 where
   pub size : length b.next ≡ b.channels * b.horizon
   pub room : IsRoomFor (length b.next) (length b.ring)
@@ -76,20 +77,20 @@ abbrev pub CoversNoneFrom : ℕ → AcceptedPlay → ℕ → Type 0
 CoversNoneFrom channels e from = (t : ℕ) → from ≤ t → covers channels e t ≡ false
 
 -- A buffer stands for what is heard from a whole time on in so many channels: its samples are those that the accepted plays make,
--- none of which covers a time past its horizon.
+-- and none of these covers a time past its horizon.
 pub record Hears (b : PlayWindow) (number : ℕ) (accepted : List AcceptedPlay) (now : ℕ) : Type 0 where
   pub late : 2 ^ 32 ≤ now
   pub time : b.time ≡ now % 2 ^ 32
   pub count : IsChannelCount number
   pub channels : b.channels ≡ number
   pub size : length b.next ≡ number * b.horizon
-  pub each : (j : ℕ) → slice_index_or b.next j (pos 0) ≡ heard number accepted (now + j / number) (j % number)
+  pub each : (j : ℕ) → slice_index_or b.next j (pos 0) ≡ heard_sample number accepted (now + j / number) (j % number)
   pub within : All (λ e. CoversNoneFrom number e (now + b.horizon)) accepted
 
--- samples are laid over the cells from a place on: mixed in, or put there
+-- samples are laid over the cells from a place on: mixed in, or in their place
 abbrev pub OverlaysRun : List ℤ → List ℤ → ℕ → List ℤ → Bool → Type 0
 OverlaysRun old new t samples preempt =
-    ChangesRun old new t (length samples) (λ k x. blended preempt x (slice_index_or samples k (pos 0)))
+    ChangesRun old new t (length samples) (λ k x. sound_with_sample preempt x (slice_index_or samples k (pos 0)))
 
 -- the cells of a ring as a buffer: those of the n frames from its time on are its next samples
 abbrev pub next_of : List ℤ → ℕ → ℕ → ℕ → PlayWindow
@@ -101,7 +102,7 @@ next_of cells time channels n = record {
   ring = cells;
 }
 
--- a ring with room for the cells of the n frames from a time on, in which all others are silent
+-- a ring with room for the cells of the n frames from a time on; all others are silent
 pub record IsRingOf (cells : List ℤ) (time channels n : ℕ) : Type 0 where
   pub count : IsChannelCount channels
   pub horizon : IsHorizon n

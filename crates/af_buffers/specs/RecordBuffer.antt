@@ -1,4 +1,4 @@
--- What a device has captured of late: the frames up to its time, a horizon's worth of them.
+-- What a device has captured recently: the frames up to its time, a horizon's worth of them.
 use Rattle.std.specs.Prelude.{◌≡◌, ℕ, ◌+◌, ◌-◌, ◌*◌, ◌/◌, ◌%◌, ◌^◌, ◌<◌, ◌≤◌, ◌&&◌, nat_le, nat_lt, if◌then◌else◌, List, ◌++◌, length, map, drop, ℤ, pos, slice_index_or}
 use Rattle.std.specs.List.{range_with_len}
 use Rattle.af_time.specs.DeviceTime.{unwrap}
@@ -15,7 +15,7 @@ pub record RecordWindow : Type 0 where
   pub last : List ℤ
   pub ring : List ℤ
 
--- samples are appended to the last ones, as many of which are given up, and time goes on by the number of their frames
+-- samples are appended to the last ones, as many of the oldest are given up, and time goes on by the number of their frames
 pub record Captures (old new : RecordWindow) (samples : List ℤ) : Type 0 where
   pub time : new.time ≡ (old.time + frame_count old.channels samples) % 2 ^ 32
   pub channels : new.channels ≡ old.channels
@@ -30,7 +30,7 @@ frames_before b start = whole_time b.time - unwrap (whole_time b.time) start
 abbrev pub frames_until_past : RecordWindow → ℕ → ℕ → ℕ
 frames_until_past b start n = unwrap (whole_time b.time) start + n - whole_time b.time
 
--- the sample of a channel at a whole time: one of the last, and silence further back and from now on
+-- the sample of a channel at a whole time: one of the last ones, and silence before them and from now on
 abbrev pub sample_at : RecordWindow → ℕ → ℕ → ℤ
 sample_at b t channel =
     if nat_le (whole_time b.time) (t + b.horizon) && nat_lt t (whole_time b.time)
@@ -51,8 +51,7 @@ pub record HoldsLast (b : RecordWindow) : Type 0 where
   pub room : IsRoomFor (length b.last) (length b.ring)
   pub last : (j : ℕ) → j < length b.last → cell b.ring (first_place b + j) ≡ slice_index_or b.last j (pos 0)
 
--- A buffer keeps what was recorded in so many channels: of all that was captured from a begin on up to a whole time, its samples
--- are those of the last horizon.
+-- A buffer keeps what was recorded in so many channels: its samples are the last horizon of all that was captured since a begin.
 pub record Keeps (b : RecordWindow) (number : ℕ) (captured : List ℤ) (begin now : ℕ) : Type 0 where
   pub late : 2 ^ 32 ≤ begin
   pub begun : begin ≤ now

@@ -1,4 +1,4 @@
-// Where a time is from a buffer's time, and where its frame is in a ring.
+// How far a time is from a buffer's time, and the cell of its frame in a ring.
 ghost use Rattle.std.specs.Prelude.{◌≡◌, ◌*◌, ◌%◌, ◌^◌};
 ghost use Rattle.af_buffers.specs.Places.{IsPlace};
 

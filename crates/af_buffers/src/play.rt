@@ -1,4 +1,6 @@
-// The next frames of a device.
+// The frames that a device is to play next.
+// Layout: a ring (`time_ring.rt`). The sample of channel c at time t is in the cell of channels * t + c. Cells past the horizon
+// are silent, so a time that goes on finds silence there.
 ghost use Rattle.std.specs.Prelude.{◌≡◌, ◌≤◌, ◌*◌, ◌%◌, ◌^◌, length, IfOk, pos, replicate};
 ghost use Rattle.af_limits.specs.Limits.{longest_tick, longest_play};
 ghost use Rattle.af_ring.specs.Cells.{ClearsRun, IsRunAt};
@@ -13,14 +15,14 @@ use af_time::{DevTime, OutOfMemory};
 use std::alloc::Global;
 use std::marker::Model;
 
-/// A device's time, and its frames from then on, each with one sample for each channel. They lie in a ring: the sample of channel c
-/// at time t in the cell of channels * t + c. All other cells are silent.
+/// A device's time, and its frames from then on, each with one sample for each channel. They are in a ring: the sample of channel
+/// c at time t is in the cell of channels * t + c. All other cells are silent.
 #[derive(Drop)]
 pub struct PlayBuffer {
     ring: TimeRing,
     time: DevTime,
     channels: u8,
-    // How many frames are next. The code needs it nowhere but for a start: the ring is silent past them.
+    // How many frames are next. The code reads it only for the bound of a start: the ring is silent past the horizon.
     horizon: u32,
 }
 
@@ -74,7 +76,8 @@ impl PlayBuffer {
         self.time
     }
 
-    /// The frames from `start` to the horizon: more than a horizon's worth if `start` is late, 0 if it is beyond.
+    /// How many frames lie from `start` to the end of the horizon. Those before now count too, and there are none if `start` is
+    /// past that end.
     pub fn frames_within(&self, start: DevTime) -> u32
         ensures { result ≡ frames_within self.now start.0 }
     {
@@ -103,7 +106,7 @@ impl PlayBuffer {
         &self.ring
     }
 
-    /// Mixes frames from a time on into the next ones, each sum saturated, or puts them there. What they say of times before now is
+    /// Mixes frames from a time on into the next ones, each sum saturated, or puts them there. Frames for times before now are
     /// dropped. At most 16368 samples, which are whole frames and end within the horizon.
     pub fn play(&mut self, start: DevTime, samples: &[i16], preempt: bool)
         requires count { length samples.now ≤ longest_play }
@@ -142,7 +145,7 @@ impl PlayBuffer {
     }
 }
 
-// Mixes samples into the cells from one on, or puts them there.
+// Mixes samples into the cells from one on, or replaces those.
 fn overlay(ring: &mut TimeRing, cell: DevTime, samples: &[i16], preempt: bool)
     requires { length samples.now ≤ length ring.old }
     ensures { OverlaysRun ring.old ring.new cell.0 samples.now preempt }

@@ -1,4 +1,5 @@
-// The last frames of a device.
+// The frames that a device captured last.
+// Layout: a ring (`time_ring.rt`). The sample of channel c at time t is in the cell of channels * t + c.
 ghost use Rattle.std.specs.Prelude.{◌≡◌, ◌≤◌, ◌*◌, ◌%◌, ◌^◌, length, IfOk, pos, replicate};
 ghost use Rattle.af_limits.specs.Limits.{longest_tick, longest_record};
 ghost use Rattle.af_ring.specs.Cells.{PutsRun};
@@ -13,8 +14,8 @@ use af_time::{DevTime, OutOfMemory};
 use std::alloc::Global;
 use std::marker::Model;
 
-/// A device's time, and its frames up to then, each with one sample for each channel. They lie in a ring: the sample of channel c
-/// at time t in the cell of channels * t + c.
+/// A device's time, and its frames up to then, each with one sample for each channel. They are in a ring: the sample of channel c
+/// at time t is in the cell of channels * t + c.
 #[derive(Drop)]
 pub struct RecordBuffer {
     ring: TimeRing,
@@ -108,7 +109,7 @@ impl RecordBuffer {
         requires whole { AreWholeFrames self.now.channels out.old }
         ensures { out.new ≡ samples_from self.now start.0 (frame_count self.now.channels out.new) }
     {
-        // The kept frames among them are at begin..end.
+        // the frames among them that are still kept are at begin..end
         let channels = usize::from(self.channels);
         let before = self.frames_before(start) as usize;
         let end = (out.len() / channels).min(before);

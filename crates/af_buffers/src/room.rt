@@ -1,9 +1,9 @@
-// The ring that holds a horizon.
+// How large a ring is that holds a horizon.
 ghost use Rattle.std.specs.Prelude.{◌^◌, ◌≤◌};
 ghost use Rattle.af_buffers.specs.Horizons.{IsRoomFor};
 
-/// The bits of the least power of two that is not below the samples of a horizon, 32,000 of one channel at 8,000 frames a second to
-/// 384,000 of two at 48,000.
+/// The bits of the least power of two that is not below the samples of a horizon, 32,000 of one channel at 8,000 frames a second
+/// to 384,000 of two at 48,000.
 pub fn bits_for(samples: u32) -> u32
     requires some { 32000 ≤ samples }
     requires few { samples ≤ 384000 }

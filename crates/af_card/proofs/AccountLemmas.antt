@@ -1,4 +1,4 @@
--- How what lies between a device and its program keeps to the acts, act by act.
+-- What stands between a device and its program keeps to the acts, act by act.
 use Rattle.std.proofs.Common.{◌≡◌, ℕ, ◌+◌, ◌-◌, ◌*◌, ◌/◌, ◌≤◌, ◌<◌, ◌⊎◌, inl, inr, Bool, true, false, List, [], ◌∷◌, ◌++◌, length, min, take, drop, refl, sym, ap, ◌∙◌, subst, arith, is_some, append_assoc, append-nil, add-zero}
 use Rattle.std.specs.List.{fold}
 use Rattle.std.proofs.lemmas.List.Sums.{fold-append}
@@ -10,7 +10,7 @@ use Rattle.std.specs.declared.option.Option.TheVariants.{None, Some}
 use Rattle.af_io.specs.Observed.{Appended, Unchanged}
 use Rattle.af_program.specs.declared.starts.Starts.{Starts}
 use Rattle.af_program.specs.Acts.{ToldAct, gave, took, ended, captured, emitted, runs_in, runs_after}
-use Rattle.af_program.specs.Waits.{NextFits, may_come, begun_once_more, after_end, starts_ended}
+use Rattle.af_program.specs.Waits.{NextFits, may_come, begun_once_more, after_end, starts_after_end}
 use Rattle.af_program.proofs.StartLemmas.{begun-fits, next-failed, as-many, ended-fits, next-ended}
 use Rattle.af_world.specs.declared.card_kind.CardKind.{CardKind}
 use Rattle.af_world.specs.declared.card_kind.CardKind.TheVariants as kind
@@ -21,7 +21,7 @@ use Rattle.af_card.specs.Fed.{RunFits, PastRunFits, HasWholeFrames, CapturedBy, 
 use Rattle.af_card.specs.Lost.{lost_of, lost_in, lost_now, lost_before, lost_after, most_lost}
 use Rattle.af_card.proofs.FedLemmas.{captured-gave, handed-gave, captured-took, handed-took, captured-emitted, emitted-in-step, handed-part, new-run-fits, less-left}
 use Rattle.af_card.proofs.LostLemmas.{new-lost, took-lost, never-lost, untaken-lost, part-lost}
-use Rattle.af_card.specs.Between.{BetweenState, Account, Accounts, RunningFits, began_of, running_begun, CapturesBy, EmitsBy, IsWhole, LeavesLess, gives_sound}
+use Rattle.af_card.specs.Between.{BetweenState, Account, Accounts, RunningFits, began_of, running_since, CapturesBy, EmitsBy, IsWhole, LeavesLess, gives_sound}
 
 -- some more acts
 pub Accounts-on : (b b' : BetweenState) (before after : Option (List ToldAct)) (acts : List ToldAct) → Accounts b before → Appended before acts after →
@@ -44,12 +44,12 @@ Accounts-same b b' (Some before) (Some after) fits same on runs =
 
 -- Runs
 
--- while a program runs a run is told of it
+-- while a program runs, the acts have a run for it
 run_of : (b : BetweenState) (r : Running) (now : Option Run) → RunningFits b (Some r) now → (run : Run) × (now ≡ Some run) × RunFits b.shape run b.left b.owed b.tick
 run_of b r None fits = grind arith
 run_of b r (Some run) fits = (run, refl, fits)
 
--- something of the run has changed, and of what lies between
+-- something of the run has changed, and of what stands between the two
 Account-run : (b : BetweenState) (r r' : Running) (ledger : Ledger) (left owed : List ℕ) (tick : Option ℕ) (lost : ℕ) (run : Run) → b.running ≡ Some r → r'.began ≡ r.began →
     Account b ledger → lost ≡ lost_of b.shape (record ledger { running = Some run }) → RunFits b.shape run left owed tick →
     Account (record b { running = Some r'; left = left; owed = owed; tick = tick; lost = lost }) (record ledger { running = Some run })
@@ -62,14 +62,14 @@ Account-run b r r' ledger left owed tick lost run is began account counts fits =
   lost = counts;
 }
 
--- the count stays where nothing more is lost
+-- the count stays if nothing more is lost
 still-lost : (b : BetweenState) (ledger : Ledger) (before after : Run) → Account b ledger → ledger.running ≡ Some before → lost_in b.shape after ≡ lost_in b.shape before →
     b.lost ≡ lost_of b.shape (record ledger { running = Some after })
 still-lost b ledger before after account is same =
     account.lost ∙ ap (λ now. min (lost_before b.shape ledger.past + lost_now b.shape now) most_lost) is ∙
     ap (λ n. min (lost_before b.shape ledger.past + n) most_lost) (sym same)
 
--- so many frames more are lost
+-- so many more frames are lost
 more-lost : (b : BetweenState) (ledger : Ledger) (before after : Run) (frames : ℕ) → Account b ledger → ledger.running ≡ Some before →
     lost_in b.shape after ≡ lost_in b.shape before + frames → min (b.lost + frames) most_lost ≡ lost_of b.shape (record ledger { running = Some after })
 more-lost b ledger before after frames account is more =
@@ -217,12 +217,12 @@ Account-idles b sound none ledger account = idles ledger.running refl (subst (λ
     lost = account.lost;
   })
 
--- what the count is after a sound more was emitted to a program
+-- the count after one more sound was emitted to a program
 abbrev pub CountsMore : BetweenState → List ℕ → ℕ → Type 0
 CountsMore b sound lost = (ledger : Ledger) (run : Run) → Account b ledger → ledger.running ≡ Some run → RunFits b.shape run b.left b.owed (Some (length sound)) →
     lost ≡ lost_of b.shape (record ledger { running = Some (record run { emitted = sound ∷ run.emitted }) })
 
--- no card loses any
+-- only a card loses sound
 pub counts-none : (b : BetweenState) (sound : List ℕ) → (b.shape.kind ≡ kind.Speaker) ⊎ (b.shape.kind ≡ kind.Microphone) → CountsMore b sound b.lost
 counts-none b sound no-card ledger run account is fits =
     still-lost b ledger run (record run { emitted = sound ∷ run.emitted }) account is
@@ -233,7 +233,7 @@ pub counts-all : (b : BetweenState) (sound : List ℕ) → b.shape.kind ≡ kind
 counts-all b sound card ledger run account is fits =
     more-lost b ledger run (record run { emitted = sound ∷ run.emitted }) (length sound / b.shape.frame_bytes) account is (untaken-lost b.shape run b.left b.owed sound card fits)
 
--- a tick is emitted of a run, and nothing is taken of it now
+-- a tick is emitted to a run, and nothing of it is taken now
 pub Account-untaken : (b : BetweenState) (r r' : Running) (sound owed : List ℕ) (lost : ℕ) → b.running ≡ Some r → r'.began ≡ r.began → b.tick ≡ Some (length sound) →
     ((run : Run) → HandedBy b.shape.kind b.shape run b.owed → HandedBy b.shape.kind b.shape (record run { emitted = sound ∷ run.emitted }) owed) → CountsMore b sound lost →
     (ledger : Ledger) → Account b ledger → Account (record b { running = Some r'; owed = owed; tick = None; lost = lost }) (ledger_after ledger (emitted sound))
@@ -278,7 +278,7 @@ Account-passed b r r' sound count rest frames is began tick card none most less 
 
 -- Starts
 
--- a run is told of where a program runs, and of none where none does
+-- the acts have a run exactly if a program runs
 none_of : (b : BetweenState) (now : Option Run) → RunningFits b None now → now ≡ None
 none_of b None fits = refl
 none_of b (Some run) fits = grind arith
@@ -289,11 +289,11 @@ empty_of b (Some run) fits = grind arith
 
 -- a program begins to run
 pub Account-begun : (b : BetweenState) (at : ℕ) (starts : Starts) → 1 ≤ b.shape.frame_bytes → b.running ≡ None → may_come b.starts at ≡ true → starts ≡ begun_once_more b.starts → b.tick ≡ None →
-    (ledger : Ledger) → Account b ledger → Account (record b { running = Some (running_begun at); starts = starts }) (ledger_begun ledger at)
+    (ledger : Ledger) → Account b ledger → Account (record b { running = Some (running_since at); starts = starts }) (ledger_begun ledger at)
 Account-begun b at starts some none may begun tick ledger account =
     let empty = empty_of b ledger.running (subst (λ x. RunningFits b x ledger.running) none account.running) in
     let next : NextFits b.starts None ledger.starts = subst (λ x. NextFits b.starts (began_of x) ledger.starts) none account.next in
-    subst (λ s. Account (record b { running = Some (running_begun at); starts = s }) (ledger_begun ledger at)) (sym begun) (record {
+    subst (λ s. Account (record b { running = Some (running_since at); starts = s }) (ledger_begun ledger at)) (sym begun) (record {
       past = record { past = account.past.past; idle = account.past.idle };
       running = subst (λ x. RunFits b.shape new_run x b.owed b.tick) (sym empty.0) (subst (λ x. RunFits b.shape new_run [] x b.tick) (sym empty.1)
           (subst (λ x. RunFits b.shape new_run [] [] x) (sym tick) (new-run-fits b.shape.kind b.shape refl some)));
@@ -344,7 +344,7 @@ Account-ended b r at starts is tick some less after ledger account =
     ) in
     subst (λ now. Account (record b { running = None; left = []; owed = []; starts = starts }) (ledger_ended now ledger at)) (sym told.1)
     (subst (λ s. Account (record b { running = None; left = []; owed = []; starts = s })
-    (record ledger { running = None; past = run ∷ ledger.past; starts = starts_ended ledger.starts at })) (sym after) (record {
+    (record ledger { running = None; past = run ∷ ledger.past; starts = starts_after_end ledger.starts at })) (sym after) (record {
       past = record { past = All-cons (PastRunFits b.shape) run ledger.past past account.past.past; idle = account.past.idle };
       running = (refl, refl);
       starts = ended-fits b.starts.restarts ledger.starts at account.starts;

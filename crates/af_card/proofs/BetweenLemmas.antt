@@ -1,4 +1,4 @@
--- What each call on what lies between a device and its program keeps of the acts.
+-- What each call on what stands between a device and its program keeps of the acts.
 use Rattle.std.proofs.Common.{◌≡◌, ℕ, ◌-◌, ◌≤◌, true, false, List, [], ◌∷◌, ◌++◌, length, min, take, drop, refl, sym, ap, ◌∙◌, subst, arith, is_some, ◌≢◌, ◌⊎◌, inl, inr, ◌==◌, ◌/◌, ◌%◌, eqb-true}
 use Rattle.std.proofs.Math.Nat.{div-add-mod}
 use Rattle.std.specs.declared.option.Option.{Option}
@@ -21,7 +21,7 @@ use Rattle.af_card.specs.declared.shape.Shape.{Shape}
 use Rattle.af_card.specs.declared.running.Running.{Running}
 use Rattle.af_card.specs.Fed.{IsSilent}
 use Rattle.af_card.specs.Lost.{lost_after, without_room}
-use Rattle.af_card.specs.Between.{BetweenState, running_begun, Accounts, PassesOn, CapturesBy, CapturesOf, IsWhole, CanCapture, LeavesLess, EmitsBy, EmitsTo, gives_sound}
+use Rattle.af_card.specs.Between.{BetweenState, running_since, Accounts, PassesOn, CapturesBy, CapturesOf, IsWhole, CanCapture, LeavesLess, EmitsBy, EmitsTo, gives_sound}
 use Rattle.af_card.proofs.AccountLemmas.{Accounts-on, Accounts-same, Account-gave, Account-took, Account-knows, Account-untaken, Account-passed, Account-idle, Account-idles, Account-silent, Account-front, Account-begun, Account-failed, Account-ended, counts-none, counts-all}
 use Rattle.af_card.proofs.FedLemmas.{handed-nothing, handed-piece, handed-lost}
 
@@ -124,7 +124,7 @@ Accounts-passed b r r' sound (takes.Bytes n) owed acts mid acts' is began tick c
 Accounts-passed b r r' sound takes.NoRoom owed acts mid acts' is began tick card none told passes fits = unpassed b r r' sound owed acts mid acts' is began tick card none told passes fits
 Accounts-passed b r r' sound takes.Ended owed acts mid acts' is began tick card none told passes fits = unpassed b r r' sound owed acts mid acts' is began tick card none told passes fits
 
--- The same, where what runs is known as a choice alone
+-- The same, if what runs is known only as a choice
 
 pub Accounts-owed-running : (b : BetweenState) (now : Option Running) (sound : List ℕ) (acts acts' : Option (List ToldAct)) → b.running ≡ now → now ≢ None →
     b.tick ≡ Some (length sound) → b.shape.kind ≡ kind.Speaker → EmitsTo now b.shape b.owed (length sound) → Appended acts (emitted sound ∷ []) acts' → Accounts b acts →
@@ -147,7 +147,7 @@ Accounts-no-room b r sound acts acts' is tick card told fits =
     subst (λ x. Accounts (record b { running = x; tick = None; lost = lost_after b.lost (length sound) b.shape.frame_bytes }) acts') (sym is)
     (Accounts-lost b r r sound acts acts' is refl tick card told fits)
 
--- nothing stands in a list of no bytes
+-- a list of no bytes is empty
 pub empty-where : (owed seen : List ℕ) → seen ≡ owed → (length seen == 0) ≡ true → owed ≡ []
 empty-where owed [] is none = sym is
 empty-where owed (x ∷ seen) is none = grind arith
@@ -156,9 +156,9 @@ empty-where owed (x ∷ seen) is none = grind arith
 
 pub Accounts-begun : (b : BetweenState) (at : ℕ) (words : List (List ℕ)) (result : Launched) (starts : Starts) (acts acts' : Option (List ToldAct)) → result ≡ launch.Runs →
     1 ≤ b.shape.frame_bytes → b.running ≡ None → may_come b.starts at ≡ true → starts ≡ begun_once_more b.starts → b.tick ≡ None →
-    Appended acts (launched at words result ∷ []) acts' → Accounts b acts → Accounts (record b { running = Some (running_begun at); starts = starts }) acts'
+    Appended acts (launched at words result ∷ []) acts' → Accounts b acts → Accounts (record b { running = Some (running_since at); starts = starts }) acts'
 Accounts-begun b at words launch.Runs starts acts acts' is some none may begun tick told fits =
-    Accounts-on b (record b { running = Some (running_begun at); starts = starts }) acts acts' (launched at words launch.Runs ∷ []) fits told
+    Accounts-on b (record b { running = Some (running_since at); starts = starts }) acts acts' (launched at words launch.Runs ∷ []) fits told
     (Account-begun b at starts some none may begun tick) (λ runs same. refl)
 Accounts-begun b at words launch.Failed starts acts acts' is some none may begun tick told fits = grind arith
 Accounts-begun b at words launch.OutOfMemory starts acts acts' is some none may begun tick told fits = grind arith
@@ -181,7 +181,7 @@ Accounts-ended b r at starts left owed acts acts' is tick some less after no-lef
     (Accounts-on b (record b { running = None; left = []; owed = []; starts = starts }) acts acts' (ended at ∷ []) fits told
     (Account-ended b r at starts is tick some less after) (λ runs same. refl)))
 
--- captures, where what runs is known as a choice alone
+-- captures, if what runs is known only as a choice
 
 pub Accounts-silence : (b : BetweenState) (now : Option Running) (sound : List ℕ) (acts acts' : Option (List ToldAct)) → b.running ≡ now → b.tick ≡ None →
     (now ≡ None) ⊎ (gives_sound b.shape.kind ≡ false) → IsSilent b.shape.silence sound → Appended acts (captured sound ∷ []) acts' → Accounts b acts →
@@ -199,7 +199,7 @@ Accounts-given-sound b (Some r) bytes sound left acts acts' is runs tick gives c
     (subst (λ x. Accounts (record b { left = drop bytes b.left; tick = Some (length x) }) acts') (sym front)
     (Accounts-front b r bytes acts acts' is tick gives can (subst (λ x. Appended acts (captured x ∷ []) acts') front told) fits))
 
--- what the tests say
+-- what the tests mean
 
 whole-where : (width bytes : ℕ) → (bytes % width == 0) ≡ true → IsWhole width bytes
 whole-where width bytes none =
@@ -216,7 +216,7 @@ captures-of : (running : Option Running) (shape : Shape) (left : List ℕ) (byte
 captures-of None shape left bytes most whole = tt
 captures-of (Some running) shape left bytes most whole = captures-where shape.kind shape left bytes most whole
 
--- whole frames that are there may be captured
+-- whole frames that the program gave may be captured
 pub can-capture : (b : BetweenState) (bytes : ℕ) → b.tick ≡ None → bytes ≤ length b.left → (bytes % b.shape.frame_bytes == 0) ≡ true → CanCapture b bytes
 can-capture b bytes tick most whole = (tick, captures-of b.running b.shape b.left bytes most (whole-where b.shape.frame_bytes bytes whole))
 

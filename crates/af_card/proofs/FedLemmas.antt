@@ -1,4 +1,4 @@
--- How what a program gave and was handed keeps to the promise, as more of it comes.
+-- What a program gave and was handed keeps to the promise, as more of it comes.
 use Rattle.std.proofs.Common.{◌≡◌, ℕ, ◌+◌, ◌-◌, ◌*◌, ◌≤◌, ◌<◌, Bool, true, false, List, [], ◌∷◌, ◌++◌, length, min, take, drop, refl, sym, ap, ◌∙◌, subst, arith, append_assoc, append-nil}
 use Rattle.std.proofs.lemmas.List.Elements.{All-nil}
 use Rattle.std.proofs.Math.Seq.{take-add}
@@ -85,14 +85,14 @@ handed-lost kind.Card is shape run owed sound h =
       part = h.part;
     }
 
--- a first part of a sound, and the rest of the frame where it ends
+-- a first part of a sound, and the rest of the frame in which it ends
 parts-passed : (sound : List ℕ) (count rest frames width : ℕ) → count ≤ length sound → count + rest ≡ frames * width →
     take count sound ++ take (min rest (length sound - count)) (drop count sound) ≡ take (frames * width) sound
 parts-passed sound count rest frames width most is =
     ap (λ n. take count sound ++ take (min rest n) (drop count sound)) (sym (length-drop count sound)) ∙
     ap (λ xs. take count sound ++ xs) (take_min rest (drop count sound)) ∙ sym (take-add count rest sound) ∙ ap (λ n. take n sound) is
 
--- a card that is owed nothing takes a first part of a sound, and is owed the rest of the frame where it ends
+-- a card that is owed nothing takes a first part of a sound, and is owed the rest of the frame in which it ends
 pub handed-part : (k : CardKind) → k ≡ kind.Card → (shape : Shape) (run : Run) (sound : List ℕ) (count rest frames : ℕ) → count ≤ length sound → rest < shape.frame_bytes →
     count + rest ≡ frames * shape.frame_bytes → HandedBy k shape run [] →
     HandedBy k shape (record run { emitted = sound ∷ run.emitted; taken = run.taken ++ take count sound }) (take (min rest (length sound - count)) (drop count sound))
@@ -128,7 +128,7 @@ new-run-fits kind.Card shape is some = record {
   in_step = tt;
 }
 
--- less than a frame is left, of a loudspeaker too, which gives nothing
+-- less than a frame is left; also for a loudspeaker, which gives nothing
 pub less-left : (k : CardKind) (shape : Shape) (run : Run) (left : List ℕ) → 1 ≤ shape.frame_bytes → LeavesLess k shape left → CapturedBy k shape run left →
     length left < shape.frame_bytes
 less-left kind.Speaker shape run left some less c = let none = ap length c.none in grind arith

@@ -1,4 +1,4 @@
--- What a card loses is whole frames, and how many they are follows from what it was emitted and took.
+-- What a card loses is whole frames. How many follows from what was emitted to it and what it took.
 use Rattle.std.proofs.Common.{◌≡◌, ℕ, ◌+◌, ◌-◌, ◌*◌, ◌/◌, ◌≤◌, ◌<◌, ◌⊎◌, inl, inr, List, [], ◌∷◌, ◌++◌, length, min, take, drop, refl, sym, ap, ◌∙◌, subst, arith}
 use Rattle.std.proofs.Math.Nat.{add-mul, add-mul-div_right, div-eq_of_lt, mul-div_cancel, mul-le-mul_right, lt_of_mul-lt-mul_right, zero-div}
 use Rattle.std.specs.List.{All}
@@ -27,7 +27,7 @@ lost-is width emitted taken owed frames less is =
     let left : emitted - taken ≡ owed + frames * width = omega arith in
     ap (λ n. n / width) left ∙ counts width owed frames less
 
--- of whole frames so many are a front, and the rest is whole frames
+-- a front of whole frames leaves whole frames
 front-whole : (width : ℕ) (sound : List ℕ) (count frames : ℕ) → length sound ≡ frames * width →
     (lost : ℕ) × (length sound ≡ length (take (count * width) sound) + lost * width)
 front-whole width sound count frames is = elim (cases_lt frames count) [
@@ -50,7 +50,7 @@ front-whole width sound count frames is = elim (cases_lt frames count) [
       let whole : frames * width ≡ count * width + (frames - count) * width = ap (λ n. n * width) split ∙ add-mul count (frames - count) width in
       omega (arith, long, is)
 
--- of sounds in whole frames, of which fronts of whole frames were passed on, whole frames are lost
+-- if fronts of whole frames of sounds were passed on, whole frames are lost
 passed-whole : (width : ℕ) (sounds : List (List ℕ)) (passed : List ℕ) → All (HasWholeFrames width) sounds → IsPassed width sounds passed →
     (lost : ℕ) × (length (sound_of sounds) ≡ length passed + lost * width)
 passed-whole width [] passed whole none =
@@ -87,14 +87,14 @@ tick-whole width bytes (c ∷ cs) emitted step whole =
     let frames = All-head (HasWholeFrames width) c cs whole in
     (frames.0, sym step.0 ∙ frames.1)
 
--- what a card is emitted in a tick is whole frames
+-- what is emitted to a card in a tick is whole frames
 sound-whole : (k : CardKind) → k ≡ kind.Card → (shape : Shape) (run : Run) (left sound : List ℕ) → CapturedBy k shape run left →
     IsInStep (Some (length sound)) run.captured run.emitted → (frames : ℕ) × (length sound ≡ frames * shape.frame_bytes)
 sound-whole kind.Speaker is shape run left sound captured step = grind arith
 sound-whole kind.Microphone is shape run left sound captured step = grind arith
 sound-whole kind.Card is shape run left sound captured step = tick-whole shape.frame_bytes (length sound) run.captured run.emitted step captured.whole
 
--- of a card: what it lost so far
+-- what a card lost so far
 card-lost : (k : CardKind) → k ≡ kind.Card → (shape : Shape) (run : Run) (left owed : List ℕ) (tick : Option ℕ) → CapturedBy k shape run left → HandedBy k shape run owed →
     IsInStep tick run.captured run.emitted → (lost : ℕ) × (length (sound_of run.emitted) ≡ length run.taken + length owed + lost * shape.frame_bytes)
 card-lost kind.Speaker is shape run left owed tick captured handed step = grind arith
@@ -114,7 +114,7 @@ by-card kind.Speaker is width emitted taken = grind arith
 by-card kind.Microphone is width emitted taken = grind arith
 by-card kind.Card is width emitted taken = refl
 
--- a sound more is emitted, of which so many frames found no room
+-- one more sound is emitted, and so many of its frames found no room
 lost-more : (width emitted taken owed lost sound taken' owed' frames : ℕ) → owed < width → owed' < width → emitted ≡ taken + owed + lost * width →
     taken' + owed' + frames * width ≡ taken + owed + sound → (emitted + sound - taken') / width ≡ (emitted - taken) / width + frames
 lost-more width emitted taken owed lost sound taken' owed' frames less less' is parts =
@@ -149,7 +149,7 @@ took-lost shape run left owed tick count most fits = by-kind shape.kind refl whe
   by-kind kind.Microphone is = subst (λ x. lost_by x shape.frame_bytes run.emitted (run.taken ++ take count owed) ≡ lost_by x shape.frame_bytes run.emitted run.taken) (sym is) refl
   by-kind kind.Card is = by-card shape.kind is shape.frame_bytes run.emitted (run.taken ++ take count owed) ∙ of-card is ∙ sym (by-card shape.kind is shape.frame_bytes run.emitted run.taken)
 
--- Where it is no card nothing is lost.
+-- A device that is no card loses nothing.
 pub never-lost : (k : CardKind) → (k ≡ kind.Speaker) ⊎ (k ≡ kind.Microphone) → (width : ℕ) (emitted emitted' : List (List ℕ)) (taken : List ℕ) →
     lost_by k width emitted' taken ≡ lost_by k width emitted taken
 never-lost kind.Speaker no-card width emitted emitted' taken = refl
@@ -157,7 +157,7 @@ never-lost kind.Microphone no-card width emitted emitted' taken = refl
 never-lost kind.Card (inl is) width emitted emitted' taken = grind arith
 never-lost kind.Card (inr is) width emitted emitted' taken = grind arith
 
--- A sound for which a card has no room is lost whole.
+-- A sound for which a card has no room is lost as a whole.
 pub untaken-lost : (shape : Shape) (run : Run) (left owed sound : List ℕ) → shape.kind ≡ kind.Card → RunFits shape run left owed (Some (length sound)) →
     lost_in shape (record run { emitted = sound ∷ run.emitted }) ≡ lost_in shape run + length sound / shape.frame_bytes
 untaken-lost shape run left owed sound is fits =
@@ -170,7 +170,7 @@ untaken-lost shape run left owed sound is fits =
     by-card shape.kind is width (sound ∷ run.emitted) run.taken ∙ ap (λ n. (n - length run.taken) / width) (length-append (sound_of run.emitted) sound) ∙ more ∙
     ap (λ n. n + frames.0) (sym (by-card shape.kind is width run.emitted run.taken)) ∙ ap (λ n. lost_in shape run + n) (sym many)
 
--- Of a sound of which a card took a part, what neither was taken nor is owed is lost.
+-- If a card took a part of a sound, the part that was neither taken nor is owed is lost.
 pub part-lost : (shape : Shape) (run : Run) (left sound : List ℕ) (count rest frames : ℕ) → shape.kind ≡ kind.Card → count ≤ length sound → rest < shape.frame_bytes →
     count + rest ≡ frames * shape.frame_bytes → RunFits shape run left [] (Some (length sound)) →
     lost_in shape (record run { emitted = sound ∷ run.emitted; taken = run.taken ++ take count sound }) ≡

@@ -1,4 +1,4 @@
--- What lies between a device and its program, and how it fits what the acts tell.
+-- What stands between a device and its program, and how it fits the acts.
 use Rattle.std.specs.Prelude.{◌≡◌, ⊤, ℕ, ◌+◌, ◌*◌, ◌/◌, ◌%◌, ◌≤◌, ◌<◌, ◌-◌, Bool, true, false, not, ◌&&◌, ◌||◌, ◌==◌, nat_le, if◌then◌else◌, List, [], ◌∷◌, length, min, take, drop, replicate, is_some, is_none}
 use Rattle.std.specs.declared.option.Option.{Option}
 use Rattle.std.specs.declared.option.Option.TheVariants.{None, Some}
@@ -33,10 +33,10 @@ new_between shape restarts =
     record { shape = shape; starts = no_starts restarts; running = None; left = []; owed = []; tick = None; lost = 0 }
 
 -- a program that was started at this moment
-abbrev pub running_begun : ℕ → Running
-running_begun at = record { began = at; gave = at; took = at; is_closed = false; is_over = false }
+abbrev pub running_since : ℕ → Running
+running_since at = record { began = at; gave = at; took = at; is_closed = false; is_over = false }
 
--- after a take, by which there is a whole frame to capture or not
+-- after a take; the flag says whether there is a whole frame to capture
 abbrev pub after_take : Gave → Bool → ℕ → Running → Running
 after_take (gives.Bytes n) true at running = record running { gave = at }
 after_take (gives.Bytes n) false at running = running
@@ -62,7 +62,7 @@ takes_sound kind.Card = true
 
 -- How it fits the ledger
 
--- one program runs for both, or for none
+-- a program runs in both, or in neither
 abbrev pub RunningFits : BetweenState → Option Running → Option Run → Type 0
 RunningFits b None None = (b.left ≡ []) × (b.owed ≡ [])
 RunningFits b None (Some run) = ⊥
@@ -82,7 +82,7 @@ pub record Account (b : BetweenState) (ledger : Ledger) : Type 0 where
   pub next : NextFits b.starts (began_of b.running) ledger.starts
   pub lost : b.lost ≡ lost_of b.shape ledger
 
--- if the acts are observed, all of this holds of them
+-- if the acts are observable, all of this holds of them
 abbrev pub Accounts : BetweenState → Option (List ToldAct) → Type 0
 Accounts b None = ⊤
 Accounts b (Some acts) = Account b (ledger_of acts) × (runs_in acts ≡ is_some b.running)
@@ -91,7 +91,7 @@ Accounts b (Some acts) = Account b (ledger_of acts) × (runs_in acts ≡ is_some
 abbrev pub IsWhole : ℕ → ℕ → Type 0
 IsWhole width bytes = (frames : ℕ) × (bytes ≡ frames * width)
 
--- a first part of a sound was taken, and the rest of the frame where it ends is owed, as far as it is there
+-- A first part of a sound was taken. The rest of the frame in which it ends is owed, as far as the sound has it.
 pub record PassesPart (n : ℕ) (sound : List ℕ) (width : ℕ) (owed : List ℕ) (acts acts' : Option (List ToldAct)) : Type 0 where
   pub rest : ℕ
   pub some : 1 ≤ n
@@ -116,7 +116,7 @@ CapturesBy kind.Speaker shape left bytes = ⊤
 CapturesBy kind.Microphone shape left bytes = (bytes ≤ length left) × IsWhole shape.frame_bytes bytes
 CapturesBy kind.Card shape left bytes = (bytes ≤ length left) × IsWhole shape.frame_bytes bytes
 
--- what a program gave is captured by whole frames
+-- what a program gave is captured in whole frames
 abbrev pub CapturesOf : Option Running → Shape → List ℕ → ℕ → Type 0
 CapturesOf None shape left bytes = ⊤
 CapturesOf (Some running) shape left bytes = CapturesBy shape.kind shape left bytes
@@ -137,7 +137,7 @@ CanCapture b bytes = (b.tick ≡ None) × CapturesOf b.running b.shape b.left by
 abbrev pub CanEmit : BetweenState → ℕ → Type 0
 CanEmit b bytes = (b.tick ≡ Some bytes) × (bytes ≤ longest_capture) × EmitsTo b.running b.shape b.owed bytes
 
--- of a program that gives sound less than a frame is left
+-- of a program's sound less than a frame is left
 abbrev pub LeavesLess : CardKind → Shape → List ℕ → Type 0
 LeavesLess kind.Speaker shape left = ⊤
 LeavesLess kind.Microphone shape left = length left < shape.frame_bytes
@@ -186,7 +186,8 @@ abbrev pub takes_now : Option Running → Bool
 takes_now None = false
 takes_now (Some running) = not running.is_closed
 
--- The frames that are due by a program: whole frames that it gave, at most as many as a tick has; or a piece, once it is owed nothing
+-- The frames that are due by a program: whole frames that it gave, at most as many as a tick has; or a piece, once it is owed
+-- nothing.
 
 abbrev pub frames_by : CardKind → Shape → List ℕ → List ℕ → ℕ
 frames_by kind.Speaker shape left owed = if length owed == 0 then piece_frames shape else 0
@@ -205,7 +206,7 @@ longest_stall = 2000000000
 abbrev pub is_stalled : ℕ → ℕ → Bool
 is_stalled since at = nat_le longest_stall (at - since)
 
--- whether a program is to be ended, where no frame is due by it
+-- whether a program is to be ended, if no frame is due by it
 abbrev pub is_over_by : CardKind → Running → ℕ → Bool
 is_over_by kind.Speaker running at = running.is_closed || is_stalled running.took at
 is_over_by kind.Microphone running at = running.is_over || is_stalled running.gave at
@@ -215,17 +216,17 @@ abbrev pub is_over_of : Option Running → CardKind → ℕ → Bool
 is_over_of None k at = false
 is_over_of (Some running) k at = is_over_by k running at
 
--- whether a card takes nothing, while it gives
+-- whether a card takes nothing, although it gives
 abbrev pub takes_nothing : CardKind → Running → ℕ → Bool
 takes_nothing kind.Speaker running at = false
 takes_nothing kind.Microphone running at = false
 takes_nothing kind.Card running at = not running.is_closed && is_stalled running.took at
 
-abbrev pub looked_at : Option Running → CardKind → ℕ → Option Running
-looked_at None k at = None
-looked_at (Some running) k at = if takes_nothing k running at then Some (record running { is_over = true }) else Some running
+abbrev pub running_after_look : Option Running → CardKind → ℕ → Option Running
+running_after_look None k at = None
+running_after_look (Some running) k at = if takes_nothing k running at then Some (record running { is_over = true }) else Some running
 
--- what is captured: of a program that gives sound what it gave first, else silence
+-- what is captured: if the program gives sound, what it gave first, and else silence
 abbrev pub captured_of : Option Running → BetweenState → ℕ → List ℕ
 captured_of None b bytes = replicate bytes b.shape.silence
 captured_of (Some running) b bytes = if gives_sound b.shape.kind then take bytes b.left else replicate bytes b.shape.silence

@@ -1,10 +1,10 @@
--- A device whose sound a program gives, takes or both, as a caller has it.
+-- A device whose sound goes to a program, comes from it, or both, as a caller has it.
 use Rattle.std.specs.Prelude.{◌≡◌, ◌≢◌, ◌⊎◌, ⊤, [], ◌∷◌, ℕ, ◌+◌, Bool, not, is_none, nat_lt, ◌&&◌, ◌==◌, if◌then◌else◌, List, MatchOption}
 use Rattle.std.specs.declared.option.Option.{Option}
 use Rattle.std.specs.declared.option.Option.TheVariants.{None, Some}
 use Rattle.af_io.specs.declared.flow.Put.{Put}
 use Rattle.af_io.specs.declared.flow.Put.TheVariants as put
-use Rattle.af_clock.specs.Pacing.{PaceState, begun, due_at, after_due}
+use Rattle.af_clock.specs.Pacing.{PaceState, new_pace, due_at, after_due}
 use Rattle.af_io.specs.Observed.{Appended, Unchanged}
 use Rattle.af_program.specs.declared.program.Launched.{Launched}
 use Rattle.af_program.specs.Acts.{ToldAct, launched, emitted}
@@ -15,7 +15,8 @@ use Rattle.af_card.specs.Ledger.{Run, ledger_of}
 use Rattle.af_card.specs.Fed.{PastFits, RunFits}
 use Rattle.af_card.specs.Between.{BetweenState, new_between, frames_of, is_dead, may_capture, may_emit}
 
--- a device: its program, what lies between the two, the words of each start, its pace while no program runs, and the latest moment
+-- a device: its program, what stands between the two, the command line of each start, its pace while no program runs, and the
+-- latest moment
 pub record CardState (P : Type 0) : Type 0 where
   pub program : P
   pub between : BetweenState
@@ -25,7 +26,7 @@ pub record CardState (P : Type 0) : Type 0 where
 
 abbrev pub new_card : {P : Type 0} → P → Shape → ℕ → List (List ℕ) → CardState P
 new_card program shape restarts words =
-    record { program = program; between = new_between shape restarts; words = words; pace = begun shape.rate; at = 0 }
+    record { program = program; between = new_between shape restarts; words = words; pace = new_pace shape.rate; at = 0 }
 
 -- The promise
 
@@ -34,10 +35,10 @@ abbrev pub RunIsFed : Shape → Option Run → Type 0
 RunIsFed shape None = ⊤
 RunIsFed shape (Some run) = (left : List ℕ) × (owed : List ℕ) × (tick : Option ℕ) × RunFits shape run left owed tick
 
--- Of all acts, at each moment. Captured: in ticks while a program ran, what it gave, in order and in whole frames, each once; else
--- silence. Handed: to each program what was emitted while it ran, in order, each sample at most once; a loudspeaker loses none, and of
--- what a card is emitted in a tick the last frames may be lost. In step: in each tick as much is captured as emitted. Starts: at most
--- one more than there are restarts, each after its wait.
+-- This holds of all acts, at each moment. Captured: in ticks while a program ran, what it gave, in order and in whole frames,
+-- each once; else silence. Handed: to each program what was emitted while it ran, in order, each sample at most once. A
+-- loudspeaker loses none. A card may lose the last frames of a tick. In step: in each tick as much is captured as emitted.
+-- Starts: at most one more than there are restarts, each after its wait.
 pub record IsFed (shape : Shape) (restarts : ℕ) (acts : List ToldAct) : Type 0 where
   pub past : PastFits shape (ledger_of acts)
   pub now : RunIsFed shape (ledger_of acts).running
@@ -46,7 +47,7 @@ pub record IsFed (shape : Shape) (restarts : ℕ) (acts : List ToldAct) : Type 0
 abbrev pub IsFedWhereTold : {P : Type 0} → (P → Option (List ToldAct)) → CardState P → Type 0
 IsFedWhereTold acts card = MatchOption (acts card.program) ⊤ (λ told. IsFed card.between.shape card.between.starts.restarts told)
 
--- what kind of device it is, how often its program may be started, and by which words, stay
+-- the kind of device, how often its program may be started, and its command line stay
 pub record SameOrders {P : Type 0} (before after : CardState P) : Type 0 where
   pub shape : after.between.shape ≡ before.between.shape
   pub restarts : after.between.starts.restarts ≡ before.between.starts.restarts
@@ -54,34 +55,34 @@ pub record SameOrders {P : Type 0} (before after : CardState P) : Type 0 where
 
 -- Frames that are due
 
--- By a program: whole frames that it gave, or a piece once it is owed nothing. Where it is ended instead, no frame is due, and the pace
--- begins anew at that moment.
+-- By a program: whole frames that it gave, or a piece once it is owed nothing. If the program is ended instead, no frame is due,
+-- and the pace begins again at that moment.
 abbrev pub DueByProgram : ℕ → ℕ → BetweenState → PaceState → PaceState → Type 0
 DueByProgram at frames after pace pace' =
-    MatchOption after.running ((frames ≡ 0) × (pace' ≡ after_due (begun after.shape.rate) at)) (λ running. (frames ≡ frames_of after) × (pace' ≡ pace))
+    MatchOption after.running ((frames ≡ 0) × (pace' ≡ after_due (new_pace after.shape.rate) at)) (λ running. (frames ≡ frames_of after) × (pace' ≡ pace))
 
--- By the clock, where no program runs: those of the pace. Where none is due a start is tried, if one may come.
+-- By the clock, if no program runs: those of the pace. If none is due, a start is tried, if one may come.
 pub record DueByClock (at frames : ℕ) (before after : BetweenState) (pace pace' : PaceState) : Type 0 where
   pub due : frames ≡ due_at pace at
   pub paced : pace' ≡ after_due pace at
   pub tried : after.starts.tried ≡ (if (frames == 0) && may_come before.starts at then before.starts.tried + 1 else before.starts.tried)
   pub begins : after.running ≢ None → frames ≡ 0
 
--- A start is tried as the sound of a tick is emitted, where no program runs, one may come, and by the clock nothing more is due: a server
--- that has much to do finds no other moment.
+-- A start is tried as the sound of a tick is emitted, if no program runs, one may come, and by the clock no more frames are due.
+-- A busy server finds no other moment.
 abbrev pub begins_now : {P : Type 0} → CardState P → Bool
 begins_now card = is_none card.between.running && may_come card.between.starts card.at && not (nat_lt 0 (due_at card.pace card.at))
 
--- Where no program runs, nothing happens to it but one start, by these words.
+-- If no program runs, nothing happens to it but one start, by this command line.
 abbrev pub StartsOnly : ℕ → List (List ℕ) → Option (List ToldAct) → Option (List ToldAct) → Type 0
 StartsOnly at words before after = Unchanged before after ⊎ ((came : Launched) × Appended before (launched at words came ∷ []) after)
 
--- the same behind the sound of a tick that is emitted
+-- the same after the sound of a tick is emitted
 abbrev pub EmitsAndStarts : ℕ → List ℕ → List (List ℕ) → Option (List ToldAct) → Option (List ToldAct) → Type 0
 EmitsAndStarts at sound words before after =
     Appended before (emitted sound ∷ []) after ⊎ ((came : Launched) × Appended before (emitted sound ∷ launched at words came ∷ []) after)
 
--- Between the two calls of a tick none is due.
+-- No frame is due between the two calls of a tick.
 abbrev pub DueOf : Option ℕ → Option Running → ℕ → ℕ → BetweenState → BetweenState → PaceState → PaceState → Type 0
 DueOf (Some bytes) running at frames before after pace pace' = (frames ≡ 0) × (after ≡ before) × (pace' ≡ pace)
 DueOf None None at frames before after pace pace' = DueByClock at frames before after pace pace'

@@ -15,7 +15,7 @@ piece_frames shape = min (shape.rate / 100) longest_tick
 abbrev pub piece_of : Shape → ℕ
 piece_of shape = piece_frames shape * shape.frame_bytes
 
--- sounds, of which the latest stands first, as one
+-- sounds as one; the latest stands first
 abbrev pub sound_of : List (List ℕ) → List ℕ
 sound_of [] = []
 sound_of (sound ∷ earlier) = sound_of earlier ++ sound
@@ -29,7 +29,7 @@ IsSilent silence sound = sound ≡ replicate (length sound) silence
 
 -- Captured
 
--- What was captured of a program is what it gave, in order, each byte once and in whole frames. This much of it is left.
+-- What was captured is what the program gave, in order, each byte once and in whole frames. This much of it is left.
 pub record CapturedOf (width : ℕ) (run : Run) (left : List ℕ) : Type 0 where
   pub given : run.given ≡ sound_of run.captured ++ left
   pub whole : All (HasWholeFrames width) run.captured
@@ -47,18 +47,18 @@ CapturedBy kind.Card shape run left = CapturedOf shape.frame_bytes run left
 
 -- Handed
 
--- of each sound, of which the latest stands first, whole frames of its front are handed, and the rest is lost
+-- whole frames from the front of each sound are handed, and the rest is lost; the latest sound stands first
 abbrev pub IsPassed : ℕ → List (List ℕ) → List ℕ → Type 0
 IsPassed width [] passed = passed ≡ []
 IsPassed width (sound ∷ earlier) passed =
     (before : List ℕ) × (frames : ℕ) × IsPassed width earlier before × (passed ≡ before ++ take (frames * width) sound)
 
--- a card is handed whole frames of the front of each sound, in order, but for the part of a frame that it is owed
+-- a card is handed whole frames from the front of each sound, in order, except the part of a frame that it is owed
 pub record HandedPassed (width : ℕ) (run : Run) (owed : List ℕ) : Type 0 where
   pub passed : IsPassed width run.emitted (run.taken ++ owed)
   pub part : length owed < width
 
--- a loudspeaker is handed all sound, in order, but for what it is owed, which is a piece at most
+-- a loudspeaker is handed all sound, in order, except what it is owed, which is a piece at most
 pub record HandedAll (piece : ℕ) (run : Run) (owed : List ℕ) : Type 0 where
   pub all : sound_of run.emitted ≡ run.taken ++ owed
   pub piece_at_most : length owed ≤ piece
@@ -75,14 +75,15 @@ HandedBy kind.Card shape run owed = HandedPassed shape.frame_bytes run owed
 
 -- In step
 
--- each sound has as many bytes as the other of the same tick
+-- each sound has as many bytes as the other one of the same tick
 abbrev pub AreAsLong : List (List ℕ) → List (List ℕ) → Type 0
 AreAsLong [] [] = ⊤
 AreAsLong [] (e ∷ es) = ⊥
 AreAsLong (c ∷ cs) [] = ⊥
 AreAsLong (c ∷ cs) (e ∷ es) = (length c ≡ length e) × AreAsLong cs es
 
--- In each tick as much was captured as was emitted. Between the two calls of a tick the latest was captured, and is to be emitted.
+-- In each tick as much was captured as was emitted. Between the two calls of a tick the latest was captured, and is still to be
+-- emitted.
 abbrev pub IsInStep : Option ℕ → List (List ℕ) → List (List ℕ) → Type 0
 IsInStep None captured emitted = AreAsLong captured emitted
 IsInStep (Some bytes) [] emitted = ⊥
@@ -90,19 +91,19 @@ IsInStep (Some bytes) (c ∷ cs) emitted = (length c ≡ bytes) × AreAsLong cs 
 
 -- All
 
--- While a program runs: what it gave and was not captured, what it is owed, and the bytes of the tick that was captured and is to be
--- emitted, if there is one.
+-- While a program runs: what it gave and was not captured, what it is owed, and the bytes of a tick that was captured and is
+-- still to be emitted, if there is one.
 pub record RunFits (shape : Shape) (run : Run) (left owed : List ℕ) (tick : Option ℕ) : Type 0 where
   pub captured : CapturedBy shape.kind shape run left
   pub handed : HandedBy shape.kind shape run owed
   pub in_step : IsInStep tick run.captured run.emitted
 
--- After a program ran it has given less than a frame that was not captured.
+-- Once a program has ended, less than a frame of what it gave was not captured.
 abbrev pub PastRunFits : Shape → Run → Type 0
 PastRunFits shape run = (left : List ℕ) × (owed : List ℕ) × RunFits shape run left owed None × (length left < shape.frame_bytes)
 
--- Of all that was captured and emitted before now: each program that ran kept to this, and without one silence was captured. No sound
--- is handed to two programs, since each is handed what was emitted while it ran.
+-- All that was captured and emitted before now fits: each program that ran kept to this, and without one silence was captured. No
+-- sound is handed to two programs, since each is handed what was emitted while it ran.
 pub record PastFits (shape : Shape) (ledger : Ledger) : Type 0 where
   pub past : All (PastRunFits shape) ledger.past
   pub idle : All (IsSilent shape.silence) ledger.idle

@@ -1,11 +1,11 @@
--- What went by while each program of a device ran, as the acts tell it. In each list of ticks, runs or starts the latest stands first.
+-- What went by while each program of a device ran, by the acts. In each list of ticks, runs or starts the latest stands first.
 use Rattle.std.specs.Prelude.{ℕ, List, [], ◌∷◌, ◌++◌}
 use Rattle.std.specs.List.{fold}
 use Rattle.std.specs.declared.option.Option.{Option}
 use Rattle.std.specs.declared.option.Option.TheVariants.{None, Some}
 use Rattle.af_program.specs.declared.program.Launched.TheVariants as launch
 use Rattle.af_program.specs.Acts.{ToldAct, launched, gave, took, ended, captured, emitted}
-use Rattle.af_program.specs.Waits.{Start, starts_ended}
+use Rattle.af_program.specs.Waits.{Start, starts_after_end}
 
 -- while one program ran: the bytes that it gave and those that it took, and what the device captured and emitted in each tick
 pub record Run : Type 0 where
@@ -35,7 +35,7 @@ ledger_begun l at = record l { running = Some new_run; starts = record { began =
 abbrev pub ledger_failed : Ledger → ℕ → Ledger
 ledger_failed l at = record l { starts = record { began = at; ended = Some at } ∷ l.starts }
 
--- what a run comes to where one is there
+-- a run after a give, if there is one
 abbrev pub ledger_gave : Option Run → Ledger → List ℕ → Ledger
 ledger_gave None l bytes = l
 ledger_gave (Some run) l bytes = record l { running = Some (record run { given = run.given ++ bytes }) }
@@ -54,7 +54,7 @@ ledger_emitted (Some run) l sound = record l { running = Some (record run { emit
 
 abbrev pub ledger_ended : Option Run → Ledger → ℕ → Ledger
 ledger_ended None l at = l
-ledger_ended (Some run) l at = record l { running = None; past = run ∷ l.past; starts = starts_ended l.starts at }
+ledger_ended (Some run) l at = record l { running = None; past = run ∷ l.past; starts = starts_after_end l.starts at }
 
 -- after an act
 abbrev pub ledger_after : Ledger → ToldAct → Ledger

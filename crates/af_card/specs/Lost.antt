@@ -1,4 +1,4 @@
--- The frames of sound for which a card had no room: how many there were, as the acts say it.
+-- The frames of sound for which a card had no room: how many there were, by the acts.
 use Rattle.std.specs.Prelude.{◌≡◌, ⊤, ℕ, ◌+◌, ◌-◌, ◌/◌, min, List, [], ◌∷◌, length, MatchOption}
 use Rattle.std.specs.declared.option.Option.{Option}
 use Rattle.std.specs.declared.option.Option.TheVariants.{None, Some}
@@ -11,12 +11,12 @@ use Rattle.af_card.specs.declared.shape.Shape.{Shape}
 use Rattle.af_card.specs.Ledger.{Ledger, Run, ledger_of}
 use Rattle.af_card.specs.Fed.{sound_of}
 
--- as far as is counted
+-- the highest count
 abbrev pub most_lost : ℕ
 most_lost = 18446744073709551615
 
--- While one program ran: of a card the whole frames that were emitted and that it was not handed. A frame of which it took a part is
--- handed. A loudspeaker loses none, and to a microphone nothing is handed.
+-- While one program ran: how many whole frames were emitted to a card and not handed to its program. A frame that was handed in
+-- part counts as handed. A loudspeaker loses none, and a microphone hands nothing.
 abbrev pub lost_by : CardKind → ℕ → List (List ℕ) → List ℕ → ℕ
 lost_by kind.Speaker width emitted taken = 0
 lost_by kind.Microphone width emitted taken = 0
@@ -37,7 +37,7 @@ lost_before shape (run ∷ earlier) = lost_before shape earlier + lost_in shape 
 abbrev pub lost_of : Shape → Ledger → ℕ
 lost_of shape ledger = min (lost_before shape ledger.past + lost_now shape ledger.running) most_lost
 
--- a count is that of all acts, if these are observed
+-- a count is that of all acts, if these are observable
 abbrev pub CountsLost : Shape → Option (List ToldAct) → ℕ → Type 0
 CountsLost shape acts count = MatchOption acts ⊤ (λ told. count ≡ lost_of shape (ledger_of told))
 
@@ -49,6 +49,6 @@ without_room (takes.Bytes n) sound owed = sound - n - owed
 without_room takes.NoRoom sound owed = sound
 without_room takes.Ended sound owed = sound
 
--- after so many bytes more found no room
+-- after so many more bytes found no room
 abbrev pub lost_after : ℕ → ℕ → ℕ → ℕ
 lost_after lost bytes width = min (lost + bytes / width) most_lost

@@ -1,4 +1,4 @@
-// What lies between a device and its program.
+// What stands between a device and its program: two queues of bytes, one each way, and the starts of the program.
 ghost use Rattle.std.specs.Prelude.{◌≡◌, ◌≢◌, ◌≤◌, ◌<◌, ◌+◌, ◌-◌, ◌⊎◌, [], ◌∷◌, length, take, replicate, true, false, is_some, is_none, ◌&&◌, IfOk};
 ghost use Rattle.std.specs.declared.option.Option.TheVariants.{None, Some};
 ghost use Rattle.arrayvec.specs.ArrayVec.{array_vec_len};
@@ -9,7 +9,7 @@ ghost use Rattle.af_process.specs.Acts.{words_of};
 ghost use Rattle.af_card.specs.Fed.{IsSilent};
 ghost use Rattle.af_world.specs.Kinds.{most_card_restarts};
 ghost use Rattle.af_program.specs.Waits.{longest_wait, may_come};
-ghost use Rattle.af_card.specs.Between.{IsWhole, PassesOn, Accounts, new_between, CanBegin, CanCapture, CanEmit, CanEnd, LeavesLess, gives_sound, is_dead, may_capture, may_emit, frames_of, is_stalled, is_over_of, looked_at, captured_of, takes_now};
+ghost use Rattle.af_card.specs.Between.{IsWhole, PassesOn, Accounts, new_between, CanBegin, CanCapture, CanEmit, CanEnd, LeavesLess, gives_sound, is_dead, may_capture, may_emit, frames_of, is_stalled, is_over_of, running_after_look, captured_of, takes_now};
 ghost use Rattle.af_card.specs.Lost.{lost_after};
 
 use crate::handing::{pass_on, without_room};
@@ -26,8 +26,8 @@ use std::marker::Model;
 /// Two seconds in which a program gives nothing, or takes nothing, in nanoseconds.
 const LONGEST_STALL: u64 = 2_000_000_000;
 
-/// What lies between a device and its program: the sound that the program gave and the device has not captured, and what the device
-/// emitted and the program is owed. Beside these it has the program that runs, and how often one was started.
+/// What stands between a device and its program: the sound that the program gave and the device has not captured, and what the
+/// device emitted and the program is owed. Beside these it has the program that runs, and how often one was started.
 #[derive(Drop)]
 pub(crate) struct Between {
     shape: Shape,
@@ -195,8 +195,8 @@ impl Between {
         }
     }
 
-    /// The frames that are due by the program: whole frames that it gave, at most as many as a tick has; or a piece, once it is owed
-    /// nothing.
+    /// The frames that are due by the program: whole frames that it gave, at most as many as a tick has; or a piece, once it is
+    /// owed nothing.
     pub(crate) fn frames(&self) -> u32
         ensures frames { result ≡ frames_of self.now }
         ensures most { result ≤ longest_tick }
@@ -253,7 +253,7 @@ impl Between {
     /// A card that takes nothing while it gives is to be ended, once all that it gave is captured.
     pub(crate) fn look(&mut self, at: u64)
         ensures runs { is_some self.new.running ≡ is_some self.old.running }
-        ensures rest { self.new ≡ record self.old { running = looked_at self.old.running self.old.shape.kind at } }
+        ensures rest { self.new ≡ record self.old { running = running_after_look self.old.running self.old.shape.kind at } }
     {
         let Some(running) = self.running else {
             return;
@@ -380,8 +380,8 @@ impl Between {
         self.tick = None;
     }
 
-    /// Emits the sound of a tick that a card is given as far as it has room, by whole frames. It is owed the rest of a frame of which it
-    /// took a part. What it has no room for is lost and counted, and so is all as long as it is owed something.
+    /// Emits the sound of a tick to a card, as far as it has room, in whole frames. If it took a part of a frame, it is owed the
+    /// rest. What it has no room for is lost and counted. As long as it is owed something, all is lost and counted.
     fn pass<P: Program>(&mut self, program: &mut P, sound: &[u8], at: u64)
         requires some { 0 < length sound.now }
         requires can { CanEmit self.old (length sound.now) }

@@ -1,4 +1,4 @@
-// A device whose sound a program gives, takes or both.
+// A device whose sound goes to a program, comes from it, or both.
 ghost use Rattle.std.specs.Prelude.{◌≡◌, ◌≢◌, ◌≤◌, ◌<◌, ◌+◌, ◌-◌, [], ◌∷◌, length, take, true, false, is_some, if◌then◌else◌, IfOk};
 ghost use Rattle.std.specs.declared.option.Option.TheVariants.{None, Some};
 ghost use Rattle.arrayvec.specs.ArrayVec.{array_vec_len};
@@ -22,8 +22,8 @@ use af_time::OutOfMemory;
 use std::alloc::Global;
 use std::marker::Model;
 
-/// A device whose sound a program gives, takes or both, and whose time is that of its program while one runs. Moments are
-/// nanoseconds of a clock, and never go back.
+/// A device whose sound goes to a program, comes from it, or both. It goes by its program while one runs. Moments are nanoseconds
+/// of a clock, and never go back.
 ///
 /// At each tick `due` comes first, then `capture` and `emit`, with as many frames.
 #[derive(Drop)]
@@ -57,8 +57,8 @@ impl<P: Program + Drop> Model for Card<P> {
 }
 
 impl<P: Program + Drop> Card<P> {
-    /// A device of this shape, over a program that tells of no act. It is started by these words, and so many times again at most. All
-    /// memory is taken here, but for what a start takes.
+    /// A device of this shape, over a program with no acts so far. It is started by this command line, and at most so many times
+    /// again. All memory is taken here, except what a start takes.
     pub fn new(
         alloc: Global,
         program: P,
@@ -125,8 +125,8 @@ impl<P: Program + Drop> Card<P> {
         }
     }
 
-    /// Captures the sound of a tick. Failed says that no program runs and no start is left, or that this is not the tick that is due;
-    /// nothing is captured then.
+    /// Captures the sound of a tick. Failed says that no program runs and no start is left, or that this is not the tick that is
+    /// due; nothing is captured then.
     pub fn capture(&mut self, into: &mut [u8]) -> Put
         ensures answer { result ≡ captures self.old.between (length into.old) }
         ensures done { result ≡ Put.Done → into.new ≡ captured_of self.old.between.running self.old.between (length into.old) }
@@ -188,8 +188,8 @@ impl<P: Program + Drop> Card<P> {
         self.between.runs()
     }
 
-    /// How many frames of sound its program had no room for, since the first start, 2^64 - 1 at most. Only a card loses any so. One that
-    /// has closed its input loses all.
+    /// How many frames of sound its program had no room for, since the first start, 2^64 - 1 at most. Only a card loses any so.
+    /// One that has closed its input loses all.
     pub fn lost(&self) -> u64
         ensures counted { CountsLost self.now.between.shape (P.acts self.now.program) result }
         ensures state { result ≡ self.now.between.lost }
@@ -247,7 +247,8 @@ fn due_by_program<P: Program>(
     frames
 }
 
-/// The frames that are due by the clock where no program runs, at this moment. Where none is due, a start is tried if one may come.
+/// The frames that are due by the clock where no program runs, at this moment. Where none is due, a start is tried if one may
+/// come.
 fn due_by_clock<P: Program>(
     between: &mut Between,
     program: &mut P,

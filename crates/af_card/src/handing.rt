@@ -1,4 +1,4 @@
-// The sound of a tick, as it goes on to a program by whole frames.
+// The sound of a tick goes on to a program in whole frames.
 ghost use Rattle.std.specs.Prelude.{◌≡◌, ◌≤◌, ◌<◌, ◌+◌, [], length};
 ghost use Rattle.af_limits.specs.Limits.{longest_capture};
 ghost use Rattle.af_program.specs.Acts.{RunsWhereTold};
@@ -8,7 +8,7 @@ ghost use Rattle.af_card.specs.Lost.{without_room};
 use af_limits::LONGEST_CAPTURE;
 use af_program::{Program, Queue, Took};
 
-/// Gives a program a sound, as far as it takes it. The rest of a frame of which it took a part is owed.
+/// Gives a program a sound, as far as it takes it. If it took a part of a frame, it is owed the rest.
 pub(crate) fn pass_on<P: Program>(
     program: &mut P,
     sound: &[u8],

@@ -1,4 +1,4 @@
-//! A device whose sound a program gives, takes or both, and whose time is that of its program.
+//! A device whose sound goes to a program, comes from it, or both, and which goes by that program.
 #![tactic(auto)]
 
 mod between;

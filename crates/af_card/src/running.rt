@@ -1,12 +1,12 @@
 // What is known of a program that runs.
 ghost use Rattle.std.specs.Prelude.{◌≡◌};
-ghost use Rattle.af_card.specs.Between.{running_begun, after_take, after_give};
+ghost use Rattle.af_card.specs.Between.{running_since, after_take, after_give};
 
 use af_program::{Gave, Took};
 
-/// A program that runs: when it was started; when it last gave a whole frame, and when it last took something, its start before that;
-/// whether it takes nothing any more; and whether it gives nothing any more, or is to be ended for another reason. Moments are in
-/// nanoseconds.
+/// A program that runs: when it was started; when it last gave a whole frame, and when it last took something, its start before
+/// that; whether it takes nothing any more; and whether it gives nothing any more, or is to be ended for another reason. Moments
+/// are in nanoseconds.
 #[derive(Clone, Copy)]
 pub(crate) struct Running {
     pub(crate) began: u64,
@@ -19,7 +19,7 @@ pub(crate) struct Running {
 impl Running {
     /// A program that is started now.
     pub(crate) fn begun(at: u64) -> Running
-        ensures { result ≡ running_begun at }
+        ensures { result ≡ running_since at }
     {
         Running {
             began: at,

@@ -1,4 +1,4 @@
-// What kind of device it is, and of what frames its sound consists.
+// The kind of a device, and the frames of its sound.
 ghost use Rattle.std.specs.Prelude.{◌≡◌, ◌≤◌};
 ghost use Rattle.af_card.specs.Fed.{piece_frames, piece_of};
 ghost use Rattle.af_card.specs.Between.{gives_sound};

@@ -1,4 +1,4 @@
--- A frame is small: of one or two samples, it has 1, 2, 4 or 8 bytes.
+-- A frame is small: with one or two samples, it has 1, 2, 4 or 8 bytes.
 use Rattle.std.proofs.Common.{◌≡◌, ◌⊎◌, ℕ, ◌/◌, ◌<◌, ◌≤◌, min, inl, inr, sym, subst, arith}
 use Rattle.af_sample.specs.declared.sample_type.SampleType.{SampleType}
 use Rattle.af_sample.specs.declared.sample_type.SampleType.TheVariants.{Mu255, Alaw, Lin16, Lin32}

@@ -1,4 +1,4 @@
--- The tool that the first word names.
+-- The tool that the first argument names.
 use Rattle.std.proofs.Common.{◌≡◌, Bool, true, false, ◌&&◌, List, [], ◌∷◌, slice_get, is_some, option_and_then, ap, ◌∙◌, subst, refl, sym}
 use Rattle.std.specs.Prelude.{Option, Some, None}
 use Rattle.std.specs.Option.{option_map_or}
@@ -6,7 +6,7 @@ use Rattle.clap.specs.Words.{Text, matches_of, takes}
 use Rattle.af_cli.specs.declared.tool.Tool.{Tool}
 use Rattle.af_cli.specs.Words.{Job, is_spelled, is_taken, job, job_in, tool_app, tool_named}
 
--- words whose first is known
+-- arguments whose first one is known
 pub record IsNamed (words : List Text) (name : Text) : Type 0 where
   pub rest : List Text
   pub is : words ≡ name ∷ rest
@@ -15,7 +15,7 @@ pub is_named : (words : List Text) (name : Text) → Some name ≡ slice_get wor
 is_named [] name e = cc
 is_named (x ∷ words) name e = let same : x ≡ name = cc in record { rest = words; is = ap (λ (y : Text). y ∷ words) same }
 
--- the job of words, by the tool that they name
+-- the job of arguments, by the tool that they name
 pub job_named : (words : List Text) (name : Text) (found : Option Tool) → IsNamed words name → found ≡ tool_named name → job words ≡ option_and_then (λ tool. job_in tool (matches_of (tool_app tool) words)) found
 unfolding job
 job_named words name found n e = subst (λ (w : List Text). job w ≡ option_and_then (λ tool. job_in tool (matches_of (tool_app tool) w)) found) (sym n.is) (ap (λ (t : Option Tool). option_and_then (λ tool. job_in tool (matches_of (tool_app tool) (name ∷ n.rest))) t) (sym e))
@@ -29,7 +29,7 @@ unfolding is_taken
 none_taken [] e = refl
 none_taken (x ∷ words) e = cc
 
--- words are not spelled where their command does not take them, or where they are no job
+-- arguments are not valid if their command does not take them, or if they are no job
 pub untaken : (words : List Text) → is_taken words ≡ false → is_spelled words ≡ false
 untaken words t = ap (λ (b : Bool). b && is_some (job words)) t
 
@@ -40,7 +40,7 @@ and_false false = refl
 pub no_job : (words : List Text) → job words ≡ None → is_spelled words ≡ false
 no_job words e = ap (λ (o : Option Job). is_taken words && is_some o) e ∙ and_false (is_taken words)
 
--- a command that would have to want memory in order to refuse the words, and does not, does not take them
+-- if a command fails, and not since memory ran out, it does not take the arguments
 pub not_taken : {K : Type 0} (b : Bool) (kind memory : K) → (b ≡ true → kind ≡ memory) → (kind ≡ memory → ⊥) → b ≡ false
 not_taken true kind memory passes other = absurd (other (passes refl))
 not_taken false kind memory passes other = refl

@@ -5,6 +5,6 @@ use Rattle.std.specs.Prelude.{ℕ, ◌/◌, min}
 abbrev pub greatest_block : ℕ
 greatest_block = 16000
 
--- how many frames a block has, each of so many bytes: as many as are asked for, or else as many as the greatest block has
+-- how many frames a block has, by the bytes of a frame: as many as are asked for, or else as many as the greatest block has
 abbrev pub block_frames : (asked frame : ℕ) → ℕ
 block_frames asked frame = min asked (greatest_block / frame)

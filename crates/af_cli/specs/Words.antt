@@ -1,4 +1,5 @@
--- The words of the tools: each tool is one simple command of clap, and its job is that of the matches that clap defines.
+-- The arguments of the tools: each tool is one simple command of clap, and its job is what its matches, which clap defines,
+-- state.
 use Rattle.std.specs.Prelude.{ℕ, ◌-◌, pos, ◌&&◌, Bool, true, false, nat_le, List, [], ◌∷◌, length, Option}
 use Rattle.std.specs.Prelude.{Some, None, codes, is_some, map, option_and_then, option_map, if◌then◌else◌}
 use Rattle.std.specs.Str.{bytes_eq}
@@ -29,7 +30,7 @@ use Rattle.af_cli.specs.Numbers.{form_in, gain_in, if_there, number_in, or_defau
 abbrev pub option_rule : Text → Rule
 option_rule id = record (new_rule id) { long = Some id }
 
--- what one argument of a tool is to clap
+-- the rule of clap for an argument of a tool
 abbrev pub rule_at : Text → ArgumentKind → Rule
 rule_at id Place = record (new_rule id) { required = true }
 rule_at id NeededOption = record (option_rule id) { required = true }
@@ -39,7 +40,7 @@ rule_at id Flag = record (option_rule id) { action = Some SetTrue }
 abbrev pub rule_for : Argument → Rule
 rule_for w = rule_at w.0.now w.1
 
--- the command with these arguments too, in order
+-- the command with these arguments added, in order
 abbrev pub with_rules : App → List Rule → App
 with_rules a [] = a
 with_rules a (r ∷ rs) = with_rules (with_rule a r) rs
@@ -121,11 +122,11 @@ address_in text = if nat_le 1 (length text) && nat_le (length text) longest_addr
 abbrev pub address_at : Text → List Row → Option Text
 address_at id rows = option_and_then address_in (first_of id rows)
 
--- the order of the bytes of a connection, Big by default
+-- the byte order of a connection, Big by default
 abbrev pub order_at : List Row → Option Order
 order_at rows = or_default Big order_in (first_of (codes "order") rows)
 
--- what aplay and arecord have in common, where each value is in its range
+-- what aplay and arecord have in common, if each value is in range
 abbrev pub basics_of : List Row → Option CommonOptions
 basics_of rows =
     option_and_then (λ device.
@@ -139,7 +140,7 @@ basics_of rows =
     (if_there type_of (first_of (codes "type") rows)))
     (number_at (codes "device") 0 0 (most_devices - 1) rows)
 
--- the form of a source, which is no file where a type is stated: a file says itself of which type its samples are
+-- the form of a source; it is no file if a type is stated, since a file says its own type
 abbrev pub form_beside : Option SampleType → Option SoundForm → Option (Option SoundForm)
 form_beside ty form = if is_some form && is_some ty then None else Some form
 
@@ -242,13 +243,13 @@ pass_job rows =
     (number_at (codes "to-device") 0 0 (most_devices - 1) rows))
     (number_at (codes "from-device") 0 0 (most_devices - 1) rows)
 
--- what a tool is asked to do: a task with one server, or to pass blocks from one server to another; and the order of its
+-- what a tool is asked to do: a task with one server, or to pass blocks from one server to another; and the byte order of its
 -- connections
 pub data Job : Type 0 where
   one : (server : Text) (order : Order) (task : Task) → Job
   relay : (from to : Text) (order : Order) (job : PassJob) → Job
 
--- a task with one server, if all is there
+-- a task with one server, if nothing is missing
 abbrev pub job_with : Option Task → List Row → Option Job
 job_with found rows =
     option_and_then (λ task.
@@ -258,7 +259,7 @@ job_with found rows =
     (address_at (codes "SERVER") rows))
     found
 
--- a relay, if all is there
+-- a relay, if nothing is missing
 abbrev pub relay_with : Option PassJob → List Row → Option Job
 relay_with found rows =
     option_and_then (λ job.
@@ -270,7 +271,7 @@ relay_with found rows =
     (address_at (codes "FROM") rows))
     found
 
--- the job of a tool, by the matches of its command, where each value is in its range
+-- the job of a tool, by the matches of its command, if each value is in range
 abbrev pub job_in : Tool → List Row → Option Job
 job_in tool.Play rows = job_with (option_map (λ job. task.Play job) (play_job rows)) rows
 job_in tool.Record rows = job_with (option_map (λ job. task.Record job) (record_job rows)) rows
@@ -296,17 +297,17 @@ tool_app tool.Set = aset_app
 tool_app tool.Pass = apass_app
 tool_app tool.List = list_app
 
--- The job of some words, the first of which names a tool: that of the matches that clap defines for them, where each value is in
--- its range.
+-- The job of arguments. The first of them names a tool, and the job is that of the matches that clap defines for them, if each
+-- value is in range.
 unfoldable pub job : List Text → Option Job
 job [] = None
 job (name ∷ words) = option_and_then (λ tool. job_in tool (matches_of (tool_app tool) (name ∷ words))) (tool_named name)
 
--- the command of the named tool takes the words
+-- the command of the named tool takes the arguments
 unfoldable pub is_taken : List Text → Bool
 is_taken [] = false
 is_taken (name ∷ words) = option_map_or (λ tool. takes (tool_app tool) (name ∷ words)) (tool_named name) false
 
--- the words are spelled: they name a tool, its command takes them, and each value is in its range
+-- the arguments are valid: they name a tool, its command takes them, and each value is in range
 abbrev pub is_spelled : List Text → Bool
 is_spelled words = is_taken words && is_some (job words)

@@ -1,4 +1,4 @@
-// What a tool is asked to do, by its words.
+// What a tool is asked to do, by its arguments.
 ghost use Rattle.std.specs.Prelude.{◌≡◌, false, option_map, Err, IfOk, IfSome};
 ghost use Rattle.std.specs.declared.option.Option.TheVariants.{Some};
 ghost use Rattle.clap.specs.Words.{found_of, rows_of};
@@ -93,8 +93,8 @@ fn call_in<'a>(tool: Tool, matches: &ArgMatches<'a>) -> Option<Call<'a>>
     }
 }
 
-/// The call of these words, of which the first names a tool. Usage where they are not spelled, or where the command of the tool
-/// takes them all the same and a value is out of its range.
+/// The call of these arguments. The first of them names a tool. Usage only if they are not valid: they name no tool, its command
+/// refuses them, or a value is out of range.
 pub fn call_of(alloc: Global, words: &Args) -> Result<Call<'_>, OptionsFault>
     ensures ok { IfOk result (λ call. job words.now ≡ Some (job_of_call call)) }
     ensures call { IfOk result (λ call. IsCall call) }

@@ -7,7 +7,7 @@ use af_sound::SoundForm;
 pub struct PlayJob {
     /// The number of the device, 0..7.
     pub device: u8,
-    /// The form of the file that the source gives, or none where its bytes are samples. A file says itself of which type they are.
+    /// The form of the file that the source gives. Without one its bytes are samples. A file states its own sample type.
     pub form: Option<SoundForm>,
     /// The type of the samples, or that of the device.
     pub ty: Option<SampleType>,

@@ -1,4 +1,4 @@
-// The values of words: numbers, gains, switches, forms of files and orders of bytes.
+// Arguments as values: numbers, gains, switches, forms of files and byte orders.
 ghost use Rattle.std.specs.Prelude.{◌≡◌, ◌<◌};
 ghost use Rattle.af_cli.specs.Numbers.{form_in, gain_in, number_in, order_in, switch_in};
 
@@ -6,7 +6,7 @@ use af_sample::Gain;
 use af_sound::SoundForm;
 use af_wire::Order;
 
-/// The number of some decimal digits, of any number with zeros before them, where it lies between these two.
+/// The number that decimal digits state, if it lies between these two. Leading zeros are allowed.
 pub fn number_in(low: u32, high: u32, text: &[u8]) -> Option<u32>
     ensures { result ≡ number_in low high text.now }
 {

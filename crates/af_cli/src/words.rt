@@ -1,4 +1,4 @@
-// The jobs of the tools, by their words.
+// The jobs of the tools, by their arguments.
 ghost use Rattle.std.specs.Prelude.{◌≡◌, ◌-◌, ◌≤◌, None, codes, length, option_map, pos, IfSome};
 ghost use Rattle.af_limits.specs.Limits.{most_devices, longest_address};
 ghost use Rattle.clap.specs.Words.{first_of, found_of, rows_of};
@@ -82,7 +82,7 @@ pub fn order_at(matches: &ArgMatches<'_>) -> Option<Order>
     }
 }
 
-// A time, which need not be there.
+// A time, if one was given.
 fn time_at(matches: &ArgMatches<'_>) -> Option<Option<u32>>
     ensures { result ≡ if_there (number_in 0 4294967295) (first_of (codes "time") (rows_of (found_of matches.now))) }
 {
@@ -92,7 +92,7 @@ fn time_at(matches: &ArgMatches<'_>) -> Option<Option<u32>>
     }
 }
 
-// A sample type, which need not be there.
+// A sample type, if one was given.
 fn type_at(matches: &ArgMatches<'_>) -> Option<Option<SampleType>>
     ensures { result ≡ if_there type_of (first_of (codes "type") (rows_of (found_of matches.now))) }
 {
@@ -102,7 +102,7 @@ fn type_at(matches: &ArgMatches<'_>) -> Option<Option<SampleType>>
     }
 }
 
-// The form of a file, or none where the bytes are samples.
+// The form of a file. Without one, the bytes are samples.
 fn form_at(matches: &ArgMatches<'_>) -> Option<Option<SoundForm>>
     ensures { result ≡ or_default None form_in (first_of (codes "file") (rows_of (found_of matches.now))) }
 {
@@ -197,7 +197,7 @@ pub fn record_job(matches: &ArgMatches<'_>) -> Option<RecordJob>
     })
 }
 
-// A gain that need not be there.
+// A gain, if one was given.
 fn stated_gain_at(matches: &ArgMatches<'_>, name: &str) -> Option<Option<Gain>>
     ensures { result ≡ if_there gain_in (first_of name.now (rows_of (found_of matches.now))) }
 {
@@ -207,7 +207,7 @@ fn stated_gain_at(matches: &ArgMatches<'_>, name: &str) -> Option<Option<Gain>>
     }
 }
 
-// A switch that need not be there, by the word for it and the word against it.
+// A switch, if one was given: on by the first word, off by the second.
 fn switch_at(
     matches: &ArgMatches<'_>,
     name: &str,

@@ -1,7 +1,7 @@
-// How many frames of a device are due, by the readings of a clock.
+// How many frames of a device are due, by readings of the system's clock.
 ghost use Rattle.std.specs.Prelude.{◌≡◌, ◌≤◌, ◌-◌, ◌*◌, ◌/◌, min, nat_lt};
 ghost use Rattle.af_limits.specs.Limits.{longest_tick};
-ghost use Rattle.af_clock.specs.Pacing.{begun, due_at, after_due};
+ghost use Rattle.af_clock.specs.Pacing.{new_pace, due_at, after_due};
 
 use af_limits::LONGEST_TICK;
 use std::marker::Model;
@@ -28,9 +28,9 @@ impl Model for Pace {
 }
 
 impl Pace {
-    /// The pace of n frames a second, of which none was due yet.
+    /// The pace of n frames a second. None was due yet.
     pub fn new(rate: u32) -> Pace
-        ensures { result ≡ begun rate }
+        ensures { result ≡ new_pace rate }
     {
         Pace {
             rate,

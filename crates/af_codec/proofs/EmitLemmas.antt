@@ -1,4 +1,4 @@
--- What a start, a give and an emit make of what is fed.
+-- How a start, a give and an emit change what is fed.
 use Rattle.std.proofs.Common.{◌≡◌, ℕ, ℤ, ◌+◌, ◌==◌, Bool, true, false, List, [], ◌∷◌, ◌++◌, refl, sym, ap, ◌∙◌, subst, arith, is_some}
 use Rattle.std.specs.declared.option.Option.{Option}
 use Rattle.std.specs.declared.option.Option.TheVariants.{None, Some}
@@ -8,7 +8,7 @@ use Rattle.af_io.proofs.AppendedLemmas.{appended_on}
 use Rattle.af_process.specs.declared.act.BeganGot.{BeganGot}
 use Rattle.af_process.specs.Acts.{Told, noted, began, given, finished}
 use Rattle.af_codec.specs.declared.feeding.Feeding.{Feeding}
-use Rattle.af_codec.specs.Fed.{Emit, OrdersState, emit_acts, fed_behind, fed_on, feeding_start, give_acts, give_acts_for, give_for, put_of, start_acts_for, start_for, behind_start, started_with}
+use Rattle.af_codec.specs.Fed.{Emit, OrdersState, emit_acts, fed_behind, feeding_after, feeding_start, give_acts, give_acts_for, give_for, put_of, start_acts_for, start_for, behind_start, after_start_with}
 use Rattle.af_codec.specs.Codec.{TellsThese, ChildRuns, Feeds, Gives, HasStart, IsFed, Starts}
 use Rattle.af_codec.proofs.FedLemmas.{TellsThese-appended, acts_of-one_more, fed_behind-one_more}
 use Rattle.af_codec.proofs.StartLemmas.{HasStart-fed_behind}
@@ -17,9 +17,9 @@ none_of : {A : Type 0} (r : Option A) → false ≡ is_some r → r ≡ None
 none_of None e = refl
 none_of (Some x) e = grind arith
 
--- a start where no child runs
+-- a start when no child runs
 pub Starts-made : (o : OrdersState) (f g : Feeding) (words : List (List ℕ)) (got : BeganGot) (acts acts' : Option (List Told)) → false ≡ is_some f.running →
-    words ≡ o.words → g ≡ started_with o.restarts f got → Appended acts (began words got ∷ []) acts' → Starts o f g acts acts'
+    words ≡ o.words → g ≡ after_start_with o.restarts f got → Appended acts (began words got ∷ []) acts' → Starts o f g acts acts'
 Starts-made o f g words got acts acts' no_child same is added =
     let none = none_of f.running no_child in
     record {
@@ -28,7 +28,7 @@ Starts-made o f g words got acts acts' no_child same is added =
       feeding = is ∙ ap (λ r. start_for r o.restarts f got) (sym none);
     }
 
--- a give that failed, and the finish behind it
+-- a give that failed, and the finish after it
 pub Gives-lost : (o : OrdersState) (f : Feeding) (child most : ℕ) (sound : List ℕ) (status : Option ℤ) (a b c : Option (List Told)) → f.running ≡ Some child →
     most ≡ o.restarts + 1 → Appended a (given child sound false ∷ []) b → Appended b (finished child status ∷ []) c →
     Gives o f (record { running = None; starts = f.starts; failed = f.starts == most }) sound a c
@@ -54,7 +54,7 @@ Feeds-made o f g h sound a b c d put told starts gives answer =
       answer = answer;
     }
 
--- what is fed is so behind one more emit
+-- what is fed fits also after one more emit
 pub IsFed-on : (o : OrdersState) (f h : Feeding) (emitted : Bool) (sound : List ℕ) (a d : Option (List Told)) (put : Put) → f.failed ≡ false → IsFed o f emitted a →
     Feeds o f h sound a d put → ChildRuns h.running d → IsFed o h true d
 IsFed-on o f h emitted sound a d put live is feeds runs =
@@ -64,7 +64,7 @@ IsFed-on o f h emitted sound a d put live is feeds runs =
     let acts : Appended a (emit_acts o behind sound feeds.answers) d = subst (λ x. Appended a (emit_acts o x sound feeds.answers) d) is.behind feeds.told in
     record {
       emits = is.emits ++ e ∷ [];
-      behind = feeds.feeding ∙ ap (λ x. fed_on o x feeds.answers) is.behind ∙ sym (fed_behind-one_more o feeding_start is.emits e still);
+      behind = feeds.feeding ∙ ap (λ x. feeding_after o x feeds.answers) is.behind ∙ sym (fed_behind-one_more o feeding_start is.emits e still);
       told = subst (λ x. TellsThese x d) (sym (acts_of-one_more o feeding_start is.emits e still)) (TellsThese-appended _ _ a d is.told acts);
       none = λ no. grind arith;
       runs = runs;

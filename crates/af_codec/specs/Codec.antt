@@ -1,4 +1,4 @@
--- What a codec is seen as.
+-- A codec, as a caller has it.
 use Rattle.std.specs.Prelude.{◌≡◌, ⊤, ℕ, ℤ, ◌+◌, ◌≤◌, Bool, false, List, [], ◌∷◌}
 use Rattle.std.specs.declared.option.Option.{Option}
 use Rattle.std.specs.declared.option.Option.TheVariants.{None, Some}
@@ -7,26 +7,26 @@ use Rattle.af_io.specs.Observed.{Appended}
 use Rattle.af_process.specs.declared.act.BeganGot.{BeganGot}
 use Rattle.af_process.specs.Acts.{Told, finished, RunsWhereTold}
 use Rattle.af_codec.specs.declared.feeding.Feeding.{Feeding}
-use Rattle.af_codec.specs.Fed.{CallAnswers, Emit, OrdersState, acts_of, emit_acts, fed_behind, fed_on, feeding_start, give_acts, handed, put_of, start_acts, behind_start}
+use Rattle.af_codec.specs.Fed.{CallAnswers, Emit, OrdersState, acts_of, emit_acts, fed_behind, feeding_after, feeding_start, give_acts, after_give, put_of, start_acts, behind_start}
 
--- a codec: its spawner, what it was ordered, what is fed, and whether a sound was emitted
+-- a codec: its spawner, its orders, what its children were fed, and whether a sound was emitted
 pub record CodecState (S : Type 0) : Type 0 where
   pub spawner : S
   pub orders : OrdersState
   pub feeding : Feeding
   pub emitted : Bool
 
--- the acts, if they are observed, are these
+-- the acts are these, if they are observable
 abbrev pub TellsThese : List Told → Option (List Told) → Type 0
 TellsThese acts None = ⊤
 TellsThese acts (Some told) = told ≡ acts
 
--- if a child runs and the acts are observed, they show that it does
+-- if a child runs and the acts are observable, they show that it does
 abbrev pub ChildRuns : Option ℕ → Option (List Told) → Type 0
 ChildRuns None acts = ⊤
 ChildRuns (Some child) acts = RunsWhereTold child acts
 
--- All that was told are the acts of these emits, one after the other, and what is fed is what is fed behind them. None was made
+-- The acts are those of these emits, one after the other, and the children were fed what these emits fed them. Nothing was done
 -- before the first.
 pub record IsFed (orders : OrdersState) (feeding : Feeding) (emitted : Bool) (acts : Option (List Told)) : Type 0 where
   pub emits : List Emit
@@ -39,7 +39,7 @@ pub record IsFed (orders : OrdersState) (feeding : Feeding) (emitted : Bool) (ac
 pub record Feeds (orders : OrdersState) (before after : Feeding) (sound : List ℕ) (acts acts' : Option (List Told)) (put : Put) : Type 0 where
   pub answers : CallAnswers
   pub told : Appended acts (emit_acts orders before sound answers) acts'
-  pub feeding : after ≡ fed_on orders before answers
+  pub feeding : after ≡ feeding_after orders before answers
   pub answer : put ≡ put_of after
 
 -- what a start for a sound adds to the acts, and leaves fed
@@ -53,14 +53,14 @@ pub record Gives (orders : OrdersState) (before after : Feeding) (sound : List �
   pub done : Bool
   pub status : Option ℤ
   pub told : Appended acts (give_acts before sound done status) acts'
-  pub feeding : after ≡ handed orders.restarts before done
+  pub feeding : after ≡ after_give orders.restarts before done
 
--- a child was finished, whatever that answered
+-- a child was finished, whatever the answer
 pub record IsFinished (child : ℕ) (acts acts' : Option (List Told)) : Type 0 where
   pub status : Option ℤ
   pub told : Appended acts (finished child status ∷ []) acts'
 
--- a start is left where no child runs, and never more than one is made beyond the restarts
+-- if no child runs, a start is left; and no more starts are made than one and the restarts
 pub record HasStart (orders : OrdersState) (feeding : Feeding) : Type 0 where
   pub within : feeding.starts ≤ orders.restarts + 1
   pub left : feeding.failed ≡ false → feeding.running ≡ None → feeding.starts ≤ orders.restarts

@@ -9,8 +9,8 @@ use Rattle.af_process.specs.declared.act.BeganGot.TheVariants.{Child, Failed, No
 use Rattle.af_process.specs.Acts.{Told, noted, began, given, finished}
 use Rattle.af_codec.specs.declared.feeding.Feeding.{Feeding}
 
--- The answers of the calls that are made for a sound: of the start of a child, whether a give was done, and of the finish behind a
--- give that failed. What stands for a call that is not made means nothing.
+-- The answers of the calls for one sound: the start of a child, whether a give was done, and the finish after a give that failed.
+-- The answer of a call that is not made means nothing.
 pub record CallAnswers : Type 0 where
   pub start : BeganGot
   pub give : Bool
@@ -21,7 +21,7 @@ pub record Emit : Type 0 where
   pub sound : List ℕ
   pub answers : CallAnswers
 
--- how often a child may be started anew, and the words of each start
+-- how often a child may be started again, and the command line of each start
 pub record OrdersState : Type 0 where
   pub restarts : ℕ
   pub words : List (List ℕ)
@@ -32,15 +32,15 @@ feeding_start = record { running = None; starts = 0; failed = false }
 
 -- One sound
 
--- behind a start: its child runs, or none does, and the emit has failed if this was the last start
-abbrev pub started_with : ℕ → Feeding → BeganGot → Feeding
-started_with restarts f (Child child) = record f { running = Some child; starts = f.starts + 1 }
-started_with restarts f Failed = record f { starts = f.starts + 1; failed = f.starts + 1 == restarts + 1 }
-started_with restarts f NoMemory = f
+-- after a start: its child runs; or none does, and the emit has failed if this was the last start
+abbrev pub after_start_with : ℕ → Feeding → BeganGot → Feeding
+after_start_with restarts f (Child child) = record f { running = Some child; starts = f.starts + 1 }
+after_start_with restarts f Failed = record f { starts = f.starts + 1; failed = f.starts + 1 == restarts + 1 }
+after_start_with restarts f NoMemory = f
 
--- where no child runs, one is started
+-- if no child runs, one is started
 abbrev pub start_for : Option ℕ → ℕ → Feeding → BeganGot → Feeding
-start_for None restarts f got = started_with restarts f got
+start_for None restarts f got = after_start_with restarts f got
 start_for (Some child) restarts f got = f
 
 abbrev pub behind_start : ℕ → Feeding → BeganGot → Feeding
@@ -53,23 +53,23 @@ start_acts_for (Some child) words got = []
 abbrev pub start_acts : List (List ℕ) → Feeding → BeganGot → List Told
 start_acts words f got = start_acts_for f.running words got
 
--- behind a give that failed no child runs, and the emit has failed if no start is left
-abbrev pub lost : ℕ → Feeding → Feeding
-lost restarts f = record f { running = None; failed = f.starts == restarts + 1 }
+-- after a give that failed no child runs, and the emit has failed if no start is left
+abbrev pub after_failed_give : ℕ → Feeding → Feeding
+after_failed_give restarts f = record f { running = None; failed = f.starts == restarts + 1 }
 
-abbrev pub given_with : ℕ → Feeding → Bool → Feeding
-given_with restarts f true = f
-given_with restarts f false = lost restarts f
+abbrev pub after_give_with : ℕ → Feeding → Bool → Feeding
+after_give_with restarts f true = f
+after_give_with restarts f false = after_failed_give restarts f
 
--- where a child runs, it is given the sound
+-- if a child runs, it is given the sound
 abbrev pub give_for : Option ℕ → ℕ → Feeding → Bool → Feeding
 give_for None restarts f done = f
-give_for (Some child) restarts f done = given_with restarts f done
+give_for (Some child) restarts f done = after_give_with restarts f done
 
-abbrev pub handed : ℕ → Feeding → Bool → Feeding
-handed restarts f done = give_for f.running restarts f done
+abbrev pub after_give : ℕ → Feeding → Bool → Feeding
+after_give restarts f done = give_for f.running restarts f done
 
--- a give of the whole sound, and a finish where it failed
+-- a give of the whole sound, and a finish if it failed
 abbrev pub finish_acts : ℕ → Bool → Option ℤ → List Told
 finish_acts child true status = []
 finish_acts child false status = finished child status ∷ []
@@ -81,16 +81,16 @@ give_acts_for (Some child) sound done status = given child sound done ∷ finish
 abbrev pub give_acts : Feeding → List ℕ → Bool → Option ℤ → List Told
 give_acts f sound done status = give_acts_for f.running sound done status
 
--- what is fed behind an emit
-abbrev pub fed_on : OrdersState → Feeding → CallAnswers → Feeding
-fed_on orders f answers = handed orders.restarts (behind_start orders.restarts f answers.start) answers.give
+-- what is fed after an emit
+abbrev pub feeding_after : OrdersState → Feeding → CallAnswers → Feeding
+feeding_after orders f answers = after_give orders.restarts (behind_start orders.restarts f answers.start) answers.give
 
 -- the acts of an emit: the sound, and the calls that are made for it
 abbrev pub emit_acts : OrdersState → Feeding → List ℕ → CallAnswers → List Told
 emit_acts orders f sound answers =
     noted sound ∷ (start_acts orders.words f answers.start ++ give_acts (behind_start orders.restarts f answers.start) sound answers.give answers.finish)
 
--- the answer of an emit: Failed where its start or its give failed and no start is left
+-- the answer of an emit: Failed if its start or its give failed and no start is left
 abbrev pub put_of : Feeding → Put
 put_of f = if f.failed then put.Failed else put.Done
 
@@ -98,12 +98,12 @@ put_of f = if f.failed then put.Failed else put.Done
 
 abbrev pub fed_behind : OrdersState → Feeding → List Emit → Feeding
 fed_behind orders f [] = f
-fed_behind orders f (emit ∷ emits) = if f.failed then f else fed_behind orders (fed_on orders f emit.answers) emits
+fed_behind orders f (emit ∷ emits) = if f.failed then f else fed_behind orders (feeding_after orders f emit.answers) emits
 
 abbrev pub acts_of : OrdersState → Feeding → List Emit → List Told
 acts_of orders f [] = []
 acts_of orders f (emit ∷ emits) =
-    if f.failed then [] else (emit_acts orders f emit.sound emit.answers ++ acts_of orders (fed_on orders f emit.answers) emits)
+    if f.failed then [] else (emit_acts orders f emit.sound emit.answers ++ acts_of orders (feeding_after orders f emit.answers) emits)
 
 -- the sounds that were emitted
 abbrev pub sounds_of : List Emit → List (List ℕ)
@@ -117,22 +117,22 @@ taken_by_child (Some child) sound later = sound ∷ later
 abbrev pub rest_of_run : OrdersState → Feeding → List Emit → List (List ℕ)
 rest_of_run orders f [] = []
 rest_of_run orders f (emit ∷ emits) =
-    if f.failed then [] else taken_by_child f.running emit.sound (rest_of_run orders (fed_on orders f emit.answers) emits)
+    if f.failed then [] else taken_by_child f.running emit.sound (rest_of_run orders (feeding_after orders f emit.answers) emits)
 
 -- a child that is started begins a run, with the sound that it is started for
-abbrev pub begun_with : BeganGot → List (List ℕ) → List (List (List ℕ))
-begun_with (Child child) run = run ∷ []
-begun_with Failed run = []
-begun_with NoMemory run = []
+abbrev pub run_of_start : BeganGot → List (List ℕ) → List (List (List ℕ))
+run_of_start (Child child) run = run ∷ []
+run_of_start Failed run = []
+run_of_start NoMemory run = []
 
-abbrev pub begun_run : Option ℕ → BeganGot → List (List ℕ) → List (List (List ℕ))
-begun_run None got run = begun_with got run
-begun_run (Some child) got run = []
+abbrev pub run_of_start_for : Option ℕ → BeganGot → List (List ℕ) → List (List (List ℕ))
+run_of_start_for None got run = run_of_start got run
+run_of_start_for (Some child) got run = []
 
 -- the runs of sounds, one for each child that is started from here on, in the order of the starts
-abbrev pub fed : OrdersState → Feeding → List Emit → List (List (List ℕ))
-fed orders f [] = []
-fed orders f (emit ∷ emits) =
+abbrev pub fed_runs : OrdersState → Feeding → List Emit → List (List (List ℕ))
+fed_runs orders f [] = []
+fed_runs orders f (emit ∷ emits) =
     if f.failed then []
-    else (begun_run f.running emit.answers.start (emit.sound ∷ rest_of_run orders (fed_on orders f emit.answers) emits)
-    ++ fed orders (fed_on orders f emit.answers) emits)
+    else (run_of_start_for f.running emit.answers.start (emit.sound ∷ rest_of_run orders (feeding_after orders f emit.answers) emits)
+    ++ fed_runs orders (feeding_after orders f emit.answers) emits)

@@ -1,9 +1,9 @@
--- The runs of sounds that children are given, as the acts tell of them.
+-- The runs of sounds that children are given, by the acts.
 use Rattle.std.specs.Prelude.{◌≡◌, ⊤, ℕ, ◌+◌, ◌≤◌, List, [], ◌∷◌, ◌++◌}
 use Rattle.af_process.specs.declared.act.BeganGot.TheVariants.{Child, Failed, NoMemory}
 use Rattle.af_process.specs.Acts.{Told, noted, began, given, finished}
 
--- these are contiguous parts of a list, in its order, none of which reaches into the next
+-- these are contiguous parts of a list, in its order, and no two overlap
 abbrev pub ArePartsInOrder : {A : Type 0} → List (List A) → List A → Type 0
 ArePartsInOrder [] xs = ⊤
 ArePartsInOrder {A} (part ∷ parts) xs = (before : List A) × (behind : List A) × (xs ≡ before ++ (part ++ behind)) × ArePartsInOrder parts behind
@@ -36,7 +36,7 @@ runs_told (began words NoMemory ∷ acts) = runs_told acts
 runs_told (given child offered done ∷ acts) = runs_told acts
 runs_told (finished child status ∷ acts) = runs_told acts
 
--- how many starts were made, but for those that found no memory
+-- how many starts were made, except those that found no memory
 abbrev pub starts_told : List Told → ℕ
 starts_told [] = 0
 starts_told (noted sound ∷ acts) = starts_told acts
@@ -46,7 +46,7 @@ starts_told (began words NoMemory ∷ acts) = starts_told acts
 starts_told (given child offered done ∷ acts) = starts_told acts
 starts_told (finished child status ∷ acts) = starts_told acts
 
--- No sound was given to two children: what each was given is a contiguous part of all sounds, in their order, behind what the one
+-- No sound was given to two children: what each was given is a contiguous part of all sounds, in order, and after what the child
 -- before it was given. No more starts were made than one and the restarts.
 pub record FeedsOnce (restarts : ℕ) (acts : List Told) : Type 0 where
   pub parts : ArePartsInOrder (runs_told acts) (sounds_told acts)

@@ -1,4 +1,4 @@
-// A codec over a spawner.
+// The codec of a device: it gives the sound to child programs of a spawner.
 ghost use Rattle.std.specs.Prelude.{◌≡◌, ◌≤◌, ◌<◌, ◌+◌, true, false, [], length, IfSome};
 ghost use Rattle.std.specs.declared.option.Option.TheVariants.{Some};
 ghost use Rattle.arrayvec.specs.ArrayVec.{array_vec_len};

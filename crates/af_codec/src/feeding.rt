@@ -88,7 +88,7 @@ impl Feeding {
     }
 }
 
-// Finishes a child, whatever that answers.
+// Finishes a child, and ignores the answer.
 fn finish<S: Spawner>(spawner: &mut S, child: u32)
     requires { RunsWhereTold child (S.acts spawner.old) }
     ensures told { IsFinished child (S.acts spawner.old) (S.acts spawner.new) }

@@ -6,7 +6,7 @@ ghost use Rattle.af_process.specs.Acts.{words_of};
 use af_process::{Words, copied_words};
 use std::marker::Model;
 
-/// How often a child may be started again, and the words of each start.
+/// How often a child may be started again, and the command line of each start.
 #[derive(Drop)]
 pub(crate) struct Orders {
     restarts: u32,

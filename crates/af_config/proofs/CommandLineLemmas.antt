@@ -1,4 +1,4 @@
--- The words of a command line, one after the other.
+-- A command line, word by word.
 use Rattle.std.proofs.Common.{◌≡◌, ℕ, ◌<◌, ◌≤◌, Bool, true, false, ◌&&◌, nat_le, List, [], ◌∷◌, ◌++◌, length, map, refl, sym, ap, ◌∙◌, arith, append_assoc, length-append}
 use Rattle.std.specs.Prelude.{None}
 use Rattle.std.proofs.lemmas.Bool.Decides.{nat_tests}
@@ -9,7 +9,7 @@ use Rattle.af_process.specs.Acts.{words_of}
 use Rattle.af_text.specs.Words.{then_some, only_if}
 use Rattle.af_config.specs.Stating.{are_short, is_command_line}
 
--- words are short where those before one, it, and those behind it are
+-- words are short if those before one, it, and those after it are
 pub are_short-with : (xs : List (List ℕ)) (word : List ℕ) (ys : List (List ℕ)) → are_short (xs ++ word ∷ ys) ≡ are_short xs && (nat_le (length word) 64 && are_short ys)
 are_short-with [] word ys = refl
 are_short-with (x ∷ xs) word ys = ap (λ b. nat_le (length x) 64 && b) (are_short-with xs word ys) ∙ sym (all (nat_le (length x) 64) (are_short xs) (nat_le (length word) 64 && are_short ys))

@@ -8,7 +8,7 @@ use Rattle.af_sample.specs.Rates.{IsListedRate}
 use Rattle.af_text.specs.Lines.{is_nil}
 use Rattle.af_world.specs.Outside.{spec_has_line}
 use Rattle.af_config.specs.Stating.{Settings, Configured, LineProgram, has_free_line}
-use Rattle.af_config.specs.Reading.{IsSound, with_configured, with_program, programmed}
+use Rattle.af_config.specs.Reading.{IsSound, with_configured, with_program, programmed_count}
 use Rattle.af_config.proofs.ProgramLemmas.{free_parts, line_within, none_programmed, programmed_fewer, programmed_more}
 
 all_none : {A : Type 0} (P : A → Type 0) (xs : List A) → xs ≡ [] → All P xs
@@ -25,7 +25,7 @@ none_sound s none no_kind no_program =
       rates = all_none (λ device. IsListedRate device.rate) s.config none;
       channels = all_none (λ device. IsChannelCount device.channels) s.config none;
       lines = all_none (λ program. IsTrue (spec_has_line s.config program.device)) s.phones no_program;
-      apart = ap length no_program ∙ sym (ap (programmed s.phones 0) none);
+      apart = ap length no_program ∙ sym (ap (programmed_count s.phones 0) none);
     }
 
 -- one more device, as long as there is no program
@@ -39,10 +39,10 @@ device_sound s d sound none room listed channels =
       rates = All-push (λ device. IsListedRate device.rate) s.config d.spec sound.rates listed;
       channels = All-push (λ device. IsChannelCount device.channels) s.config d.spec sound.channels channels;
       lines = all_none (λ program. IsTrue (spec_has_line (s.config ++ d.spec ∷ []) program.device)) s.phones none;
-      apart = subst (λ phones. length phones ≡ programmed phones 0 (s.config ++ d.spec ∷ [])) (sym none) (sym (none_programmed 0 (s.config ++ d.spec ∷ [])));
+      apart = subst (λ phones. length phones ≡ programmed_count phones 0 (s.config ++ d.spec ∷ [])) (sym none) (sym (none_programmed 0 (s.config ++ d.spec ∷ [])));
     }
 
--- one more program, of a device whose line is free
+-- one more program, for a device whose line is free
 pub program_sound : (s : Settings) (p : LineProgram) → IsSound s → has_free_line s.config s.phones p.device ≡ true → IsSound (with_program s p)
 program_sound s p sound free =
     let parts = free_parts s.config s.phones p.device free in
@@ -62,7 +62,7 @@ pub no_programs : (programs : List LineProgram) → is_nil programs ≡ true →
 no_programs [] e = refl
 no_programs (p ∷ programs) e = cc e
 
--- there are no more programs than devices
+-- there are at most as many programs as devices
 pub few_programs : (s : Settings) → IsSound s → length s.phones ≤ most_devices
 few_programs s sound =
     let fewer = programmed_fewer s.phones 0 s.config in

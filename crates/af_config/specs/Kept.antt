@@ -1,4 +1,4 @@
--- What the parts of a line stand for, once they are read.
+-- The values of the parts of a line, once they are read.
 use Rattle.std.specs.Prelude.{string_bytes}
 use Rattle.af_world.specs.declared.lifecycle.ToldKind.{ToldKind}
 use Rattle.af_world.specs.Kinds.{silence, two_files, child_program, card_program}
@@ -9,20 +9,20 @@ use Rattle.af_config.specs.declared.device.Ending as kept
 use Rattle.af_config.specs.declared.line_program.OwnedLineProgram.{OwnedLineProgram}
 use Rattle.af_config.specs.Stating.{Configured, EndingState, LineProgram}
 
--- what stands behind a device
-abbrev pub owned_told : OwnedKind → ToldKind
-owned_told held.Silent = silence
-owned_told (held.Files input output) = two_files (string_bytes input) (string_bytes output)
-owned_told (held.Codec restarts words) = child_program restarts words
-owned_told (held.Card card restarts words) = card_program card restarts words
+-- the backend of a device
+abbrev pub told_owned_kind : OwnedKind → ToldKind
+told_owned_kind held.Silent = silence
+told_owned_kind (held.Files input output) = two_files (string_bytes input) (string_bytes output)
+told_owned_kind (held.Codec restarts words) = child_program restarts words
+told_owned_kind (held.Card card restarts words) = card_program card restarts words
 
 -- a device with it
-abbrev pub placed : ConfiguredDevice → Configured
-placed device = record { spec = device.spec; kind = owned_told device.kind }
+abbrev pub told_device : ConfiguredDevice → Configured
+told_device device = record { spec = device.spec; kind = told_owned_kind device.kind }
 
 -- the end of a device line
 abbrev pub stated_ending : kept.Ending → EndingState
-stated_ending stated = record { line = stated.line; kind = owned_told stated.kind }
+stated_ending stated = record { line = stated.line; kind = told_owned_kind stated.kind }
 
 -- the program of a telephone line
 abbrev pub owned_program : OwnedLineProgram → LineProgram

@@ -41,17 +41,17 @@ with_config_line s line =
 abbrev pub lacks_configured : Settings → Bool
 lacks_configured s = is_nil s.config
 
--- how many of these devices have one of these programs, where the first of the devices has this number
-abbrev pub programmed : List LineProgram → ℕ → List DeviceSpec → ℕ
-programmed programs number [] = 0
-programmed programs number (device ∷ devices) = (if has_program programs number then 1 else 0) + programmed programs (suc number) devices
+-- how many of these devices have one of these programs; the first of the devices has this number
+abbrev pub programmed_count : List LineProgram → ℕ → List DeviceSpec → ℕ
+programmed_count programs number [] = 0
+programmed_count programs number (device ∷ devices) = (if has_program programs number then 1 else 0) + programmed_count programs (suc number) devices
 
--- there are no more devices than there may be, of listed rates and of one or two channels, and as many kinds; each program is of a
--- device with a telephone line, and no two are of one
+-- There are no more devices than allowed, of listed rates and of one or two channels, and as many kinds. Each program is of a
+-- device with a telephone line, and no two are of one.
 pub record IsSound (s : Settings) : Type 0 where
   pub few : length s.config ≤ most_devices
   pub kinds : length s.kinds ≡ length s.config
   pub rates : All (λ device. IsListedRate device.rate) s.config
   pub channels : All (λ device. IsChannelCount device.channels) s.config
   pub lines : All (λ program. IsTrue (spec_has_line s.config program.device)) s.phones
-  pub apart : length s.phones ≡ programmed s.phones 0 s.config
+  pub apart : length s.phones ≡ programmed_count s.phones 0 s.config

@@ -1,4 +1,4 @@
--- What the words of a line of a configuration state: a device and what stands behind it, or the program of a telephone line.
+-- What the words of a line of a configuration state: a device and its backend, or the program of a telephone line.
 use Rattle.std.specs.Prelude.{ℕ, ◌-◌, ◌^◌, Bool, true, false, not, nat_le, ◌==◌, ◌&&◌, ◌||◌, List, [], ◌∷◌, length, fold, codes, bytes_eq, Option, Some, None, option_map, option_and_then, if◌then◌else◌}
 use Rattle.af_limits.specs.Limits.{most_devices}
 use Rattle.af_sample.specs.declared.sample_type.SampleType.{SampleType}
@@ -12,24 +12,25 @@ use Rattle.af_world.specs.declared.lifecycle.ToldKind.TheVariants as told
 use Rattle.af_world.specs.Outside.{spec_has_line}
 use Rattle.af_world.specs.Kinds.{silence, two_files, child_program, card_program, most_card_restarts}
 
--- the program that stands for the exchange of a telephone line: of which device, how often it is started anew, and its words
+-- the program that is the exchange of a telephone line: the device of the line, how often it is started again, and its command
+-- line
 pub record LineProgram : Type 0 where
   pub device : ℕ
   pub restarts : ℕ
   pub words : List (List ℕ)
 
--- the devices of a server, what stands behind each, in the same order, and the programs of their telephone lines
+-- the devices of a server, the backend of each, in the same order, and the programs of their telephone lines
 pub record Settings : Type 0 where
   pub config : List DeviceSpec
   pub kinds : List ToldKind
   pub phones : List LineProgram
 
--- a device, and what stands behind it
+-- a device, and its backend
 pub record Configured : Type 0 where
   pub spec : DeviceSpec
   pub kind : ToldKind
 
--- how a device line ends: whether it states a telephone line, and what stands behind the device
+-- the end of a device line: whether it states a telephone line, and the backend of the device
 pub record EndingState : Type 0 where
   pub line : Bool
   pub kind : ToldKind
@@ -45,12 +46,12 @@ is_codec (told.Card kind restarts words) = false
 abbrev pub has_codec : List ToldKind → Bool
 has_codec kinds = fold (λ has kind. has || is_codec kind) false kinds
 
--- no word comes behind `silent`
+-- no word comes after `silent`
 abbrev pub silent_of : List (List ℕ) → Option ToldKind
 silent_of [] = Some silence
 silent_of (name ∷ names) = None
 
--- the names of two files come behind `files`
+-- the names of two files come after `files`
 abbrev pub files_of : List (List ℕ) → Option ToldKind
 files_of (input ∷ output ∷ []) = Some (two_files input output)
 files_of _ = None
@@ -60,20 +61,20 @@ abbrev pub are_short : List (List ℕ) → Bool
 are_short [] = true
 are_short (word ∷ words) = nat_le (length word) 64 && are_short words
 
--- the words of a command line: 1 to 8 of them, of at most 64 bytes each
+-- a command line: 1 to 8 words of at most 64 bytes each
 abbrev pub is_command_line : List (List ℕ) → Bool
 is_command_line words = nat_le 1 (length words) && nat_le (length words) 8 && are_short words
 
--- how often a program is started anew, so many times at most, and its command line
+-- how often a program is started again, at most so many times, and its command line
 abbrev pub program_of : {A : Type 0} → (ℕ → List (List ℕ) → A) → ℕ → List (List ℕ) → Option A
 program_of made most [] = None
 program_of made most (restarts ∷ words) = option_and_then (λ n. option_map (made n) (only_if is_command_line words)) (number_within 0 most restarts)
 
--- they come behind `codec`
+-- they come after `codec`
 abbrev pub codec_of : List (List ℕ) → Option ToldKind
 codec_of words = program_of child_program 100 words
 
--- and behind `speaker`, `microphone` or `card`
+-- and after `speaker`, `microphone` or `card`
 abbrev pub card_of : CardKind → List (List ℕ) → Option ToldKind
 card_of kind words = program_of (card_program kind) most_card_restarts words
 
@@ -100,16 +101,16 @@ ending_of (word ∷ rest) =
     if bytes_eq word (codes "line") then option_map (ending_with true) (kind_of rest)
     else option_map (ending_with false) (kind_of (word ∷ rest))
 
--- a device of this type and rate, whose time begins here, of so many channels
+-- a device of this type and rate, whose time begins here, with so many channels
 abbrev pub configured_at : SampleType → ℕ → ℕ → ℕ → DeviceSpec
 configured_at ty rate start channels = record { ty = ty; rate = rate; start = start; channels = channels; line = false }
 
--- a device that ends so
+-- a device with this ending
 abbrev pub placed_at : DeviceSpec → EndingState → Configured
 placed_at device ending = record { spec = record device { line = ending.line }; kind = ending.kind }
 
--- the device of `device TYPE RATE START`, then `stereo` if it has two channels, then `line` if it has a telephone line, then what
--- stands behind it, by the words behind `device`
+-- the device of `device TYPE RATE START`, then `stereo` if it has two channels, then `line` if it has a telephone line, then its
+-- backend; the words are those after `device`
 abbrev pub configured_with : List (List ℕ) → Option Configured
 configured_with (ty ∷ rate ∷ start ∷ rest) =
     option_and_then (λ t. option_and_then (λ r. option_and_then (λ s. option_map (placed_at (configured_at t r s (channels_stated rest))) (ending_of (behind_channels rest))) (number_within 0 (2 ^ 32 - 1) start)) (rate_of rate)) (type_of ty)
@@ -136,7 +137,7 @@ abbrev pub is_phone_line : List (List ℕ) → Bool
 is_phone_line [] = false
 is_phone_line (name ∷ arguments) = bytes_eq name (codes "phone")
 
--- the program that the words of a phone line state, whatever the devices are
+-- the program that the words of a phone line state, whichever devices there are
 abbrev pub line_program_of : List (List ℕ) → Option LineProgram
 line_program_of [] = None
 line_program_of (name ∷ arguments) = if bytes_eq name (codes "phone") then line_program_with arguments else None
@@ -146,6 +147,6 @@ abbrev pub has_program : List LineProgram → ℕ → Bool
 has_program [] device = false
 has_program (program ∷ programs) device = program.device == device || has_program programs device
 
--- whether a device has a telephone line, and none of these programs is of it
+-- whether a device has a telephone line, and none of these programs is for it
 abbrev pub has_free_line : List DeviceSpec → List LineProgram → ℕ → Bool
 has_free_line config programs device = spec_has_line config device && not (has_program programs device)

@@ -1,11 +1,11 @@
-// What a line of a configuration states: a device, and what stands behind it.
+// What a line of a configuration states: a device and its backend.
 ghost use Rattle.std.specs.Prelude.{◌≡◌, IfOk, IfSome, MatchOption, None, option_map, string_bytes};
 ghost use Rattle.std.specs.Str.{IsUtf8, is_utf8};
 ghost use Rattle.af_sample.specs.Channels.{IsChannelCount};
 ghost use Rattle.af_sample.specs.Rates.{IsListedRate};
 ghost use Rattle.af_text.specs.Lines.{words};
 ghost use Rattle.af_config.specs.Stating.{configured_of, configured_with, placed_at, ending_of, kind_of, silent_of, files_of, codec_of, card_of, is_codec};
-ghost use Rattle.af_config.specs.Kept.{placed, owned_told, stated_ending};
+ghost use Rattle.af_config.specs.Kept.{told_device, told_owned_kind, stated_ending};
 
 use crate::command_line::{MOST_RESTARTS, command_line_stated};
 use af_process::CommandLine;
@@ -39,7 +39,7 @@ pub enum OwnedKind {
 impl OwnedKind {
     /// Whether the device has the codec.
     pub fn is_codec(&self) -> bool
-        ensures { result ≡ is_codec (owned_told self.now) }
+        ensures { result ≡ is_codec (told_owned_kind self.now) }
     {
         matches!(self, OwnedKind::Codec { .. })
     }
@@ -62,7 +62,7 @@ struct Ending {
 /// The device that a line of text states.
 pub fn device_stated(alloc: Global, line: &[u8]) -> Result<Option<ConfiguredDevice>, OutOfMemory>
     requires { IsUtf8 line.now }
-    ensures value { IfOk result (λ device. option_map placed device ≡ configured_of (words line.now)) }
+    ensures value { IfOk result (λ device. option_map told_device device ≡ configured_of (words line.now)) }
     ensures listed { IfOk result (λ device. IfSome device (λ d. IsListedRate d.spec.rate)) }
     ensures channels { IfOk result (λ device. IfSome device (λ d. IsChannelCount d.spec.channels)) }
 {
@@ -124,7 +124,7 @@ fn ending_stated(alloc: Global, arguments: &[u8]) -> Result<Option<Ending>, OutO
 /// `silent`, `files INPUT OUTPUT`, or one of `codec`, `speaker`, `microphone` and `card` with `RESTARTS WORD ..`
 fn kind_stated(alloc: Global, arguments: &[u8]) -> Result<Option<OwnedKind>, OutOfMemory>
     requires { IsUtf8 arguments.now }
-    ensures { IfOk result (λ kind. option_map owned_told kind ≡ kind_of (words arguments.now)) }
+    ensures { IfOk result (λ kind. option_map told_owned_kind kind ≡ kind_of (words arguments.now)) }
 {
     let Some((word, names)) = next_word(arguments) else {
         return Ok(None);
@@ -148,7 +148,7 @@ fn kind_stated(alloc: Global, arguments: &[u8]) -> Result<Option<OwnedKind>, Out
 
 /// No words, after `silent`.
 fn silent_stated(names: &[u8]) -> Option<OwnedKind>
-    ensures { option_map owned_told result ≡ silent_of (words names.now) }
+    ensures { option_map told_owned_kind result ≡ silent_of (words names.now) }
 {
     match next_word(names) {
         None => Some(OwnedKind::Silent),
@@ -159,7 +159,7 @@ fn silent_stated(names: &[u8]) -> Option<OwnedKind>
 /// `INPUT OUTPUT`, after `files`.
 fn files_stated(alloc: Global, names: &[u8]) -> Result<Option<OwnedKind>, OutOfMemory>
     requires { IsUtf8 names.now }
-    ensures { IfOk result (λ kind. option_map owned_told kind ≡ files_of (words names.now)) }
+    ensures { IfOk result (λ kind. option_map told_owned_kind kind ≡ files_of (words names.now)) }
 {
     match two_words(names) {
         Some((input, output)) => Ok(Some(OwnedKind::Files {
@@ -173,7 +173,7 @@ fn files_stated(alloc: Global, names: &[u8]) -> Result<Option<OwnedKind>, OutOfM
 /// `RESTARTS WORD ..`, after `codec`.
 fn codec_stated(names: &[u8]) -> Option<OwnedKind>
     requires { IsUtf8 names.now }
-    ensures { option_map owned_told result ≡ codec_of (words names.now) }
+    ensures { option_map told_owned_kind result ≡ codec_of (words names.now) }
 {
     let (restarts, rest) = next_word(names)?;
     let restarts = number_between(0, MOST_RESTARTS, restarts)?;
@@ -184,7 +184,7 @@ fn codec_stated(names: &[u8]) -> Option<OwnedKind>
 /// `RESTARTS WORD ..`, after `speaker`, `microphone` or `card`.
 fn card_stated(card: CardKind, names: &[u8]) -> Option<OwnedKind>
     requires { IsUtf8 names.now }
-    ensures { option_map owned_told result ≡ card_of card (words names.now) }
+    ensures { option_map told_owned_kind result ≡ card_of card (words names.now) }
 {
     let (restarts, rest) = next_word(names)?;
     let restarts = number_between(0, MOST_CARD_RESTARTS, restarts)?;

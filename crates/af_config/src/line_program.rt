@@ -1,4 +1,4 @@
-// What a phone line of a configuration states: the program that stands for the exchange of a telephone line.
+// What a phone line of a configuration states: the program that is the exchange of a telephone line.
 ghost use Rattle.std.specs.Prelude.{◌≡◌, map, option_map};
 ghost use Rattle.std.specs.Str.{IsUtf8};
 ghost use Rattle.af_text.specs.Lines.{words};
@@ -14,7 +14,7 @@ use af_world::MOST_CARD_RESTARTS;
 /// Devices are numbered from 0 to this.
 const LAST_DEVICE: u32 = MOST_DEVICES as u32 - 1;
 
-/// The program that stands for the exchange of a telephone line.
+/// The program that is the exchange of a telephone line.
 #[derive(Drop)]
 pub struct OwnedLineProgram {
     /// The device that has the line.

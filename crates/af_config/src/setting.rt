@@ -1,10 +1,10 @@
-// What a server is started with: its devices, what stands behind each, and the programs of their telephone lines.
+// What a server is started with: its devices, the backend of each, and the programs of their telephone lines.
 ghost use Rattle.std.specs.Prelude.{◌≡◌, ◌<◌, [], length, map, not, slice_get, Some, IsTrue, nat_eq, OnOk};
 ghost use Rattle.af_limits.specs.Limits.{most_devices};
 ghost use Rattle.af_text.specs.Lines.{is_nil};
 ghost use Rattle.af_world.specs.Kinds.{told_kind};
 ghost use Rattle.af_config.specs.Stating.{has_codec, has_free_line};
-ghost use Rattle.af_config.specs.Kept.{placed, owned_program};
+ghost use Rattle.af_config.specs.Kept.{told_device, owned_program};
 ghost use Rattle.af_config.specs.Reading.{with_configured, with_program};
 
 use crate::device::{ConfiguredDevice, OwnedKind};
@@ -27,17 +27,17 @@ pub struct Setting {
 impl Model for Setting {
     ghost use Rattle.std.specs.Prelude.{◌≡◌, length, map};
     ghost use Rattle.af_config.specs.Stating.{Settings, has_codec};
-    ghost use Rattle.af_config.specs.Kept.{owned_told, owned_program};
+    ghost use Rattle.af_config.specs.Kept.{told_owned_kind, owned_program};
 
     ghost Value = { Settings };
 
     ghost view = { λ s. record {
       config = s.config.items;
-      kinds = map owned_told s.kinds.items;
+      kinds = map told_owned_kind s.kinds.items;
       phones = map owned_program s.phones.items;
     } };
 
-    ghost invariant = { λ s. (length s.kinds.items ≡ length s.config.items) × (s.is_codec_stated ≡ has_codec (map owned_told s.kinds.items)) };
+    ghost invariant = { λ s. (length s.kinds.items ≡ length s.config.items) × (s.is_codec_stated ≡ has_codec (map told_owned_kind s.kinds.items)) };
 }
 
 impl Setting {
@@ -55,10 +55,10 @@ impl Setting {
         }
     }
 
-    /// Adds a device at the end, of which there may be 8. Where memory runs out nothing is promised of the setting.
+    /// Adds a device at the end. There may be 8. If memory runs out, nothing is promised of the setting.
     pub(crate) fn add_device(&mut self, device: ConfiguredDevice) -> Result<(), OutOfMemory>
         requires { length self.old.config < most_devices }
-        ensures { OnOk result (self.new ≡ with_configured self.old (placed device)) }
+        ensures { OnOk result (self.new ≡ with_configured self.old (told_device device)) }
     {
         let is_codec = device.kind.is_codec();
         self.kinds.push(device.kind)?;

@@ -14,7 +14,7 @@ use Rattle.af_context.specs.declared.Context.{Context}
 use Rattle.af_context.specs.declared.ContextFault.TheVariants.{BadAc}
 use Rattle.af_context.specs.Contexts.{context_of, is_in_use, with_changed, without_context, AreContexts, IsPlaceOf}
 
--- the first place that passes a test is in the list where the test passes at all
+-- the first place that passes a test is in the list if the test passes at all
 position_or_len-in : {X : Type 0} (p : X → Bool) (xs : List X) → nat_lt (position_or_len p xs) (length xs) ≡ list_any p xs
 position_or_len-in p [] = refl
 position_or_len-in p (x ∷ xs) =
@@ -28,8 +28,7 @@ find-none p (x ∷ xs) e =
     elim (p x) as (λ b. (b || list_any p xs) ≡ false → cond b (Some x) (find p xs) ≡ None)
     [ true ↦ λ f. absurd cc | false ↦ λ f. find-none p xs f ] e
 
--- the first place whose context has the number is that of the number's context, and if there is none the number
--- is not in use
+-- the first place whose context has the number is that of the number's context; if there is none, the number is not in use
 pub IsPlaceOf-position : (xs : List Context) (ac : ℕ) → IsPlaceOf xs ac (ok_or (position (λ c. c.ac == ac) xs) BadAc)
 IsPlaceOf-position xs ac =
     let within = position_or_len-in (λ c. c.ac == ac) xs in
@@ -65,14 +64,14 @@ apart xs c free k d low same =
     let used : is_in_use xs c.ac ≡ true = list_any_at (λ x. x.ac == c.ac) xs k d low is in
     absurd cc
 
--- one context less
+-- the list without one context
 pub AreContexts-remove : (xs : List Context) (at : ℕ) → AreContexts xs → at < length xs → AreContexts (remove xs at)
 AreContexts-remove xs at h low = record {
   distinct = all_pairs_remove (λ a b. a.ac ≢ b.ac) xs at low h.distinct;
   few = let n = length-remove xs at low in let k = h.few in omega arith;
 }
 
--- a context in place of one of the same number
+-- a context replaces one with the same number
 pub AreContexts-set : (xs : List Context) (at : ℕ) (c d : Context) → AreContexts xs → at < length xs → c.ac ≡ (get_or xs at d).ac → AreContexts (set xs at c)
 AreContexts-set xs at c d h low same = record {
   distinct = λ i j e below within.
@@ -106,7 +105,7 @@ leave_others (x ∷ xs) ac change h =
     let rest = leave_others xs ac change (λ k d low. h (suc k) d (omega arith)) in
     ap (λ b. cond b (change x) x ∷ with_changed xs ac change) other ∙ ap (λ l. x ∷ l) rest
 
--- removing the context at a place leaves those of the other numbers
+-- removing the context at a place leaves those with other numbers
 pub remove-place : (xs : List Context) (at : ℕ) (d : Context) → AllPairs (λ a b. a.ac ≢ b.ac) xs → at < length xs → remove xs at ≡ without_context xs (get_or xs at d).ac
 remove-place [] at d h low = absurd (omega arith)
 remove-place (x ∷ xs) zero d h low =
@@ -132,7 +131,7 @@ set-place (x ∷ xs) (suc at) d change h low =
     ap (λ l. x ∷ l) (set-place xs at d change (tail_pairs x xs h) low')
     ∙ sym (ap (λ b. cond b (change x) x ∷ with_changed xs (get_or xs at d).ac change) other)
 
--- a list that a write of an element leaves is as long as it was
+-- writing an element leaves the list as long as it was
 pub refill-set : (xs : List Context) (at : ℕ) (c : Context) → refill (length xs) xs (set xs at c) ≡ set xs at c
 refill-set xs at c =
     let n : length (set xs at c) ≡ length xs = length-set xs at c in
@@ -142,7 +141,7 @@ or_nothing : (o : Option Context) → option_or o None ≡ o
 or_nothing None = refl
 or_nothing (Some x) = refl
 
--- what a number means when a context was created
+-- what a number means once a context was created
 pub context_of-created : (xs : List Context) (c : Context) (n : ℕ) → is_in_use xs c.ac ≡ false → context_of (xs ++ c ∷ []) n ≡ cond (c.ac == n) (Some c) (context_of xs n)
 context_of-created xs c n free =
     find-append (λ x. x.ac == n) xs (c ∷ [])
@@ -152,7 +151,7 @@ context_of-created xs c n free =
       | false ↦ λ t. or_nothing (context_of xs n)
     ] refl)
 
--- what a number means when the context of a number was changed
+-- what a number means once the context of a number was changed
 pub context_of-changed : (xs : List Context) (ac n : ℕ) (change : Context → Context) → ((c : Context) → (change c).ac ≡ c.ac)
     → context_of (with_changed xs ac change) n ≡ cond (ac == n) (option_map change (context_of xs n)) (context_of xs n)
 context_of-changed [] ac n change keeps =
@@ -178,7 +177,7 @@ context_of-changed (x ∷ xs) ac n change keeps =
           ] refl)
     ] refl
 
--- what a number means when the context of a number was freed
+-- what a number means once the context of a number was freed
 pub context_of-freed : (xs : List Context) (ac n : ℕ) → context_of (without_context xs ac) n ≡ cond (ac == n) None (context_of xs n)
 context_of-freed [] ac n = let none : Option Context = None in elim (ac == n) as (λ b. none ≡ cond b none none) [ true ↦ refl | false ↦ refl ]
 context_of-freed (x ∷ xs) ac n =
@@ -202,7 +201,7 @@ get_or-append_seam : (before : List Context) (c : Context) (after : List Context
 get_or-append_seam [] c after = refl
 get_or-append_seam (x ∷ before) c after = get_or-append_seam before c after
 
--- freeing a context leaves what stood before and behind it
+-- freeing a context leaves those before and after it
 pub without_context-one : (before after : List Context) (c : Context) → AllPairs (λ a b. a.ac ≢ b.ac) (before ++ c ∷ after) → without_context (before ++ c ∷ after) c.ac ≡ before ++ after
 without_context-one [] after c h =
     let here : (c.ac == c.ac) ≡ true = search rules in

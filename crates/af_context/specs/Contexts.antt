@@ -19,13 +19,13 @@ pub record AreContexts (contexts : List Context) : Type 0 where
   pub distinct : AllPairs (λ a b. a.ac ≢ b.ac) contexts
   pub few : length contexts ≤ most_contexts
 
--- what the creation of a context with this number answers: the number is looked at before the room
+-- the answer to the creation of a context with this number: the number is looked at before the room
 abbrev pub creation : List Context → ℕ → Result Unit ContextFault
 creation contexts ac =
     if is_in_use contexts ac then Err BadIdChoice
     else (if nat_lt (length contexts) 16 then Ok tt else Err TooMany)
 
--- what a request that names a context by its number is answered, as far as the number goes
+-- the answer to a request that names a context by its number, as far as the number goes
 abbrev pub reference : List Context → ℕ → Result Unit ContextFault
 reference contexts ac = if is_in_use contexts ac then Ok tt else Err BadAc
 
@@ -37,7 +37,7 @@ with_settings play record_to preempt c = record c {
   preempt = unwrap_or preempt c.preempt;
 }
 
--- the contexts, that of a number changed
+-- the contexts, with that of a number changed
 abbrev pub with_changed : List Context → ℕ → (Context → Context) → List Context
 with_changed contexts ac change = map (λ c. if c.ac == ac then change c else c) contexts
 
@@ -45,7 +45,7 @@ with_changed contexts ac change = map (λ c. if c.ac == ac then change c else c)
 abbrev pub without_context : List Context → ℕ → List Context
 without_context contexts ac = filter (λ c. not (c.ac == ac)) contexts
 
--- the place of the context of a number, or that the number is not in use
+-- the place of the context with a number, or that the number is not in use
 abbrev pub IsPlaceOf : List Context → ℕ → Result ℕ ContextFault → Type 0
 IsPlaceOf contexts ac (Ok at) =
     (at < length contexts) × (is_in_use contexts ac ≡ true) × (context_of contexts ac ≡ slice_get contexts at)

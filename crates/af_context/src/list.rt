@@ -118,7 +118,7 @@ fn first_place(contexts: &[Context], ac: u32) -> Option<usize>
     contexts.iter().position(|c| c.ac == ac)
 }
 
-// The place of the context of a number. BadAc where the number is not in use.
+// The place of the context with a number, or BadAc if the number is not in use.
 fn place_of(contexts: &[Context], ac: u32) -> Result<usize, ContextFault>
     ensures { IsPlaceOf contexts.now ac result }
 {

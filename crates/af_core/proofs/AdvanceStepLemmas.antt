@@ -1,4 +1,4 @@
--- What was taken off is one step of all.
+-- What was taken off is one step of advancing.
 use Rattle.std.proofs.Common.{◌≡◌, ℕ, Bool, true, false, cond, subst, length, List, ◌++◌, map, refl, sym, ◌∙◌, ap}
 use Rattle.std.specs.declared.option.Option.{Option}
 use Rattle.std.specs.declared.option.Option.TheVariants.{None, Some}
@@ -36,7 +36,7 @@ ends_at k p env l (Some q) e s = absurd s
 pub ends : (k : ℕ) (p : OpenLink) (env : KeptSharedState) (l : LinkState) → AdvancesTo false (advance_step k p) env l → advance k p ≡ p
 ends k p env l s = ends_at k p env l (advance_step k p) refl s
 
--- a link with no input keeps as it is
+-- a link with no input stays as it is
 pub nothing_there : (k : ℕ) (p : OpenLink) → length p.link.rest ≡ 0 → advance k p ≡ p
 unfolding advance
 nothing_there k p none = ap (λ n. advance_by n k p) none

@@ -1,4 +1,4 @@
--- The requests that are due of a device complete.
+-- The requests that are due for a device complete.
 use Rattle.std.proofs.Common.{◌≡◌, ◌≢◌, ℕ, zero, suc, ◌*◌, ◌%◌, ◌^◌, ◌<◌, ◌≤◌, ◌==◌, ◌||◌, nat_le, Bool, true, false, cond, List, [], ◌∷◌, length, find, slice_get, slice_set, option_map, option_and_then, refl, sym, ap, ◌∙◌, subst, arith, eqb-true}
 use Rattle.std.proofs.lemmas.Bool.Decides.{nat_tests}
 use Rattle.std.proofs.lemmas.List.Elements.{All-head, All-tail}
@@ -10,14 +10,14 @@ use Rattle.af_sample.specs.Channels.{frame_count}
 use Rattle.af_wait.specs.Waits.{without_first}
 use Rattle.af_model.specs.State.{State, DeviceState, Deferred, deferred_play, deferred_record, LinkState, Deferral, EnvironmentState, OpenLink, open_link, slot_link_at}
 use Rattle.af_model.specs.Reply.{horizon_of}
-use Rattle.af_model.specs.Waiting.{due, falls_due}
+use Rattle.af_model.specs.Waiting.{due_time, falls_due}
 use Rattle.af_model.specs.Play.{in_devices}
 use Rattle.af_model.specs.Advance.{advance, or_else}
-use Rattle.af_model.specs.Tick.{answer_deferred, complete, complete_at, complete_by, complete_due, complete_first, complete_for, complete_step, completing}
+use Rattle.af_model.specs.Tick.{answer_deferred, complete, complete_at, complete_by, complete_due, complete_first, complete_for, complete_step, complete_deferred}
 use Rattle.af_model.proofs.BoolTestLemmas.{both-true}
 use Rattle.af_model.proofs.SlotLemmas.{some_link, slot_link, links_of-set}
 use Rattle.af_state.specs.Kept.{KeptDevice, StandsForDevice, StandForDevices}
-use Rattle.af_state.specs.Deferrals.{KeptDeferral, has_waiting, kept_due, worded, CanComplete, OnlyQueues, IsNear, IsShort, StandForDeferrals}
+use Rattle.af_state.specs.Deferrals.{KeptDeferral, has_waiting, kept_due, with_start_word, CanComplete, OnlyQueues, IsNear, IsShort, StandForDeferrals}
 use Rattle.af_state.specs.SharedState.{StandsForLink, KeptSharedState, StepsLink, StandsForSharedState}
 use Rattle.af_perform.specs.Sounds.{CompletesDeferred}
 use Rattle.af_state.proofs.DeferralLemmas.{dues, dues_few, dues_grown, dues_taken, first_due, only_queues_others, length-waits, none_due}
@@ -48,7 +48,7 @@ found_test p (x ∷ ws) w e =
       | false ↦ λ t f. found_test p ws w f
     ] refl e
 
--- a device of which one is due is there
+-- a device for which one is due exists
 due_state : (devices : List DeviceState) (d number : ℕ) (ks : List KeptDeferral) (ws : List Deferral) → StandForDeferrals devices ks ws → option_map (λ k. k.wait.link) (find (kept_due d) ks) ≡ Some number → (s : DeviceState) × (slice_get devices d ≡ Some s)
 due_state devices d number [] ws h e = absurd cc
 due_state devices d number (x ∷ ks) [] h e = absurd h
@@ -70,16 +70,16 @@ kept_there (x ∷ ds) (y ∷ ss) (suc d) s e h = let low = kept_there ds ss d s 
 pub due_there : (env : KeptSharedState) (a : EnvironmentState) (d number : ℕ) → StandsForSharedState env a → option_map (λ k. k.wait.link) (find (kept_due d) env.waits) ≡ Some number → d < length env.devices
 due_there env a d number h due_link = let s = due_state a.devices d number env.waits a.waiting h.1 due_link in kept_there env.devices a.devices d s.0 s.1 h.0
 
--- the first that is due of a device, with what the room of its link holds
+-- the first request that is due for a device, with what the room of its link holds
 record DueFirst (d : ℕ) (s : DeviceState) (a : EnvironmentState) (ks : List KeptDeferral) (number : ℕ) (deferred : Deferred) : Type 0 where
   waiter : Deferral
   first : find (falls_due d s) a.waiting ≡ Some waiter
   link : waiter.link ≡ number
   device : waiter.device ≡ d
-  is : deferred ≡ worded waiter.deferred
+  is : deferred ≡ with_start_word waiter.deferred
   near : IsNear (s.rate * 4) s.now waiter.deferred
   short : IsShort s.channels waiter.deferred
-  now : due s.channels (s.rate * 4) waiter.deferred ≤ s.now
+  now : due_time s.channels (s.rate * 4) waiter.deferred ≤ s.now
   rest : StandForDeferrals a.devices (without_first (kept_due d) ks) (without_first (falls_due d s) a.waiting)
 
 due_first : (env : KeptSharedState) (d : ℕ) (s : DeviceState) (a : EnvironmentState) (number : ℕ) (deferred : Deferred) → StandsForSharedState env a → slice_get a.devices d ≡ Some s → option_map (λ k. k.wait.link) (find (kept_due d) env.waits) ≡ Some number →
@@ -87,7 +87,7 @@ due_first : (env : KeptSharedState) (d : ℕ) (s : DeviceState) (a : Environment
 due_first env d s a number deferred h here due_link room =
     let k = some_due d number (find (kept_due d) env.waits) due_link in
     let r = first_due a.devices d s env.waits a.waiting k.0 here h.1 k.1 in
-    let test = both-true (r.waiter.device == d) (nat_le (due s.channels (horizon_of s) r.waiter.deferred) s.now) (found_test (falls_due d s) a.waiting r.waiter r.first) in
+    let test = both-true (r.waiter.device == d) (nat_le (due_time s.channels (horizon_of s) r.waiter.deferred) s.now) (found_test (falls_due d s) a.waiting r.waiter r.first) in
     let device : r.waiter.device ≡ d = eqb-true r.waiter.device d test.0 in
     let past = test.1 in
     let state : r.stands.state ≡ s = let both : Some r.stands.state ≡ Some s = sym r.stands.here ∙ ap (slice_get a.devices) device ∙ here in cc in
@@ -104,7 +104,7 @@ due_first env d s a number deferred h here due_link room =
     }
 
 -- a play that is due ends within the horizon, and each request is as short as it was
-can_complete : (x : KeptDevice) (s : DeviceState) (deferred : Deferred) → StandsForDevice x s → IsNear (s.rate * 4) s.now deferred → IsShort s.channels deferred → due s.channels (s.rate * 4) deferred ≤ s.now → CanComplete x (worded deferred)
+can_complete : (x : KeptDevice) (s : DeviceState) (deferred : Deferred) → StandsForDevice x s → IsNear (s.rate * 4) s.now deferred → IsShort s.channels deferred → due_time s.channels (s.rate * 4) deferred ≤ s.now → CanComplete x (with_start_word deferred)
 can_complete x s (deferred_play quiet whole sound preempt) stands near short now =
     let early = near.0 in
     let word : whole % 2 ^ 32 < 2 ^ 32 = omega arith in
@@ -131,7 +131,7 @@ completes_link env env' ds1 ks1 l l1 l2 number d deferred a s w h here first due
     let f = due_first env d s a number deferred h here due_link room in
     let same : f.waiter ≡ w = let both : Some f.waiter ≡ Some w = sym f.first ∙ first in cc in
     let left : EnvironmentState = record a { waiting = without_first (falls_due d s) a.waiting } in
-    let q : ℕ → OpenLink = λ e. answer_deferred f.waiter.deferred s (in_devices e (completing f.waiter.link f.waiter.deferred) (open_link left l)) in
+    let q : ℕ → OpenLink = λ e. answer_deferred f.waiter.deferred s (in_devices e (complete_deferred f.waiter.link f.waiter.deferred) (open_link left l)) in
     let done : StandsForLink (record { devices = ds1; waits = ks1 }) l1 (q d) = subst (λ ks'. StandsForLink (record { devices = ds1; waits = ks' }) l1 (q d)) (sym taken) (complete_now f.waiter.link (without_first (kept_due d) env.waits) left s f.waiter.deferred (h.0, f.rest) here f.is f.near) in
     let goes : StandsForLink env' l2 (advance number (q d)) = subst (λ m. StandsForLink env' l2 (advance number (open_link (q d).environment m))) (sym done.1) (on (q d).environment done.0) in
     let there : slice_get a.devices f.waiter.device ≡ Some s = ap (slice_get a.devices) f.device ∙ here in
@@ -139,7 +139,7 @@ completes_link env env' ds1 ks1 l l1 l2 number d deferred a s w h here first due
     (subst (λ o. StandsForLink env' l2 (complete_for f.waiter o (open_link left l))) (sym there)
     (subst (λ n. StandsForLink env' l2 (advance n (q f.waiter.device))) (sym f.link) (subst (λ e. StandsForLink env' l2 (advance number (q e))) (sym f.device) goes)))
 
--- a number where no link is open
+-- a slot with no open link
 pub completes_closed : (env : KeptSharedState) (ks' : List KeptDeferral) (d : ℕ) (old : Option LinkState) (s : DeviceState) (w : Deferral) (number : ℕ) (a : EnvironmentState) → StandsForSharedState env a → slice_get a.devices d ≡ Some s → old ≡ None →
     option_map (λ k. k.wait.link) (find (kept_due d) env.waits) ≡ Some number → ks' ≡ without_first (kept_due d) env.waits →
     StandsForSlot (record env { waits = ks' }) old (complete_at w (record a { waiting = without_first (falls_due d s) a.waiting }) old)
@@ -188,7 +188,7 @@ pub none_link : (d : ℕ) (o : Option KeptDeferral) → option_map (λ k. k.wait
 none_link d None e = refl
 none_link d (Some k) e = absurd cc
 
--- no other link waits more or less
+-- no other link's deferred request changes
 taken_others : (d j number : ℕ) (ks : List KeptDeferral) → option_map (λ k. k.wait.link) (find (kept_due d) ks) ≡ Some number → j ≢ number → has_waiting (without_first (kept_due d) ks) j ≡ has_waiting ks j
 taken_others d j number [] e apart = absurd cc
 taken_others d j number (k ∷ ks) e apart =
@@ -200,7 +200,7 @@ taken_others d j number (k ∷ ks) e apart =
 pub others_stay : (d j number : ℕ) (ks ks' : List KeptDeferral) → option_map (λ k. k.wait.link) (find (kept_due d) ks) ≡ Some number → OnlyQueues number (without_first (kept_due d) ks) ks' → j ≢ number → has_waiting ks' j ≡ has_waiting ks j
 others_stay d j number ks ks' due_link g apart = only_queues_others number j (without_first (kept_due d) ks) ks' g apart ∙ taken_others d j number ks due_link apart
 
--- one is due less
+-- one less is due
 pub one_less : (d number : ℕ) (ks ks' : List KeptDeferral) → option_map (λ k. k.wait.link) (find (kept_due d) ks) ≡ Some number → OnlyQueues number (without_first (kept_due d) ks) ks' → dues d ks ≡ suc (dues d ks')
 one_less d number ks ks' due_link g =
     let k = some_due d number (find (kept_due d) ks) due_link in

@@ -1,4 +1,4 @@
--- Events are told, and hooks are given.
+-- Events are queued, and hooks are moved.
 use Rattle.std.proofs.Common.{◌≡◌, ◌≢◌, ⊎_elim, ℕ, suc, ◌+◌, ◌-◌, ◌%◌, ◌^◌, ◌<◌, nat_le, Bool, true, false, cond, List, [], ◌∷◌, ◌++◌, length, slice_get, slice_set, option_map, option_and_then, refl, sym, ap, ◌∙◌, subst}
 use Rattle.std.specs.declared.option.Option.{Option}
 use Rattle.std.specs.declared.option.Option.TheVariants.{None, Some}
@@ -16,8 +16,8 @@ use Rattle.af_io.specs.Observed.{Appended}
 use Rattle.af_world.specs.Log.{Log}
 use Rattle.af_world.proofs.EqualityTestLemmas.{eq-refl}
 use Rattle.af_model.specs.State.{State, DeviceState, LinkState, EnvironmentState, open_link, slot_link_at, with_device, device_set, none_selected, say}
-use Rattle.af_model.specs.Events.{dropped, hook_given, hook_refused, line_changes, tell, tell_at, tell_from, tell_open, tell_selected, without_waiter}
-use Rattle.af_model.specs.Turn.{accept, parse_then, wake_phase, line_phase, hook_all, hook_at, hook_for, hook_from, hook_wanted, same_flag}
+use Rattle.af_model.specs.Events.{drop_link, after_hook, after_hook_failure, line_changes, tell, tell_at, tell_from, tell_open, tell_selected, without_waiter}
+use Rattle.af_model.specs.Turn.{accept, parse_then, wake_phase, line_phase, hook_all, hook_at, hook_for, hook_from, wanted_hook, same_flag}
 use Rattle.af_model.proofs.SlotLemmas.{some_link, slot_link, links_of-set, length-links_of}
 use Rattle.af_state.specs.Kept.{KeptDevice, StandsForDevice}
 use Rattle.af_state.specs.Deferrals.{KeptDeferral, has_waiting, kept_without, AreLater, StandForDeferrals}
@@ -32,17 +32,17 @@ use Rattle.af_core.proofs.SimulationLemmas.{simulates_nothing, simulates_more}
 
 -- a link is dropped
 pub drops_at : (env : KeptSharedState) (ks' : List KeptDeferral) (k : ℕ) (cause : Why) (a : EnvironmentState) (l l' : LinkState) → ks' ≡ kept_without k env.waits →
-    l' ≡ record l { rest = []; pending = []; closing = Some cause; selections = none_selected } → StandsForSharedState env a → StandsForLink (record env { waits = ks' }) l' (dropped k cause (open_link a l))
+    l' ≡ record l { rest = []; pending = []; closing = Some cause; selections = none_selected } → StandsForSharedState env a → StandsForLink (record env { waits = ks' }) l' (drop_link k cause (open_link a l))
 drops_at env ks' k cause a l l' waits is h =
     ((h.0, subst (λ qs. StandForDeferrals a.devices qs (without_waiter k a.waiting)) (sym waits) (without_waits a.devices k env.waits a.waiting h.1)), sym is)
 
--- a link that has no room for an event is
+-- a link that has no room for an event is dropped
 pub overruns_at : (env' : KeptSharedState) (k : ℕ) (e : Event) (a : EnvironmentState) (l l' : LinkState) → nat_le (length l.pending + 20) event_limit ≡ false →
-    StandsForLink env' l' (dropped k why.Overrun (open_link a l)) → StandsForLink env' l' (tell_selected k e (open_link a l))
+    StandsForLink env' l' (drop_link k why.Overrun (open_link a l)) → StandsForLink env' l' (tell_selected k e (open_link a l))
 overruns_at env' k e a l l' full h =
-    subst (λ b. StandsForLink env' l' (cond b (say (open_link a l) (event_bytes l.order e l.sequence)) (dropped k why.Overrun (open_link a l)))) (sym full) h
+    subst (λ b. StandsForLink env' l' (cond b (say (open_link a l) (event_bytes l.order e l.sequence)) (drop_link k why.Overrun (open_link a l)))) (sym full) h
 
--- who waits when one link may have ended to
+-- who has a deferred request, once one link may have lost its own
 pub only_drops_others : (k j : ℕ) (env env' : KeptSharedState) → OnlyDrops k env env' → j ≢ k → has_waiting env'.waits j ≡ has_waiting env.waits j
 only_drops_others k j env env' s apart = ⊎_elim (λ e. ap (λ (x : KeptSharedState). has_waiting x.waits j) e) (λ e. ap (λ (x : KeptSharedState). has_waiting x.waits j) e ∙ without_others k j env.waits apart) s
 
@@ -52,7 +52,7 @@ only_drops_later k env env' s l = ⊎_elim (λ e. subst (λ (x : KeptSharedState
 pub only_drops_devices : (k : ℕ) (env env' : KeptSharedState) → OnlyDrops k env env' → env'.devices ≡ env.devices
 only_drops_devices k env env' s = ⊎_elim (λ e. ap (λ (x : KeptSharedState). x.devices) e) (λ e. ap (λ (x : KeptSharedState). x.devices) e) s
 
--- one link is told
+-- the event is queued for one link
 one_told : (env env' : KeptSharedState) (links : List (Option LinkState)) (k : ℕ) (e : Event) (link link' : Option LinkState) → some_link (slice_get links k) ≡ link →
     ((a : EnvironmentState) → StandsForSharedState env a → StandsForSlot env' link' (tell_open k e a link)) → (s : State) → StandsFor (kept_of env links) s → StandsFor (kept_of env' (slice_set links k link')) (tell_at k e s)
 one_told env env' links k e link link' here step s h =
@@ -65,7 +65,7 @@ one_told env env' links k e link link' here step s h =
       links = links_of-set s.slots k (record { link = (tell_open k e d.environment d.link).link; said = (tell_open k e d.environment d.link).environment.said }) ∙ ap (λ ls. slice_set ls k (tell_open k e d.environment d.link).link) h.links ∙ ap (λ o. slice_set links k o) at.1;
     }
 
--- what is left to tell from a state that is stood for
+-- what is left to queue from a state that is stood for
 pub record TellsOn (kept : Kept) (e : Event) (n k : ℕ) (s : State) : Type 0 where
   pub state : State
   pub stands : StandsFor kept state
@@ -86,7 +86,7 @@ tells_more env env' links e n m k link link' s left here step t = record {
 pub tells_end : (kept : Kept) (e : Event) (n k : ℕ) (s : State) → n ≡ 0 → TellsOn kept e n k s → StandsFor kept (tell e s)
 tells_end kept e n k s none t = subst (StandsFor kept) (sym (t.same ∙ ap (λ i. tell_from i k e t.state) none)) t.stands
 
--- the line of a device becomes another, before it is told
+-- the line of a device becomes another, before an event reports it
 pub lines_set : (kept : Kept) (d : ℕ) (x x' : KeptDevice) (line : Option Phone) (f : Phone → Phone) (s : State) (device : DeviceState) → slice_get kept.devices d ≡ Some x → x' ≡ record x { line = line } →
     slice_get s.devices d ≡ Some device → line ≡ option_map f device.line → StandsFor kept s →
     StandsFor (record kept { devices = slice_set kept.devices d x' }) (record s { devices = with_device d (λ device. record device { line = option_map f device.line }) s.devices })
@@ -142,8 +142,8 @@ same_flag-refl : (b : Bool) → same_flag b b ≡ true
 same_flag-refl true = refl
 same_flag-refl false = refl
 
--- what is wanted of a device is what the state says
-wanted_same : (x : KeptDevice) (device : DeviceState) → StandsForDevice x device → option_and_then hook_due x.line ≡ hook_wanted device
+-- the wanted hook of a device is the one in the state
+wanted_same : (x : KeptDevice) (device : DeviceState) → StandsForDevice x device → option_and_then hook_due x.line ≡ wanted_hook device
 wanted_same x device h = ap (option_and_then hook_due) h.line
 
 pub hooks_nothing : (t : Option Log) (kept : Kept) (d : ℕ) (x : KeptDevice) → slice_get kept.devices d ≡ Some x → option_and_then hook_due x.line ≡ None →
@@ -155,7 +155,7 @@ hooks_nothing t kept d x here none =
     ap (λ o. hook_at d o s log) r.here ∙ ap (λ o. hook_for d r.state o s log) (sym (wanted_same x r.state r.stands) ∙ none))
 
 pub hooks_one : (a b : Option Log) (kept kept' : Kept) (d : ℕ) (x : KeptDevice) (off done : Bool) → d < length kept.devices → slice_get kept.devices d ≡ Some x → option_and_then hook_due x.line ≡ Some off →
-    Appended a (Hooked d off done ∷ []) b → ((s : State) (device : DeviceState) → StandsFor kept s → slice_get s.devices d ≡ Some device → StandsFor kept' (cond done (hook_given off d device s) (hook_refused d s))) →
+    Appended a (Hooked d off done ∷ []) b → ((s : State) (device : DeviceState) → StandsFor kept s → slice_get s.devices d ≡ Some device → StandsFor kept' (cond done (after_hook off d device s) (after_hook_failure d s))) →
     Simulates a b (StandsFor kept) (StandsFor kept') (λ s log. hook_at d (slice_get s.devices d) s log) accept
 hooks_one a b kept kept' d x off done there here wanted told step = record {
   part = Hooked d off done ∷ [];
@@ -164,7 +164,7 @@ hooks_one a b kept kept' d x off done there here wanted told step = record {
   each = λ s h.
       let r : Found s.devices d x = found kept.devices s.devices d x here h.devices in
       record {
-        state = cond done (hook_given off d r.state s) (hook_refused d s);
+        state = cond done (after_hook off d r.state s) (after_hook_failure d s);
         stands = step s r.state h r.here;
         same = λ more.
             ap (λ o. hook_at d o s (Hooked d off done ∷ more)) r.here ∙ ap (λ o. hook_for d r.state o s (Hooked d off done ∷ more)) (sym (wanted_same x r.state r.stands) ∙ wanted)

@@ -13,10 +13,10 @@ use Rattle.af_world.specs.declared.happening.Why.{Why}
 use Rattle.af_io.specs.Observed.{Appended}
 use Rattle.af_world.specs.Log.{Log}
 use Rattle.af_world.proofs.EqualityTestLemmas.{same_bytes-refl, eq-refl}
-use Rattle.af_model.specs.State.{OpenLink, EnvironmentState, LinkState, open_link, opened, link_in_slot, slot_link_at, with_slot_link}
+use Rattle.af_model.specs.State.{OpenLink, EnvironmentState, LinkState, open_link, new_link_state, link_in_slot, slot_link_at, with_slot_link}
 use Rattle.af_model.specs.Waiting.{has_deferral}
 use Rattle.af_model.specs.Advance.{absorb, advance, takes_more}
-use Rattle.af_model.specs.Turn.{accept, parse_then, and_then, parse_one, wants_read, is_read, read_by, read_phase, after_read, wants_write, sent, write_by, write_taken, write_phase, same_why, number_of_why, close_due, close_for, close_phase, serve_link, serve_open, serve_slot_link, serve_from, serve_all, in_open}
+use Rattle.af_model.specs.Turn.{accept, parse_then, and_then, parse_one, wants_read, is_read, read_by, read_phase, after_read, wants_write, send_pending, write_by, after_bytes_taken, write_phase, same_why, number_of_why, close_due, close_for, close_phase, serve_link, serve_open, serve_slot_link, serve_from, serve_all, in_open}
 use Rattle.af_model.proofs.BoolTestLemmas.{both-true}
 use Rattle.af_model.proofs.ListLemmas.{get-set_other}
 use Rattle.af_model.proofs.SlotLemmas.{some_link, slot_link, links_of-set, length-links_of}
@@ -27,7 +27,7 @@ use Rattle.af_core.specs.Stands.{AreSettled, StandsForSlot, IsSettled, IsSettled
 use Rattle.af_core.specs.Simulates.{Simulates}
 use Rattle.af_core.proofs.SimulationLemmas.{simulates_nothing, simulates_one, simulates_more, simulates_then}
 
--- what holds of a link in whatever environment holds of each open link
+-- what holds for a link in any environment holds for each open link
 pub at_open_link : (env env' : KeptSharedState) (l l' : LinkState) (f : OpenLink → OpenLink) → ((a : EnvironmentState) → StandsForSharedState env a → StandsForLink env' l' (f (open_link a l))) → (p : OpenLink) → StandsForLink env l p → StandsForLink env' l' (f p)
 at_open_link env env' l l' f h p s = subst (λ m. StandsForLink env' l' (f (open_link p.environment m))) (sym s.1) (h p.environment s.0)
 
@@ -56,7 +56,7 @@ reads a b k env env' l l' got wants fits told step =
 pub given_fits : (n : ℕ) (xs : List ℕ) → 1 ≤ n → n ≤ length xs → length xs ≡ longest_read → is_read (Given (take n xs)) ≡ true
 given_fits n xs some within room = let e : length (take n xs) ≡ n = length-take-le n xs within in rw e (grind arith)
 
--- bytes that come are taken in and then what they complete is taken off
+-- bytes that come are taken in, and then what they complete is taken off
 pub absorbed : (k : ℕ) (env env' : KeptSharedState) (l l1 l' : LinkState) (bytes : List ℕ) → wants_read (has_waiting env.waits k) l ≡ true → l1 ≡ record l { rest = l.rest ++ bytes } →
     ((a : EnvironmentState) → StandsForSharedState env a → StandsForLink env' l' (advance k (open_link a l1))) → (a : EnvironmentState) → StandsForSharedState env a → StandsForLink env' l' (absorb k bytes (open_link a l))
 absorbed k env env' l l1 l' bytes wants e step a h =
@@ -77,7 +77,7 @@ writes_nothing t k env l idle =
     simulates_nothing t (StandsForLink env l) (StandsForLink env l) (write_phase k) accept (λ p. p) (λ p s. s) (λ p s log. write_phase-idle k p log (ap wants_write s.1 ∙ idle))
 
 pub writes : (a b : Option Log) (k : ℕ) (env env' : KeptSharedState) (l l' : LinkState) (took : Option (List ℕ)) (f : OpenLink → OpenLink) → wants_write l ≡ true →
-    ((a : EnvironmentState) → write_taken k took (open_link a l) ≡ Some (f (open_link a l))) → Appended a (Wrote k (length l.pending) took ∷ []) b →
+    ((a : EnvironmentState) → after_bytes_taken k took (open_link a l) ≡ Some (f (open_link a l))) → Appended a (Wrote k (length l.pending) took ∷ []) b →
     ((a : EnvironmentState) → StandsForSharedState env a → StandsForLink env' l' (f (open_link a l))) → Simulates a b (StandsForLink env l) (StandsForLink env' l') (write_phase k) (write_phase k)
 writes a b k env env' l l' took f wants takes told step =
     simulates_one (Wrote k (length l.pending) took) (StandsForLink env l) (StandsForLink env' l') (write_phase k) (write_phase k) f refl told (at_open_link env env' l l' f step)
@@ -90,13 +90,13 @@ writes a b k env env' l l' took f wants takes told step =
     ∙ ap (λ o. and_then o (λ q. write_phase k q log)) here)
 
 -- the first bytes that wait to be sent may be taken
-pub first_taken : (k n : ℕ) (p : OpenLink) → n ≤ length p.link.pending → write_taken k (Some (take n p.link.pending)) p ≡ Some (advance k (open_link p.environment (sent n p.link)))
+pub first_taken : (k n : ℕ) (p : OpenLink) → n ≤ length p.link.pending → after_bytes_taken k (Some (take n p.link.pending)) p ≡ Some (advance k (open_link p.environment (send_pending n p.link)))
 first_taken k n p within =
     let count : length (take n p.link.pending) ≡ n = length-take-le n p.link.pending within in
     rw (count, same_bytes-refl (take n p.link.pending)) refl
 
--- a link whose first bytes were sent is not to be written again: it has nothing to send, or is stuck
-pub sent_idle : (n : ℕ) (l : LinkState) → n ≤ length l.pending → wants_write (sent n l) ≡ false
+-- a link whose first bytes were sent is not to be written again: it has nothing to send, or is blocked
+pub sent_idle : (n : ℕ) (l : LinkState) → n ≤ length l.pending → wants_write (send_pending n l) ≡ false
 sent_idle n l within =
     elim (nat_lt n (length l.pending)) as (λ b. nat_lt n (length l.pending) ≡ b → (not (length (drop n l.pending) == 0) && not b) ≡ false) [
       | true ↦ λ t. elim (length (drop n l.pending) == 0) as (λ b. (not b && false) ≡ false) [ true ↦ refl | false ↦ refl ]
@@ -105,12 +105,12 @@ sent_idle n l within =
           ap (λ m. not (m == 0) && true) none
     ] refl
 
--- there is a write to come where the link is to be written
+-- there is a write to come if the link is to be written
 pub writes_some : (l : LinkState) → wants_write l ≡ true → 0 < writes_left l
 writes_some l wants = let one : writes_left l ≡ length l.rest + 1 = ap (λ b. length l.rest + (cond b 1 0)) wants in omega arith
 
 -- a bound on the writes to come falls with each write
-pub fewer_writes : (n : ℕ) (l l' : LinkState) → n ≤ length l.pending → wants_write l ≡ true → (l' ≡ sent n l) ⊎ (length l'.rest < length l.rest) → writes_left l' < writes_left l
+pub fewer_writes : (n : ℕ) (l l' : LinkState) → n ≤ length l.pending → wants_write l ≡ true → (l' ≡ send_pending n l) ⊎ (length l'.rest < length l.rest) → writes_left l' < writes_left l
 fewer_writes n l l' within wants answered =
     let before : writes_left l ≡ length l.rest + 1 = ap (λ b. length l.rest + (cond b 1 0)) wants in
     ⊎_elim (λ e. let after : writes_left l' ≡ length l.rest + 0 = ap writes_left e ∙ ap (λ b. length l.rest + (cond b 1 0)) (sent_idle n l within) in omega arith)
@@ -210,7 +210,7 @@ set_here [] k link l e = absurd cc
 set_here (x ∷ links) zero link l e = cc
 set_here (x ∷ links) (suc k) link l e = set_here links k link l e
 
--- one link changes, and no other begins to wait or ends it
+-- one link changes, and no other link's deferred request comes or goes
 pub settled_set : (ks ks' : List KeptDeferral) (links : List (Option LinkState)) (k : ℕ) (link : Option LinkState) → AreSettled ks links → ((j : ℕ) → j ≢ k → has_waiting ks' j ≡ has_waiting ks j) →
     IsSettledSlot (has_waiting ks' k) link → AreSettled ks' (slice_set links k link)
 settled_set ks ks' links k link h others one j l e =
@@ -227,9 +227,9 @@ pub settled_here : (ks : List KeptDeferral) (links : List (Option LinkState)) (k
 settled_here ks links k n d link h number is low l e =
     subst (λ i. IsSettled (has_waiting ks i) l) (sym number) (h k l (slice_get-get_or links k d low ∙ ap (λ x. Some x) (sym is ∙ e)))
 
-pub opened_settled : (waits : Bool) (link : Option LinkState) → link ≡ Some opened → IsSettledSlot waits link
+pub opened_settled : (waits : Bool) (link : Option LinkState) → link ≡ Some new_link_state → IsSettledSlot waits link
 opened_settled waits link is l e =
-    let same : opened ≡ l = let both : Some opened ≡ Some l = sym is ∙ e in cc in
+    let same : new_link_state ≡ l = let both : Some new_link_state ≡ Some l = sym is ∙ e in cc in
     subst (IsSettled waits) same (record { bounds = record { rest = omega arith; pending = omega arith }; short = λ t. omega arith; room = λ t. omega arith })
 
 -- a flag of a link is set, or cleared

@@ -1,4 +1,4 @@
--- Below which number all open links are, and what that leaves out of a turn.
+-- The number below which all open links are. The slots from there on have no part in a turn.
 use Rattle.std.proofs.Common.{◌≡◌, ◌≢◌, ◌==◌, eqb-true, get_or, replicate, ℕ, zero, suc, ◌≤◌, ◌<◌, ◌+◌, Bool, true, false, not, cond, List, [], ◌∷◌, ◌++◌, length, map, slice_get, slice_set, is_some, refl, sym, ap, ◌∙◌, subst, arith}
 use Rattle.std.proofs.Math.Nat.{le-max_left, le-max_right, max-le}
 use Rattle.std.proofs.lemmas.Bool.Decides.{nat_tests}
@@ -6,15 +6,15 @@ use Rattle.std.specs.declared.option.Option.{Option}
 use Rattle.std.specs.declared.option.Option.TheVariants.{None, Some}
 use Rattle.af_limits.specs.Limits.{most_links}
 use Rattle.af_phone.specs.declared.line.LineChange.{LineChange}
-use Rattle.af_phone.specs.Lines.{changed, event_kind_of, flag_value, hooked, value_of}
+use Rattle.af_phone.specs.Lines.{line_after_change, event_kind_of, flag_value, line_after_hook, value_of}
 use Rattle.af_wire.specs.declared.event.EventKind.TheVariants as kind
 use Rattle.af_world.specs.declared.happening.Wake.{Wake}
 use Rattle.af_world.specs.declared.happening.Wake.TheVariants.{Opened, Readable, Writable, Ticked, Line, Idle, Stop}
 use Rattle.af_world.specs.Log.{Log}
-use Rattle.af_model.specs.State.{State, DeviceState, LinkState, link_in_slot, opened, slot_at, with_slot}
+use Rattle.af_model.specs.State.{State, DeviceState, LinkState, link_in_slot, new_link_state, slot_at, with_slot}
 use Rattle.af_model.specs.Tick.{captured_samples, tick}
-use Rattle.af_model.specs.Events.{hook_given, hook_refused, line_changes}
-use Rattle.af_model.specs.Turn.{Parsed, accept, parse_then, parse_one, capture_by, after_capture, tick_phase, line_phase, wake_phase, hook_all, hook_at, hook_from, fits, is_closed_at, is_open_at, ready, writable, in_slot, serve_open, serve_slot_link}
+use Rattle.af_model.specs.Events.{after_hook, after_hook_failure, line_changes}
+use Rattle.af_model.specs.Turn.{Parsed, accept, parse_then, parse_one, capture_by, after_capture, tick_phase, line_phase, wake_phase, hook_all, hook_at, hook_from, fits, is_closed_at, is_open_at, mark_readable, mark_writable, in_slot, serve_open, serve_slot_link}
 use Rattle.af_model.proofs.BoolTestLemmas.{none_some}
 use Rattle.af_model.proofs.ListLemmas.{get-set_other}
 use Rattle.af_model.proofs.SlotLemmas.{some_link}
@@ -29,7 +29,7 @@ use Rattle.af_core.proofs.SimulationLemmas.{simulates_nothing}
 abbrev opens : List (Option LinkState) → List Bool
 opens links = map {A = Option LinkState} {B = Bool} is_some links
 
--- Which links are open behind a wake, and behind the hooks
+-- Which links are open after a wake, and after the hooks
 
 abbrev OpensAs : (List Bool → List Bool) → State → Log → State → Type 0
 OpensAs f s log t = open_links t.slots ≡ f (open_links s.slots)
@@ -44,20 +44,20 @@ ticked_opens d n (Some device) s =
 
 line_opens : (change : LineChange) (d : ℕ) (o : Option DeviceState) (s : State) → Takes (line_phase change d o s) (OpensAs (λ w. w) s)
 line_opens change d None s = λ log b e. absurd (none_some e)
-line_opens change d (Some device) s = takes_nothing (line_changes change d device s) (OpensAs (λ w. w) s) (becomes-opens (changed change) (event_kind_of change) (value_of change) d device s)
+line_opens change d (Some device) s = takes_nothing (line_changes change d device s) (OpensAs (λ w. w) s) (becomes-opens (line_after_change change) (event_kind_of change) (value_of change) d device s)
 
 pub wake_opens : (w : Wake) (s : State) → Takes (wake_phase w s) (OpensAs (λ links. open_after links w) s)
 unfolding wake_phase
-wake_opens (Opened k) s = takes_nothing (with_slot k (record { link = Some opened; said = [] }) s) (OpensAs (λ links. open_after links (Opened k)) s) (open_links-set s.slots k (record { link = Some opened; said = [] }))
-wake_opens (Readable k) s = takes_nothing (with_slot k (in_slot ready (slot_at k s)) s) (OpensAs (λ w. w) s) (flagged ready s k)
-wake_opens (Writable k) s = takes_nothing (with_slot k (in_slot writable (slot_at k s)) s) (OpensAs (λ w. w) s) (flagged writable s k)
+wake_opens (Opened k) s = takes_nothing (with_slot k (record { link = Some new_link_state; said = [] }) s) (OpensAs (λ links. open_after links (Opened k)) s) (open_links-set s.slots k (record { link = Some new_link_state; said = [] }))
+wake_opens (Readable k) s = takes_nothing (with_slot k (in_slot mark_readable (slot_at k s)) s) (OpensAs (λ w. w) s) (flagged mark_readable s k)
+wake_opens (Writable k) s = takes_nothing (with_slot k (in_slot mark_writable (slot_at k s)) s) (OpensAs (λ w. w) s) (flagged mark_writable s k)
 wake_opens (Ticked d n) s = ticked_opens d n (slice_get s.devices d) s
 wake_opens (Line d change) s = line_opens change d (slice_get s.devices d) s
 wake_opens Idle s = takes_nothing s (OpensAs (λ w. w) s) refl
 wake_opens Stop s = takes_nothing s (OpensAs (λ w. w) s) refl
 
-given_opens : (d : ℕ) (off done : Bool) (device : DeviceState) (s : State) → open_links (cond done (hook_given off d device s) (hook_refused d s)).slots ≡ open_links s.slots
-given_opens d off true device s = becomes-opens (hooked true) kind.Hook (flag_value off) d device s
+given_opens : (d : ℕ) (off done : Bool) (device : DeviceState) (s : State) → open_links (cond done (after_hook off d device s) (after_hook_failure d s)).slots ≡ open_links s.slots
+given_opens d off true device s = becomes-opens (line_after_hook true) kind.Hook (flag_value off) d device s
 given_opens d off false device s = refl
 
 hook_opens : (d : ℕ) (o : Option DeviceState) (s : State) → Takes (hook_at d o s) (OpensAs (λ w. w) s)
@@ -82,7 +82,7 @@ kept_opens kept kept' phase f takes stood d =
     let taken = takes s (d.part ++ []) (record { state = r.state; log = [] }) (r.same []) in
     sym (ap opens r.stands.links) ∙ taken.holds ∙ ap (λ ls. f (opens ls)) stood.1.links
 
--- no link is open from that number on that one stands below that is opened
+-- after a wake no link is open from the moved number on
 pub none_open_woken : (wake : Wake) (n : ℕ) (old new : List (Option LinkState)) → opens new ≡ open_after (opens old) wake → NoneOpenFrom n old → NoneOpenFrom (open_below_after wake n) new
 none_open_woken (Opened j) n old new e none k from =
     let left = le-max_left n (j + 1) in
@@ -119,7 +119,7 @@ none_open_starts links e k from = subst (λ (ls : List (Option LinkState)). is_o
     none_at (suc n) zero = refl
     none_at (suc n) (suc k) = none_at n k
 
--- the number falls where the link below it is not open
+-- the number falls if the link below it is not open
 open_here : (links : List (Option LinkState)) (n : ℕ) (d : Option LinkState) → n < length links → is_open_at (slice_get (opens links) n) ≡ is_some (get_or links n d)
 open_here [] n d there = absurd (omega (arith, there))
 open_here (x ∷ links) zero d there = refl

@@ -1,4 +1,4 @@
--- What all links share, where code has it open: what is asked of the whole holds of its parts.
+-- What all links share, when code has opened it: what is asked of the whole holds for its parts.
 use Rattle.std.proofs.Common.{◌≡◌, ◌<◌, ◌∙◌, ℕ, ap, find, get_or, length, option_map, refl, slice_get, subst, sym}
 use Rattle.std.specs.declared.option.Option.TheVariants.{Some}
 use Rattle.af_model.specs.State.{EnvironmentState}

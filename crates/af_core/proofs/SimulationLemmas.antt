@@ -1,4 +1,4 @@
--- Parts of a turn, one after the other.
+-- Parts of a turn, one after another.
 use Rattle.std.proofs.Common.{◌≡◌, [], ◌∷◌, ◌++◌, refl, ap, ◌∙◌, append_assoc}
 use Rattle.std.specs.declared.option.Option.{Option}
 use Rattle.af_world.specs.declared.happening.Happening.{Happening}

@@ -15,19 +15,19 @@ use Rattle.af_io.specs.Observed.{Appended}
 use Rattle.af_world.specs.Log.{Log}
 use Rattle.af_world.proofs.EqualityTestLemmas.{same_bytes-refl, eq-refl}
 use Rattle.af_request.specs.declared.reply.Phone.{Phone}
-use Rattle.af_model.specs.State.{State, DeviceState, LinkState, Deferral, opening, opening_device, opened, links_of, lines_of, outline, outline_with, with_slot, slot_at, with_device, device_set}
+use Rattle.af_model.specs.State.{State, DeviceState, LinkState, Deferral, opening_state, opening_device, new_link_state, links_of, lines_of, outline, outline_with, with_slot, slot_at, with_device, device_set}
 use Rattle.af_model.specs.Reply.{horizon_of}
-use Rattle.af_model.specs.Waiting.{due, AreDueLater}
+use Rattle.af_model.specs.Waiting.{due_time, AreDueLater}
 use Rattle.af_model.specs.NoLoss.{LosesNone}
 use Rattle.af_model.specs.Controls.{through_output_control}
-use Rattle.af_model.specs.Tick.{next_sound, sound, tick, later, captured_samples, complete_due}
-use Rattle.af_model.specs.Turn.{Parsed, accept, parse_then, parse_one, turn, fits, is_open_at, wake_phase, tick_phase, is_capture, capture_by, after_capture, emit_by, serve_and_hook, ready, writable, in_open, in_slot}
+use Rattle.af_model.specs.Tick.{next_sound, sound, tick, device_after, captured_samples, complete_due}
+use Rattle.af_model.specs.Turn.{Parsed, accept, parse_then, parse_one, turn, fits, is_open_at, wake_phase, tick_phase, is_capture, capture_by, after_capture, emit_by, serve_and_hook, mark_readable, mark_writable, in_open, in_slot}
 use Rattle.af_model.specs.Run.{wakes}
 use Rattle.af_model.proofs.RunLemmas.{wakes-append-none}
 use Rattle.af_model.proofs.WakeLemmas.{turn_lines}
 use Rattle.af_model.proofs.SlotLemmas.{slot_link, links_of-set, some_link}
 use Rattle.af_state.specs.Kept.{KeptDevice, StandsForDevice, StandForDevices}
-use Rattle.af_state.specs.Deferrals.{KeptDeferral, has_waiting, kept_passed, waits_of, AreLater, StandForDeferrals}
+use Rattle.af_state.specs.Deferrals.{KeptDeferral, has_waiting, deferral_after_frames, waits_of, AreLater, StandForDeferrals}
 use Rattle.af_state.specs.SharedState.{KeptSharedState}
 use Rattle.af_core.specs.Stands.{AreOrderly, AreSettled, IsBetweenPhases, IsSettled, IsSettledSlot, Kept, Stands, StandsFor, StandForWaiting, Turns, kept_lines, kept_of, outline_of}
 use Rattle.af_sample.specs.Channels.{frame_count}
@@ -43,7 +43,7 @@ use Rattle.af_state.proofs.DeviceLemmas.{found, stands_length, stands_set}
 use Rattle.af_state.proofs.DeferralLemmas.{waits_passed}
 use Rattle.af_state.proofs.PlayLemmas.{horizon_bounds}
 
--- what waits a frame or more is due later
+-- what waits for a frame or more is due later
 due_later : (devices : List DeviceState) (ks : List KeptDeferral) (waiting : List Deferral) → AreLater ks → StandForDeferrals devices ks waiting → AreDueLater devices waiting
 due_later devices [] [] l h = tt
 due_later devices [] (w ∷ waiting) l h = absurd h
@@ -51,9 +51,9 @@ due_later devices (k ∷ ks) [] l h = absurd h
 due_later devices (k ∷ ks) (w ∷ waiting) l h =
     let some = l.0 in
     let left = h.0.left in
-    (subst (λ o. IfSome o (λ s. s.now < due s.channels (horizon_of s) w.deferred)) (sym h.0.here) (omega (arith, some, left)), due_later devices ks waiting l.1 h.1)
+    (subst (λ o. IfSome o (λ s. s.now < due_time s.channels (horizon_of s) w.deferred)) (sym h.0.here) (omega (arith, some, left)), due_later devices ks waiting l.1 h.1)
 
--- what is shown of the links that wait stands for them
+-- the deferred requests as they are shown stand for those of the state
 pub shown : (devices : List DeviceState) (ks : List KeptDeferral) (waiting : List Deferral) → AreLater ks → StandForDeferrals devices ks waiting → StandForWaiting devices (waits_of ks) waiting
 shown devices [] [] l h = tt
 shown devices [] (w ∷ waiting) l h = absurd h
@@ -61,7 +61,7 @@ shown devices (k ∷ ks) [] l h = absurd h
 shown devices (k ∷ ks) (w ∷ waiting) l h =
     let some = l.0 in
     let left = h.0.left in
-    (h.0.link, h.0.device, subst (λ o. IsSomeAnd o (λ s. s.now + k.wait.left ≡ due s.channels (horizon_of s) w.deferred)) (sym h.0.here) (omega (arith, some, left)), shown devices ks waiting l.1 h.1)
+    (h.0.link, h.0.device, subst (λ o. IsSomeAnd o (λ s. s.now + k.wait.left ≡ due_time s.channels (horizon_of s) w.deferred)) (sym h.0.here) (omega (arith, some, left)), shown devices ks waiting l.1 h.1)
 
 pub all_wait : (ks : List KeptDeferral) → AreLater ks → All (λ w. 0 < w.left) (waits_of ks)
 all_wait [] l = λ k d low. absurd (omega arith)
@@ -77,13 +77,13 @@ none_open (suc n) (suc k) l e = none_open n k l e
 starts_settled : (ks : List KeptDeferral) (links : List (Option LinkState)) → links ≡ replicate most_links None → AreSettled ks links
 starts_settled ks links e k l is = absurd (none_open most_links k l (subst (λ (xs : List (Option LinkState)). slice_get xs k ≡ Some (Some l)) e is))
 
-pub starts : (kept : Kept) (config : List DeviceSpec) → StandForDevices kept.devices (opening config).devices → kept.waits ≡ [] → kept.links ≡ replicate most_links None → IsBetweenPhases kept
+pub starts : (kept : Kept) (config : List DeviceSpec) → StandForDevices kept.devices (opening_state config).devices → kept.waits ≡ [] → kept.links ≡ replicate most_links None → IsBetweenPhases kept
 starts kept config h waits e = record {
   orderly = record { links = ap length e; settled = starts_settled kept.waits kept.links e; later = subst AreLater (sym waits) tt };
-  stands = (opening config, record { devices = h; waiting = subst (λ (qs : List KeptDeferral). StandForDeferrals (opening config).devices qs []) (sym waits) tt; links = sym e });
+  stands = (opening_state config, record { devices = h; waiting = subst (λ (qs : List KeptDeferral). StandForDeferrals (opening_state config).devices qs []) (sym waits) tt; links = sym e });
 }
 
--- of no request that had waited a sample is lost
+-- no deferred request has lost a sample
 none_lost : (ds : List KeptDevice) (ss : List DeviceState) → StandForDevices ds ss → All (λ s. LosesNone s) ss
 none_lost [] [] h = λ k d low. absurd (omega arith)
 none_lost [] (s ∷ ss) h = absurd h
@@ -104,7 +104,7 @@ same_lines (d ∷ ds) (s ∷ ss) h = ap (λ (line : Option Phone). is_some line 
 pub same_outline : (kept : Kept) (s : State) → StandsFor kept s → outline s ≡ outline_of kept
 same_outline kept s h = ap (λ n. outline_with n (links_of s.slots)) (same_lines kept.devices s.devices h.devices) ∙ ap (λ l. outline_with (kept_lines kept.devices) l) h.links
 
--- there are as many devices behind a turn as before
+-- there are as many devices after a turn as before
 same_count : (a b : State) (ds es : List KeptDevice) → lines_of b.devices ≡ lines_of a.devices → StandForDevices ds a.devices → StandForDevices es b.devices → length es ≡ length ds
 same_count a b ds es e h g =
     let size : (ss : List DeviceState) → length (lines_of ss) ≡ length ss = λ ss. length-map ss (λ (s : DeviceState). is_some s.line) in
@@ -141,24 +141,24 @@ turns a b c d wake kept kept' kept'' fit old new told w e =
           };
     }
 
--- the state that is stood for behind a part
+-- the state that is stood for after a part
 pub simulates_leave : {a b : Option Log} (kept kept' : Kept) {f : State → Log → Option (Parsed State)} {g : State → Log → Option (Parsed State)} → Simulates a b (StandsFor kept) (StandsFor kept') f g →
     ((s : State) × StandsFor kept s) → (s : State) × StandsFor kept' s
 simulates_leave kept kept' d h = let r = d.each h.0 h.1 in (r.state, r.stands)
 
--- what a core keeps behind a part that leaves its links in order
+-- what a core keeps after a part that leaves its links in order
 pub simulates_keep : {a b : Option Log} (kept kept' : Kept) {f : State → Log → Option (Parsed State)} {g : State → Log → Option (Parsed State)} → Simulates a b (StandsFor kept) (StandsFor kept') f g → IsBetweenPhases kept →
     AreOrderly kept'.waits kept'.links → IsBetweenPhases kept'
 simulates_keep kept kept' d old orderly = record { orderly = orderly; stands = simulates_leave kept kept' d old.stands }
 
 -- Wakes of links
 
-pub opens : (t : Option Log) (k : ℕ) (kept : Kept) (links' : List (Option LinkState)) → links' ≡ slice_set kept.links k (Some opened) →
+pub opens : (t : Option Log) (k : ℕ) (kept : Kept) (links' : List (Option LinkState)) → links' ≡ slice_set kept.links k (Some new_link_state) →
     Simulates t t (StandsFor kept) (StandsFor (record kept { links = links' })) (wake_phase (Opened k)) accept
 unfolding wake_phase
 opens t k kept links' e =
-    simulates_nothing t (StandsFor kept) (StandsFor (record kept { links = links' })) (wake_phase (Opened k)) accept (λ s. with_slot k (record { link = Some opened; said = [] }) s)
-    (λ s h. record { devices = h.devices; waiting = h.waiting; links = links_of-set s.slots k (record { link = Some opened; said = [] }) ∙ ap (λ l. slice_set l k (Some opened)) h.links ∙ sym e })
+    simulates_nothing t (StandsFor kept) (StandsFor (record kept { links = links' })) (wake_phase (Opened k)) accept (λ s. with_slot k (record { link = Some new_link_state; said = [] }) s)
+    (λ s h. record { devices = h.devices; waiting = h.waiting; links = links_of-set s.slots k (record { link = Some new_link_state; said = [] }) ∙ ap (λ l. slice_set l k (Some new_link_state)) h.links ∙ sym e })
     (λ s h log. refl)
 
 -- a link that is open is one of the links
@@ -184,20 +184,20 @@ flags t k f wake kept links' link simulates here e =
     record { devices = h.devices; waiting = h.waiting; links = links_of-set s.slots k (in_slot f (slot_at k s)) ∙ ap (λ l. slice_set l k (in_open f (slot_at k s).link)) h.links ∙ ap (λ o. slice_set kept.links k (in_open f o)) same ∙ sym e })
     (λ s h log. simulates s log)
 
-pub readies : (t : Option Log) (k : ℕ) (kept : Kept) (links' : List (Option LinkState)) (link : Option LinkState) → some_link (slice_get kept.links k) ≡ link → links' ≡ slice_set kept.links k (in_open ready link) →
+pub readies : (t : Option Log) (k : ℕ) (kept : Kept) (links' : List (Option LinkState)) (link : Option LinkState) → some_link (slice_get kept.links k) ≡ link → links' ≡ slice_set kept.links k (in_open mark_readable link) →
     Simulates t t (StandsFor kept) (StandsFor (record kept { links = links' })) (wake_phase (Readable k)) accept
 unfolding wake_phase
-readies t k kept links' link here e = flags t k ready (Readable k) kept links' link (λ s log. refl) here e
+readies t k kept links' link here e = flags t k mark_readable (Readable k) kept links' link (λ s log. refl) here e
 
-pub unsticks : (t : Option Log) (k : ℕ) (kept : Kept) (links' : List (Option LinkState)) (link : Option LinkState) → some_link (slice_get kept.links k) ≡ link → links' ≡ slice_set kept.links k (in_open writable link) →
+pub unsticks : (t : Option Log) (k : ℕ) (kept : Kept) (links' : List (Option LinkState)) (link : Option LinkState) → some_link (slice_get kept.links k) ≡ link → links' ≡ slice_set kept.links k (in_open mark_writable link) →
     Simulates t t (StandsFor kept) (StandsFor (record kept { links = links' })) (wake_phase (Writable k)) accept
 unfolding wake_phase
-unsticks t k kept links' link here e = flags t k writable (Writable k) kept links' link (λ s log. refl) here e
+unsticks t k kept links' link here e = flags t k mark_writable (Writable k) kept links' link (λ s log. refl) here e
 
-pub ready_settled : (waits : Bool) (l : LinkState) → IsSettled waits l → IsSettled waits (ready l)
+pub ready_settled : (waits : Bool) (l : LinkState) → IsSettled waits l → IsSettled waits (mark_readable l)
 ready_settled waits l s = record { bounds = record { rest = s.bounds.rest; pending = s.bounds.pending }; short = s.short; room = s.room }
 
-pub writable_settled : (waits : Bool) (l : LinkState) → IsSettled waits l → IsSettled waits (writable l)
+pub writable_settled : (waits : Bool) (l : LinkState) → IsSettled waits l → IsSettled waits (mark_writable l)
 writable_settled waits l s = record { bounds = record { rest = s.bounds.rest; pending = s.bounds.pending }; short = s.short; room = s.room }
 
 pub stays_idle : (t : Option Log) (kept : Kept) → Simulates t t (StandsFor kept) (StandsFor kept) (wake_phase Idle) accept
@@ -208,11 +208,11 @@ pub stays_stop : (t : Option Log) (kept : Kept) → Simulates t t (StandsFor kep
 unfolding wake_phase
 stays_stop t kept = simulates_nothing t (StandsFor kept) (StandsFor kept) (wake_phase Stop) accept (λ s. s) (λ s h. h) (λ s h log. refl)
 
--- the same of a wake by another name
+-- the same for a wake that equals another
 pub at_wake : {a b : Option Log} {kept kept' : Kept} {wake wake' : Wake} → wake ≡ wake' → Simulates a b (StandsFor kept) (StandsFor kept') (wake_phase wake') accept → Simulates a b (StandsFor kept) (StandsFor kept') (wake_phase wake) accept
 at_wake {a} {b} {kept} {kept'} {wake} {wake'} e d = subst (λ w. Simulates a b (StandsFor kept) (StandsFor kept') (wake_phase w) accept) (sym e) d
 
--- what is kept behind a wake that changed one link, which is settled then
+-- what is kept after a wake that changed one link, which is settled then
 pub wake_keeps : {a b : Option Log} (env : KeptSharedState) (links : List (Option LinkState)) (k : ℕ) (link : Option LinkState) {f : State → Log → Option (Parsed State)} {g : State → Log → Option (Parsed State)} →
     Simulates a b (StandsFor (kept_of env links)) (StandsFor (kept_of env (slice_set links k link))) f g → IsBetweenPhases (kept_of env links) → IsSettledSlot (has_waiting env.waits k) link → IsBetweenPhases (kept_of env (slice_set links k link))
 wake_keeps env links k link d old one =
@@ -226,27 +226,27 @@ wake_keeps env links k link d old one =
 -- Ticks
 
 -- a device that failed
-pub fails : (d : KeptDevice) (n : ℕ) (captured : List ℤ) (b : Bool) (s : DeviceState) → StandsForDevice d (later n captured b s) → StandsForDevice (record d { is_dead = true }) (later n captured true s)
+pub fails : (d : KeptDevice) (n : ℕ) (captured : List ℤ) (b : Bool) (s : DeviceState) → StandsForDevice d (device_after n captured b s) → StandsForDevice (record d { is_dead = true }) (device_after n captured true s)
 fails d n captured b s h = record { ty = h.ty; rate = h.rate; listed = h.listed; ahead = h.ahead; back = h.back; hears = h.hears; keeps = h.keeps; whole = h.whole; controls = h.controls; line = h.line; dead = refl }
 
--- what is kept when n frames of a device have passed
+-- what is kept once n frames of a device have passed
 abbrev pub passed_kept : ℕ → ℕ → KeptDevice → Kept → Kept
-passed_kept k n d kept = record kept { devices = slice_set kept.devices k d; waits = map (kept_passed k n) kept.waits }
+passed_kept k n d kept = record kept { devices = slice_set kept.devices k d; waits = map (deferral_after_frames k n) kept.waits }
 
 -- where a tick leads before requests complete
 record Passed (k n : ℕ) (kept : Kept) (d' : KeptDevice) (part : Log) (s : State) : Type 0 where
   captured : List ℤ
   is_dead : Bool
-  stands : StandsFor (passed_kept k n d' kept) (record s { devices = with_device k (later n captured is_dead) s.devices })
+  stands : StandsFor (passed_kept k n d' kept) (record s { devices = with_device k (device_after n captured is_dead) s.devices })
   same : (more : Log) → wake_phase (Ticked k n) s (part ++ more) ≡ accept (tick k n captured is_dead s) more
 
--- a device has passed over sample periods, and those that wait for it have
+-- a device has gone over sample periods, and so have the requests that wait for it
 passed_on : (k n : ℕ) (kept : Kept) (d d' : KeptDevice) (s : State) (captured : List ℤ) (is_dead : Bool) (device : DeviceState) → n ≤ longest_tick → AreLater kept.waits → StandsFor kept s →
-    slice_get s.devices k ≡ Some device → StandsForDevice d device → StandsForDevice d' (later n captured is_dead device) →
-    StandsFor (passed_kept k n d' kept) (record s { devices = with_device k (later n captured is_dead) s.devices })
+    slice_get s.devices k ≡ Some device → StandsForDevice d device → StandsForDevice d' (device_after n captured is_dead device) →
+    StandsFor (passed_kept k n d' kept) (record s { devices = with_device k (device_after n captured is_dead) s.devices })
 passed_on k n kept d d' s captured is_dead device few l h here stands one = record {
-  devices = subst (λ o. StandForDevices (slice_set kept.devices k d') (device_set k (later n captured is_dead) s.devices o)) (sym here) (stands_set kept.devices s.devices k d' (later n captured is_dead device) h.devices one);
-  waiting = subst (λ o. StandForDeferrals (device_set k (later n captured is_dead) s.devices o) (map (kept_passed k n) kept.waits) s.waiting) (sym here)
+  devices = subst (λ o. StandForDevices (slice_set kept.devices k d') (device_set k (device_after n captured is_dead) s.devices o)) (sym here) (stands_set kept.devices s.devices k d' (device_after n captured is_dead device) h.devices one);
+  waiting = subst (λ o. StandForDeferrals (device_set k (device_after n captured is_dead) s.devices o) (map (deferral_after_frames k n) kept.waits) s.waiting) (sym here)
       (waits_passed s.devices k n device captured is_dead kept.waits s.waiting here few (horizon_bounds device d stands).0 l h.waiting);
   links = h.links;
 }
@@ -258,7 +258,7 @@ unfolding wake_phase
 passes_dead k n kept d d' given few l here dead p s h =
     let r = found kept.devices s.devices k d here h.devices in
     let silent = captured_samples r.state n None in
-    let gone : StandsForDevice d' (later n silent true r.state) = subst (λ b. StandsForDevice d' (later n silent b r.state)) (sym r.stands.dead ∙ dead) (p.stands r.state r.stands) in
+    let gone : StandsForDevice d' (device_after n silent true r.state) = subst (λ b. StandsForDevice d' (device_after n silent b r.state)) (sym r.stands.dead ∙ dead) (p.stands r.state r.stands) in
     record {
       captured = silent;
       is_dead = true;
@@ -302,9 +302,9 @@ passes_all a b k n kept d d' few l here t =
 pub passed_state : (a b : Option Log) (k n : ℕ) (kept : Kept) (d d' : KeptDevice) → n ≤ longest_tick → AreLater kept.waits → slice_get kept.devices k ≡ Some d → Ticks d.is_dead k n d d' a b →
     ((s : State) × StandsFor kept s) → (s : State) × StandsFor (passed_kept k n d' kept) s
 passed_state a b k n kept d d' few l here t h =
-    let p = (passes_all a b k n kept d d' few l here t).each h.0 h.1 in (record h.0 { devices = with_device k (later n p.captured p.is_dead) h.0.devices }, p.stands)
+    let p = (passes_all a b k n kept d d' few l here t).each h.0 h.1 in (record h.0 { devices = with_device k (device_after n p.captured p.is_dead) h.0.devices }, p.stands)
 
--- a tick, behind which requests complete
+-- a tick, after which requests complete
 pub ticks : (a b : Option Log) (k n : ℕ) (kept kept' : Kept) (d d' : KeptDevice) → n ≤ longest_tick → AreLater kept.waits → slice_get kept.devices k ≡ Some d → Ticks d.is_dead k n d d' a b →
     ((s : State) → StandsFor (passed_kept k n d' kept) s → StandsFor kept' (complete_due k s)) → Simulates a b (StandsFor kept) (StandsFor kept') (wake_phase (Ticked k n)) accept
 ticks a b k n kept kept' d d' few l here t complete =
@@ -315,30 +315,30 @@ ticks a b k n kept kept' d d' few l here t complete =
       quiet = all.quiet;
       each = λ s h.
           let p = all.each s h in
-          record { state = tick k n p.captured p.is_dead s; stands = complete (record s { devices = with_device k (later n p.captured p.is_dead) s.devices }) p.stands; same = p.same };
+          record { state = tick k n p.captured p.is_dead s; stands = complete (record s { devices = with_device k (device_after n p.captured p.is_dead) s.devices }) p.stands; same = p.same };
     }
 
--- what the samples are that come to a device
+-- the samples that come to a device
 came_samples : (came : Bool) (n m : ℕ) (bytes : List ℕ) (xs : List ℤ) (s : DeviceState) → m ≡ n * s.channels → xs ≡ cond came (samples s.ty bytes) (replicate m (pos 0)) → xs ≡ captured_samples s n (cond came (Some bytes) None)
 came_samples true n m bytes xs s all is = is
 came_samples false n m bytes xs s all is = is ∙ ap (λ k. replicate k (pos 0)) (all ∙ mul_comm n s.channels)
 
--- a device that took them in, and the sound that it gave, behind n frames
+-- a device that took them in, and the sound that it gave, after n frames
 pub passes_by : (came : Bool) (n m : ℕ) (d d' : KeptDevice) (bytes given : List ℕ) (xs sound : List ℤ) → m ≡ n * d.next.channels → length xs ≡ m → xs ≡ cond came (samples d.ty bytes) (replicate m (pos 0)) → given ≡ bytes_of d.ty sound →
-    ((s : DeviceState) → StandsForDevice d s → StandsForDevice d' (later (frame_count s.channels xs) xs s.is_dead s)) →
+    ((s : DeviceState) → StandsForDevice d s → StandsForDevice d' (device_after (frame_count s.channels xs) xs s.is_dead s)) →
     ((s : DeviceState) → StandsForDevice d s → sound ≡ through_output_control s.controls (next_sound s (frame_count s.channels xs))) → Passes d d' n (cond came (Some bytes) None) given
 passes_by came n m d d' bytes given xs sound all size is told stands hands = record {
   stands = λ s h.
       let all' = all ∙ ap (λ c. n * c) h.hears.channels in
       let frames = are_frames xs n s.channels (size ∙ all') h.hears.count in
       let came_in = came_samples came n m bytes xs s all' (is ∙ ap (λ ty. cond came (samples ty bytes) (replicate m (pos 0))) h.ty) in
-      subst (λ ys. StandsForDevice d' (later n ys s.is_dead s)) came_in (subst (λ k. StandsForDevice d' (later k xs s.is_dead s)) frames (stands s h));
+      subst (λ ys. StandsForDevice d' (device_after n ys s.is_dead s)) came_in (subst (λ k. StandsForDevice d' (device_after k xs s.is_dead s)) frames (stands s h));
   gives = λ s h.
       let frames = are_frames xs n s.channels (size ∙ all ∙ ap (λ c. n * c) h.hears.channels) h.hears.count in
       told ∙ ap (λ ty. bytes_of ty sound) h.ty ∙ ap (bytes_of s.ty) (hands s h ∙ ap (λ k. through_output_control s.controls (next_sound s k)) frames);
 }
 
--- what a live device does by its calls
+-- the calls of a live device
 
 capture_taken : (k n : ℕ) (device : DeviceState) (got : Option (List ℕ)) → is_capture n device got ≡ true → (log : Log) → parse_one (capture_by k n device) (Captured k n got ∷ log) ≡ accept got log
 capture_taken k n device got fits log = rw (eq-refl k, eq-refl n, fits)
@@ -355,14 +355,14 @@ capture_failed a b k n d d' e false bytes given f p told is = record {
   quiet = refl;
   came = None;
   is_dead = true;
-  stands = λ device h. subst (λ x. StandsForDevice x (later n (captured_samples device n None) true device)) (sym is) (fails d' n (captured_samples device n None) device.is_dead device (p.stands device h));
+  stands = λ device h. subst (λ x. StandsForDevice x (device_after n (captured_samples device n None) true device)) (sym is) (fails d' n (captured_samples device n None) device.is_dead device (p.stands device h));
   goes = λ device h s more. ap (λ x. parse_then x (after_capture k n device s)) (capture_taken k n device None refl more);
 }
 
--- the bytes that came fit, and the sound that is handed out is the one
+-- the bytes that came fit, and the sound that is handed out is the right one
 capture_emitted : (a b c : Option Log) (k n : ℕ) (d d' e : KeptDevice) (bytes given : List ℕ) (done : Bool) → length bytes ≡ n * frame_bytes d.ty d.next.channels → Passes d d' n (Some bytes) given →
     Appended a (Captured k n (Some bytes) ∷ []) b → Appended b (Emitted k given done ∷ []) c →
-    ((device : DeviceState) → StandsForDevice d device → StandsForDevice e (later n (captured_samples device n (Some bytes)) (not done) device)) → TicksLive k n d e a c
+    ((device : DeviceState) → StandsForDevice d device → StandsForDevice e (device_after n (captured_samples device n (Some bytes)) (not done) device)) → TicksLive k n d e a c
 capture_emitted a b c k n d d' e bytes given done size p told told' stands = record {
   part = Captured k n (Some bytes) ∷ Emitted k given done ∷ [];
   told = appended_on a b c (Captured k n (Some bytes) ∷ []) (Emitted k given done ∷ []) told told';
@@ -384,7 +384,7 @@ emit_failed a b c k n d d' e false done bytes given t f size p told told' is = a
 emit_failed a b c k n d d' e true true bytes given t f size p told told' is = absurd cc
 emit_failed a b c k n d d' e true false bytes given t f size p told told' is =
     capture_emitted a b c k n d d' e bytes given false size p told told'
-    (λ device h. subst (λ x. StandsForDevice x (later n (captured_samples device n (Some bytes)) true device)) (sym is) (fails d' n (captured_samples device n (Some bytes)) device.is_dead device (p.stands device h)))
+    (λ device h. subst (λ x. StandsForDevice x (device_after n (captured_samples device n (Some bytes)) true device)) (sym is) (fails d' n (captured_samples device n (Some bytes)) device.is_dead device (p.stands device h)))
 
 pub emit_done : (a b c : Option Log) (k n : ℕ) (d d' : KeptDevice) (came done : Bool) (bytes given : List ℕ) → came ≡ true → done ≡ true → d.is_dead ≡ false → length bytes ≡ n * frame_bytes d.ty d.next.channels → Passes d d' n (cond came (Some bytes) None) given →
     Appended a (Captured k n (cond came (Some bytes) None) ∷ []) b → Appended b (Emitted k given done ∷ []) c → TicksLive k n d d' a c
@@ -392,7 +392,7 @@ emit_done a b c k n d d' false done bytes given t f live size p told told' = abs
 emit_done a b c k n d d' true false bytes given t f live size p told told' = absurd cc
 emit_done a b c k n d d' true true bytes given t f live size p told told' =
     capture_emitted a b c k n d d' d' bytes given true size p told told'
-    (λ device h. subst (λ b. StandsForDevice d' (later n (captured_samples device n (Some bytes)) b device)) (sym h.dead ∙ live) (p.stands device h))
+    (λ device h. subst (λ b. StandsForDevice d' (device_after n (captured_samples device n (Some bytes)) b device)) (sym h.dead ∙ live) (p.stands device h))
 
 -- Starts
 

@@ -1,6 +1,5 @@
--- Between which numbers all links are that are to be read, written or closed; the others have no part in a turn.
+-- Bounds on the numbers of links that are to be read, written or closed. The others have no part in a turn.
 use Rattle.std.proofs.Common.{◌≡◌, ◌≢◌, ℕ, zero, suc, ◌≤◌, ◌<◌, ◌+◌, ◌-◌, ◌||◌, nat_lt, replicate, inl, inr, Bool, true, false, List, [], ◌∷◌, get_or, length, map, slice_get, slice_set, option_and_then, is_some, refl, sym, ap, ◌∙◌, subst, arith}
-use Rattle.std.proofs.Math.Nat.{le_refl, le-max_left}
 use Rattle.std.proofs.lemmas.Bool.{cases_lt, le-ltb, lt-ltb}
 use Rattle.std.specs.declared.option.Option.{Option}
 use Rattle.std.specs.declared.option.Option.TheVariants.{None, Some}
@@ -15,11 +14,12 @@ use Rattle.af_model.specs.Turn.{accept, close_due, fits, is_open_at, serve_all, 
 use Rattle.af_model.proofs.ListLemmas.{get-set_other}
 use Rattle.af_model.proofs.OpenLinkLemmas.{open_after}
 use Rattle.af_model.proofs.SlotLemmas.{some_link}
-use Rattle.af_state.specs.Deferrals.{KeptDeferral, has_waiting}
+use Rattle.af_state.specs.Deferrals.{KeptDeferral, has_waiting, deferral_after_frames}
+use Rattle.af_state.proofs.DeferralLemmas.{passed_waiting}
 use Rattle.af_state.specs.SharedState.{KeptSharedState}
 use Rattle.af_core.specs.declared.wanting_span.WantingSpan.{WantingSpan}
 use Rattle.af_core.specs.Simulates.{Simulates}
-use Rattle.af_core.specs.Stands.{AreBounds, AreExact, IsBetweenPhases, Kept, NoneOpenFrom, StandsFor, StandsForSlot, WakesOnly, WantsWithin, bounds_after, bounds_of_all, bounds_with, kept_of, open_below_after, outline_of, wants_at}
+use Rattle.af_core.specs.Stands.{AreBounds, AreExact, IsBetweenPhases, Kept, NoneOpenFrom, StandsFor, StandsForSlot, WakesOnly, WantTheSame, WantsWithin, bounds_after, bounds_of_all, bounds_with, kept_of, open_below_after, outline_of, wants_at}
 use Rattle.af_core.proofs.LinkPhaseLemmas.{all_served, closes_nothing, door_serves, link_here, none_served, one_served, reads_nothing, serves, writes_nothing}
 use Rattle.af_core.proofs.OpenBelowLemmas.{closed_here, closed_serves, kept_opens, none_open_starts, none_open_woken, wake_opens, woken_within}
 use Rattle.af_core.proofs.SimulationLemmas.{simulates_more}
@@ -32,12 +32,20 @@ link_in (Some link) = refl
 pub closed_wants : (n : ℕ) (ks : List KeptDeferral) (links : List (Option LinkState)) → NoneOpenFrom n links → (k : ℕ) → n ≤ k → wants_at ks links k ≡ false
 closed_wants n ks links none k from = ap (open_wants (has_waiting ks k)) (link_in (slice_get links k) ∙ closed_here links k (none k from))
 
--- what a link wants is not changed by another one
+-- what a link wants does not change by another one
 pub others_same : (ks ks' : List KeptDeferral) (links : List (Option LinkState)) (k : ℕ) (link : Option LinkState) → ((j : ℕ) → j ≢ k → has_waiting ks' j ≡ has_waiting ks j) →
     (j : ℕ) → j ≢ k → wants_at ks' (slice_set links k link) j ≡ wants_at ks links j
 others_same ks ks' links k link others j apart =
     ap (λ b. open_wants b (option_and_then (λ l. l) (slice_get (slice_set links k link) j))) (others j apart)
     ∙ ap (λ (o : Option (Option LinkState)). open_wants (has_waiting ks j) (option_and_then (λ l. l) o)) (get-set_other links k j link apart)
+
+-- nothing does that is about how long requests are deferred still
+pub passed_wants : (d n : ℕ) (ks ks' : List KeptDeferral) (links links' : List (Option LinkState)) → ks' ≡ map (deferral_after_frames d n) ks → links' ≡ links →
+    WantTheSame ks links ks' links'
+passed_wants d n ks ks' links links' passed same j =
+    subst (λ qs. wants_at qs links' j ≡ wants_at ks links j) (sym passed)
+    (subst (λ (ls : List (Option LinkState)). wants_at (map (deferral_after_frames d n) ks) ls j ≡ wants_at ks links j) (sym same)
+    (ap (λ b. open_wants b (option_and_then (λ link. link) (slice_get links j))) (passed_waiting d n ks j)))
 
 pub one_woken : (ks : List KeptDeferral) (links : List (Option LinkState)) (k : ℕ) (link : Option LinkState) → (j : ℕ) → j ≢ k → wants_at ks (slice_set links k link) j ≡ wants_at ks links j
 one_woken ks links k link = others_same ks ks links k link (λ j apart. refl)
@@ -103,9 +111,9 @@ rest_quiet a b zero k kept kept' quiet d = all_served a b 0 k kept kept' refl d
 rest_quiet a b (suc n) k kept kept' quiet d =
     rest_quiet a b n (k + 1) kept kept' (λ j from. quiet j (omega (arith, from))) (simulates_more d (quiet_served b n k kept' (quiet k (omega arith))))
 
--- Behind a wake
+-- After a wake
 
--- a link that is open is below the number below which all are
+-- an open link is below the number below which all are
 opens_below : (n k : ℕ) (links : List (Option LinkState)) → NoneOpenFrom n links → is_open_at (slice_get (map {A = Option LinkState} {B = Bool} is_some links) k) ≡ true → k < n
 opens_below n k links none is = elim (cases_lt k n) [
   | inl less ↦ less
@@ -124,6 +132,17 @@ all_wants n ks links none = record { before = λ j less. absurd (omega (arith, l
 
 pub all_bounds : (b : WantingSpan) (ks : List KeptDeferral) (links : List (Option LinkState)) → b.open_below ≤ most_links → NoneOpenFrom b.open_below links → AreBounds (bounds_of_all b) ks links
 all_bounds b ks links most none = record { most = most; none_open = none; from = omega arith; within = omega arith; wants = all_wants b.open_below ks links none }
+
+-- where each link wants what it wanted
+same_bounds : (b : WantingSpan) (ks ks' : List KeptDeferral) (links links' : List (Option LinkState)) → AreBounds b ks links → WantTheSame ks links ks' links' →
+    NoneOpenFrom b.open_below links' → AreBounds b ks' links'
+same_bounds b ks ks' links links' h same none = record {
+  most = h.most;
+  none_open = none;
+  from = h.from;
+  within = h.within;
+  wants = record { before = λ j less. same j ∙ h.wants.before j less; behind = λ j more. same j ∙ h.wants.behind j more };
+}
 
 pub woken_bounds : (wake : Wake) (b : WantingSpan) (kept : Kept) (ks' : List KeptDeferral) (links' : List (Option LinkState)) → fits (outline_of kept) wake ≡ true → AreBounds b kept.waits kept.links →
     WakesOnly wake kept.waits kept.links ks' links' → open_below_after wake b.open_below ≤ most_links → NoneOpenFrom (open_below_after wake b.open_below) links' → AreBounds (bounds_after wake b) ks' links'
@@ -148,22 +167,10 @@ woken_bounds (Writable k) b kept ks' links' fit h only most none = record {
   within = let low = h.within in let here = opens_below b.open_below k kept.links h.none_open fit in omega (arith, low, here);
   wants = with_wants k b kept.waits ks' kept.links links' only h.wants;
 }
-woken_bounds (Ticked d n) b kept ks' links' fit h only most none = all_bounds b ks' links' most none
-woken_bounds (Line d change) b kept ks' links' fit h only most none = all_bounds b ks' links' most none
-woken_bounds Idle b kept ks' links' fit h only most none = record {
-  most = most;
-  none_open = none;
-  from = h.from;
-  within = h.within;
-  wants = record { before = λ j less. only j ∙ h.wants.before j less; behind = λ j more. only j ∙ h.wants.behind j more };
-}
-woken_bounds Stop b kept ks' links' fit h only most none = record {
-  most = most;
-  none_open = none;
-  from = h.from;
-  within = h.within;
-  wants = record { before = λ j less. only j ∙ h.wants.before j less; behind = λ j more. only j ∙ h.wants.behind j more };
-}
+woken_bounds (Ticked d n) b kept ks' links' fit h only most none = same_bounds b kept.waits ks' kept.links links' h only none
+woken_bounds (Line d change) b kept ks' links' fit h only most none = same_bounds b kept.waits ks' kept.links links' h only none
+woken_bounds Idle b kept ks' links' fit h only most none = same_bounds b kept.waits ks' kept.links links' h only none
+woken_bounds Stop b kept ks' links' fit h only most none = same_bounds b kept.waits ks' kept.links links' h only none
 
 -- Whether there is more to do
 
@@ -187,7 +194,7 @@ wants_none k f (x ∷ links) none =
     ap (λ b. b || any_wants (k + 1) f links) (subst (λ i. open_wants (f i) x ≡ false) same (none zero))
     ∙ wants_none (k + 1) f links (λ n. let next : k + suc n ≡ k + 1 + n = omega arith in subst (λ i. open_wants (f i) (option_and_then (λ link. link) (slice_get links n)) ≡ false) next (none (suc n)))
 
--- there is if there is a number among these, whose first is that of a link that wants something
+-- there is more to do if there is a number between the bounds, since the first is that of a link that wants something
 pub some_want : (from : ℕ) (ks : List KeptDeferral) (links : List (Option LinkState)) → wants_at ks links from ≡ true → any_wants 0 (has_waiting ks) links ≡ true
 some_want from ks links e =
     let same : from ≡ 0 + from = omega arith in
@@ -201,11 +208,11 @@ none_want from below ks links empty h = wants_none 0 (has_waiting ks) links (λ 
       | inr more ↦ h.behind n (omega (arith, empty, more))
     ]))
 
--- what the link wants that stands at a number
+-- what the link at a number wants
 pub wants_of : (ks : List KeptDeferral) (links : List (Option LinkState)) (k : ℕ) (d : Option LinkState) → k < length links → wants_at ks links k ≡ open_wants (has_waiting ks k) (get_or links k d)
 wants_of ks links k d there = ap (open_wants (has_waiting ks k)) (link_in (slice_get links k) ∙ link_here links k d there)
 
--- a wake moves this bound as it is said without the others
+-- a wake moves this bound whatever the others are
 pub same_open : (wake : Wake) (b : WantingSpan) → (bounds_after wake b).open_below ≡ open_below_after wake b.open_below
 same_open (Opened k) b = refl
 same_open (Readable k) b = refl
@@ -215,21 +222,11 @@ same_open (Line d change) b = refl
 same_open Idle b = refl
 same_open Stop b = refl
 
--- and never down
-pub open_grows : (wake : Wake) (b : WantingSpan) → b.open_below ≤ (bounds_after wake b).open_below
-open_grows (Opened k) b = le-max_left b.open_below (k + 1)
-open_grows (Readable k) b = le_refl b.open_below
-open_grows (Writable k) b = le_refl b.open_below
-open_grows (Ticked d n) b = le_refl b.open_below
-open_grows (Line d change) b = le_refl b.open_below
-open_grows Idle b = le_refl b.open_below
-open_grows Stop b = le_refl b.open_below
-
--- behind the parts of the links
+-- after the parts of the links
 pub served_bounds : (b : WantingSpan) (ks ks' : List KeptDeferral) (links links' : List (Option LinkState)) → AreBounds b ks links → NoneOpenFrom b.open_below links' → WantsWithin b.wants_from b.wants_below ks' links' → AreBounds b ks' links'
 served_bounds b ks ks' links links' h none wants = record { most = h.most; none_open = none; from = h.from; within = h.within; wants = wants }
 
--- where no link is open
+-- if no link is open
 pub starts_bounds : (b : WantingSpan) (ks : List KeptDeferral) (links : List (Option LinkState)) → b ≡ record { open_below = 0; wants_from = most_links; wants_below = 0 } → links ≡ replicate most_links None → AreBounds b ks links
 starts_bounds b ks links is e = subst (λ (x : WantingSpan). AreBounds x ks links) (sym is) (record {
   most = omega arith;
@@ -239,7 +236,7 @@ starts_bounds b ks links is e = subst (λ (x : WantingSpan). AreBounds x ks link
   wants = record { before = λ k less. closed_wants 0 ks links (none_open_starts links e) k (omega arith); behind = λ k more. closed_wants 0 ks links (none_open_starts links e) k (omega arith) };
 })
 
--- one link more that wants nothing, below the others or above them
+-- one more link that wants nothing, below the others or above them
 pub none_down : (n below : ℕ) (ks : List KeptDeferral) (links : List (Option LinkState)) → wants_at ks links n ≡ false → ((k : ℕ) → n + 1 ≤ k → k < below → wants_at ks links k ≡ false) →
     (k : ℕ) → n ≤ k → k < below → wants_at ks links k ≡ false
 none_down n below ks links here rest k low high = elim (cases_lt n k) [
@@ -254,14 +251,14 @@ none_up from n ks links rest here k low high = elim (cases_lt k n) [
   | inr more ↦ let same : n ≡ k = omega (arith, high, more) in subst (λ i. wants_at ks links i ≡ false) same here
 ]
 
--- there is more to do exactly if there is a number among them
+-- there is more to do exactly if there is a number between the bounds
 pub more_is : (b : WantingSpan) (ks : List KeptDeferral) (links : List (Option LinkState)) → AreBounds b ks links → AreExact b ks links → nat_lt b.wants_from b.wants_below ≡ any_wants 0 (has_waiting ks) links
 more_is b ks links h exact = elim (cases_lt b.wants_from b.wants_below) [
   | inl less ↦ lt-ltb b.wants_from b.wants_below less ∙ sym (some_want b.wants_from ks links (exact less))
   | inr more ↦ le-ltb b.wants_from b.wants_below more ∙ sym (none_want b.wants_from b.wants_below ks links more h.wants)
 ]
 
--- Of a turn: no link is open from where a wake moves the bound, and what is known before the links have their parts
+-- In a turn: no link is open from the moved bound on, and the bounds hold before the links have their parts
 
 pub none_woken : {a a' : Option Log} (wake : Wake) (b : WantingSpan) (kept kept' : Kept) → IsBetweenPhases kept → NoneOpenFrom b.open_below kept.links → Simulates a a' (StandsFor kept) (StandsFor kept') (wake_phase wake) accept →
     NoneOpenFrom (bounds_after wake b).open_below kept'.links
@@ -269,11 +266,17 @@ none_woken wake b kept kept' between none woke =
     subst (λ n. NoneOpenFrom n kept'.links) (sym (same_open wake b))
     (none_open_woken wake b.open_below kept.links kept'.links (kept_opens kept kept' (wake_phase wake) (λ w. open_after w wake) (wake_opens wake) between.stands woke) none)
 
-pub known_woken : {a a' : Option Log} (wake : Wake) (b b' : WantingSpan) (kept kept' : Kept) → fits (outline_of kept) wake ≡ true → IsBetweenPhases kept → AreBounds b kept.waits kept.links →
-    WakesOnly wake kept.waits kept.links kept'.waits kept'.links → IsBetweenPhases kept' → Simulates a a' (StandsFor kept) (StandsFor kept') (wake_phase wake) accept →
-    ((ks : List KeptDeferral) → AreBounds (bounds_after wake b) ks kept'.links → AreBounds b' ks kept'.links) → AreBounds b' kept'.waits kept'.links
-known_woken wake b b' kept kept' fit between h only between' woke moved =
+pub known_woken : {a a' : Option Log} (wake : Wake) (all : Bool) (b b' : WantingSpan) (kept kept' : Kept) → fits (outline_of kept) wake ≡ true → IsBetweenPhases kept → AreBounds b kept.waits kept.links →
+    (all ≡ false → WakesOnly wake kept.waits kept.links kept'.waits kept'.links) → IsBetweenPhases kept' → Simulates a a' (StandsFor kept) (StandsFor kept') (wake_phase wake) accept →
+    (all ≡ false → b' ≡ bounds_after wake b) → (all ≡ true → (ks : List KeptDeferral) → (bounds_after wake b).open_below ≤ most_links → AreBounds b' ks kept'.links) →
+    AreBounds b' kept'.waits kept'.links
+known_woken wake true b b' kept kept' fit between h only between' woke one any =
+    let size = between'.orderly.links in
+    let low = woken_within wake b.open_below (open_below_after wake b.open_below) kept kept'.links refl fit h.most between.orderly.links size in
+    any refl kept'.waits (subst (λ n. n ≤ most_links) (sym (same_open wake b)) (omega (arith, low, size)))
+known_woken wake false b b' kept kept' fit between h only between' woke one any =
     let size = between'.orderly.links in
     let low = woken_within wake b.open_below (open_below_after wake b.open_below) kept kept'.links refl fit h.most between.orderly.links size in
     let none = subst (λ n. NoneOpenFrom n kept'.links) (same_open wake b) (none_woken wake b kept kept' between h.none_open woke) in
-    moved kept'.waits (woken_bounds wake b kept kept'.waits kept'.links fit h only (omega (arith, low, size)) none)
+    subst (λ (x : WantingSpan). AreBounds x kept'.waits kept'.links) (sym (one refl))
+    (woken_bounds wake b kept kept'.waits kept'.links fit h (only refl) (omega (arith, low, size)) none)

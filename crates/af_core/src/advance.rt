@@ -1,4 +1,4 @@
-// Advancing a link: what stands whole at the front of its input is taken off and answered.
+// Advancing a link: a complete setup or frame at the front of its input is taken off and answered.
 ghost use Rattle.std.specs.Prelude.{◌≡◌, ◌⊎◌, ◌≤◌, ◌<◌, ◌++◌, length, map, IsTrue, IsFalse, true};
 ghost use Rattle.af_limits.specs.Limits.{most_links, most_devices, longest_capture, longest_frame, longest_message, perform_limit, event_limit};
 ghost use Rattle.af_world.specs.declared.happening.Why.TheVariants as why;
@@ -7,7 +7,7 @@ ghost use Rattle.af_wire.specs.Front.{setup_front, frame_front};
 ghost use Rattle.af_wire.specs.Message.{error};
 ghost use Rattle.af_request.specs.Answer.{setup};
 ghost use Rattle.af_request.specs.Opcodes as opcodes;
-ghost use Rattle.af_model.specs.State.{stopped};
+ghost use Rattle.af_model.specs.State.{closing_link};
 ghost use Rattle.af_model.specs.Reply.{reply_message};
 ghost use Rattle.af_model.specs.Advance.{after_setup, after_frame, advance_step, advance, takes_more};
 ghost use Rattle.af_state.specs.Kept.{kept_info, IsBounded};
@@ -51,11 +51,11 @@ fn reply_setup(devices: &[Device], link: &mut ServedLink, message: &mut [u8])
     link.push(&message[..n]);
 }
 
-// A bad setup is answered in an order, and closes the link.
+// A bad setup is answered in a byte order, and closes the link.
 fn refuse_setup(order: Order, value: u32, link: &mut ServedLink)
     requires room { length link.old.pending ≤ perform_limit }
     ensures { link.new ≡
-        record (stopped why.BadSetup link.old) { pending = link.old.pending ++ error order 1 value opcodes.setup 0 } }
+        record (closing_link why.BadSetup link.old) { pending = link.old.pending ++ error order 1 value opcodes.setup 0 } }
 {
     let mut message = [0; 16];
     write_error(order, BAD_SETUP, value, opcode::SETUP, 0, &mut message);
@@ -63,10 +63,10 @@ fn refuse_setup(order: Order, value: u32, link: &mut ServedLink)
     link.stop(Why::BadSetup);
 }
 
-// A setup is taken off, if one is there.
-fn setup_once(environment: &SharedState, link: &mut ServedLink, work: &mut Work) -> bool
+// Takes a setup off, if one is complete.
+fn setup_once(shared: &SharedState, link: &mut ServedLink, work: &mut Work) -> bool
     requires room { length link.old.pending ≤ perform_limit }
-    ensures step { Advances result (after_setup (setup_front link.old.rest)) environment.now link.old environment.now link.new }
+    ensures step { Advances result (after_setup (setup_front link.old.rest)) shared.now link.old shared.now link.new }
     ensures same { IsFalse result → link.new ≡ link.old }
     ensures shorter { IsTrue result → length link.new.rest < length link.old.rest }
     ensures short { IsFalse result → length link.new.rest < longest_frame }
@@ -79,55 +79,55 @@ fn setup_once(environment: &SharedState, link: &mut ServedLink, work: &mut Work)
         }
         SetupFront::Setup(order) => {
             link.set_up(order);
-            reply_setup(&environment.devices, link, &mut work.message);
+            reply_setup(&shared.devices, link, &mut work.message);
             true
         }
     }
 }
 
-// The first frame, as long as `frame`, is taken off and performed. It comes to stand there. It is kept out of the code that looks for
-// frames, which mostly finds none.
+// Takes the first frame off and performs it. `frame` receives a copy of it. This is kept out of the code that looks for frames,
+// since that mostly finds none.
 #[inline(never)]
 fn perform_front(
     number: u8,
-    environment: &mut SharedState,
+    shared: &mut SharedState,
     link: &mut ServedLink,
     frame: &mut [u8],
     work: &mut Work,
 )
-    requires asks { MayAsk number environment.old link.old }
+    requires asks { MayAsk number shared.old link.old }
     requires there { length frame.old ≤ length link.old.rest }
     requires some { 0 < length frame.old }
     requires few { length frame.old ≤ longest_frame }
-    ensures step { Advances true (after_frame number (Frame (length frame.old))) environment.old link.old environment.new link.new }
+    ensures step { Advances true (after_frame number (Frame (length frame.old))) shared.old link.old shared.new link.new }
     ensures shorter { length link.new.rest < length link.old.rest }
-    ensures only_queues { OnlyQueues number environment.old.waits environment.new.waits }
-    ensures small_pending { IsTrue (has_waiting environment.new.waits number) → length link.new.pending ≤ perform_limit }
+    ensures only_queues { OnlyQueues number shared.old.waits shared.new.waits }
+    ensures small_pending { IsTrue (has_waiting shared.new.waits number) → length link.new.pending ≤ perform_limit }
 {
     link.take_front(frame);
     match read_request(link.order(), frame) {
-        Some(request) => perform(number, &request, environment, link, work),
+        Some(request) => perform(number, &request, shared, link, work),
         None => link.stop(Why::Malformed),
     }
 }
 
-// A frame is taken off, if one is there.
+// Takes a frame off, if one is complete.
 fn frame_once(
     number: u8,
-    environment: &mut SharedState,
+    shared: &mut SharedState,
     link: &mut ServedLink,
     input: &mut [u8],
     work: &mut Work,
 ) -> bool
-    requires asks { MayAsk number environment.old link.old }
+    requires asks { MayAsk number shared.old link.old }
     requires size { length input.old ≡ longest_capture }
     ensures step { Advances result (after_frame number (frame_front link.old.order link.old.rest))
-        environment.old link.old environment.new link.new }
-    ensures same { IsFalse result → (environment.new ≡ environment.old) × (link.new ≡ link.old) }
+        shared.old link.old shared.new link.new }
+    ensures same { IsFalse result → (shared.new ≡ shared.old) × (link.new ≡ link.old) }
     ensures shorter { IsTrue result → length link.new.rest < length link.old.rest }
     ensures short { IsFalse result → length link.new.rest < longest_frame }
-    ensures only_queues { OnlyQueues number environment.old.waits environment.new.waits }
-    ensures small_pending { IsTrue (has_waiting environment.new.waits number) → length link.new.pending ≤ perform_limit }
+    ensures only_queues { OnlyQueues number shared.old.waits shared.new.waits }
+    ensures small_pending { IsTrue (has_waiting shared.new.waits number) → length link.new.pending ≤ perform_limit }
 {
     match frame_at(link.order(), link.rest()) {
         Front::NeedMore => false,
@@ -136,62 +136,51 @@ fn frame_once(
             true
         }
         Front::Frame(n) => {
-            perform_front(number, environment, link, &mut input[..n], work);
+            perform_front(number, shared, link, &mut input[..n], work);
             true
         }
     }
 }
 
-// One setup or frame is taken off, where the link takes more and one is there.
+// Takes one setup or frame off, if one is complete and the link takes more.
 fn advance_once(
     number: u8,
-    environment: &mut SharedState,
+    shared: &mut SharedState,
     link: &mut ServedLink,
     scratch: &mut Scratch,
 ) -> bool
     requires number { number < most_links }
-    ensures step { Advances result (advance_step number) environment.old link.old environment.new link.new }
-    ensures same { IsFalse result → (environment.new ≡ environment.old) × (link.new ≡ link.old) }
+    ensures step { Advances result (advance_step number) shared.old link.old shared.new link.new }
+    ensures same { IsFalse result → (shared.new ≡ shared.old) × (link.new ≡ link.old) }
     ensures shorter { IsTrue result → length link.new.rest < length link.old.rest }
-    ensures short { IsFalse result → IsTrue (takes_more (has_waiting environment.new.waits number) link.new) →
+    ensures short { IsFalse result → IsTrue (takes_more (has_waiting shared.new.waits number) link.new) →
         length link.new.rest < longest_frame }
     ensures bounds { IsFalse result → IsBounded link.new }
-    ensures only_queues { OnlyQueues number environment.old.waits environment.new.waits }
-    ensures small_pending { IsTrue result → IsTrue (has_waiting environment.new.waits number) → length link.new.pending ≤ perform_limit }
+    ensures only_queues { OnlyQueues number shared.old.waits shared.new.waits }
+    ensures small_pending { IsTrue result → IsTrue (has_waiting shared.new.waits number) → length link.new.pending ≤ perform_limit }
 {
-    if !link.takes_more(environment.waits.is_waiting(number)) {
+    if !link.takes_more(shared.waits.is_waiting(number)) {
         return false;
     }
     if link.is_set_up() {
-        frame_once(
-            number,
-            environment,
-            link,
-            &mut scratch.input,
-            &mut scratch.work,
-        )
+        frame_once(number, shared, link, &mut scratch.input, &mut scratch.work)
     } else {
-        setup_once(environment, link, &mut scratch.work)
+        setup_once(shared, link, &mut scratch.work)
     }
 }
 
 /// Takes off and answers what is there, one after the other, as far as the link takes more.
-pub fn advance(
-    number: u8,
-    environment: &mut SharedState,
-    link: &mut ServedLink,
-    scratch: &mut Scratch,
-)
+pub fn advance(number: u8, shared: &mut SharedState, link: &mut ServedLink, scratch: &mut Scratch)
     requires number { number < most_links }
-    requires room { IsTrue (has_waiting environment.old.waits number) → length link.old.pending ≤ event_limit }
-    ensures step { StepsLink (advance number) environment.old link.old environment.new link.new }
-    ensures settled { IsSettled (has_waiting environment.new.waits number) link.new }
+    requires room { IsTrue (has_waiting shared.old.waits number) → length link.old.pending ≤ event_limit }
+    ensures step { StepsLink (advance number) shared.old link.old shared.new link.new }
+    ensures settled { IsSettled (has_waiting shared.new.waits number) link.new }
     ensures answered { (link.new ≡ link.old) ⊎ (length link.new.rest < length link.old.rest) }
-    ensures only_queues { OnlyQueues number environment.old.waits environment.new.waits }
+    ensures only_queues { OnlyQueues number shared.old.waits shared.new.waits }
 {
-    // mostly nothing is there any more once a link took its replies
+    // after its replies a link mostly has no more input
     while link.has_input() {
-        if !advance_once(number, environment, link, scratch) {
+        if !advance_once(number, shared, link, scratch) {
             return;
         }
     }

@@ -1,4 +1,4 @@
-// Requests that waited for a device complete, in the order in which they began to.
+// Deferred requests that are due complete, the longest deferred first.
 ghost use Rattle.std.specs.Prelude.{◌≡◌, ◌≤◌, ◌<◌, suc, find, length, option_map, slice_get, IsTrue, IsFalse};
 ghost use Rattle.std.specs.declared.option.Option.TheVariants.{None, Some};
 ghost use Rattle.af_limits.specs.Limits.{most_links, event_limit};
@@ -19,61 +19,67 @@ use af_state::{Scratch, ServedLink, SharedState};
 pub fn complete_link(
     number: u8,
     device: u8,
-    environment: &mut SharedState,
+    shared: &mut SharedState,
     link: &mut ServedLink,
     scratch: &mut Scratch,
 )
     requires number { number < most_links }
-    requires due { option_map (λ k. k.wait.link) (find (kept_due device) environment.old.waits) ≡ Some number }
+    requires due { option_map (λ k. k.wait.link) (find (kept_due device) shared.old.waits) ≡ Some number }
     requires room { length link.old.pending ≤ event_limit }
-    requires stands { (a : EnvironmentState) × StandsForSharedState environment.old a }
-    ensures step { OfFirstDue device environment.old (λ w a. StandsForLink environment.new link.new
+    requires stands { (a : EnvironmentState) × StandsForSharedState shared.old a }
+    ensures step { OfFirstDue device shared.old (λ w a. StandsForLink shared.new link.new
         (complete_for w (slice_get a.devices w.device) (open_link a link.old))) }
-    ensures settled { IsSettled (has_waiting environment.new.waits number) link.new }
-    ensures only_queues { OnlyQueues number (without_first (kept_due device) environment.old.waits) environment.new.waits }
+    ensures settled { IsSettled (has_waiting shared.new.waits number) link.new }
+    ensures only_queues { OnlyQueues number (without_first (kept_due device) shared.old.waits) shared.new.waits }
 {
-    let deferred = environment.waits.deferred(number);
-    let devices = &mut environment.devices;
+    let deferred = shared.waits.deferred(number);
+    let devices = &mut shared.devices;
     complete_deferred(deferred, device, devices, link, &mut scratch.work);
-    environment.waits.take_due(device);
-    advance(number, environment, link, scratch);
+    shared.waits.take_due(device);
+    advance(number, shared, link, scratch);
 }
 
-// The first request that is due of a device completes. The answer is whether there was one.
+// The first request that is due for a device completes. The answer is whether there was one.
 fn complete_first(
     device: u8,
-    environment: &mut SharedState,
+    shared: &mut SharedState,
     slots: &mut [Slot],
     scratch: &mut Scratch,
 ) -> bool
-    requires kept { IsCompleting device (kept_of environment.old slots.old) }
-    ensures step { (s : State) → StandsFor (kept_of environment.old slots.old) s →
-        CompletesTo result (complete_step device s) (kept_of environment.new slots.new) }
-    ensures same { IsFalse result → (environment.new ≡ environment.old) × (slots.new ≡ slots.old) }
-    ensures kept { IsCompleting device (kept_of environment.new slots.new) }
-    ensures fewer { IsTrue result → dues device environment.old.waits ≡ suc (dues device environment.new.waits) }
-    ensures none { IsFalse result → find (kept_due device) environment.old.waits ≡ None }
+    requires kept { IsCompleting device (kept_of shared.old slots.old) }
+    ensures step { (s : State) → StandsFor (kept_of shared.old slots.old) s →
+        CompletesTo result (complete_step device s) (kept_of shared.new slots.new) }
+    ensures same { IsFalse result → (shared.new ≡ shared.old) × (slots.new ≡ slots.old) }
+    ensures kept { IsCompleting device (kept_of shared.new slots.new) }
+    ensures fewer { IsTrue result → dues device shared.old.waits ≡ suc (dues device shared.new.waits) }
+    ensures none { IsFalse result → find (kept_due device) shared.old.waits ≡ None }
 {
-    match environment.waits.first_due(device) {
+    match shared.waits.first_due(device) {
         Some(number) => {
             let slot = &mut slots[usize::from(number)];
-            slot.complete(number, device, environment, scratch);
+            slot.complete(number, device, shared, scratch);
             true
         }
         None => false,
     }
 }
 
-/// The requests that are due of a device complete, each followed by those that its link may then make.
+/// The requests that are due of a device complete, each followed by those that its link may then make. The answer is whether one
+/// did.
 pub fn complete_due(
     device: u8,
-    environment: &mut SharedState,
+    shared: &mut SharedState,
     slots: &mut [Slot],
     scratch: &mut Scratch,
-)
-    requires kept { IsCompleting device (kept_of environment.old slots.old) }
-    ensures step { StepsAll (complete_due device) (kept_of environment.old slots.old) (kept_of environment.new slots.new) }
-    ensures kept { IsBetweenPhases (kept_of environment.new slots.new) }
+) -> bool
+    requires kept { IsCompleting device (kept_of shared.old slots.old) }
+    ensures step { StepsAll (complete_due device) (kept_of shared.old slots.old) (kept_of shared.new slots.new) }
+    ensures same { IsFalse result → (shared.new ≡ shared.old) × (slots.new ≡ slots.old) }
+    ensures kept { IsBetweenPhases (kept_of shared.new slots.new) }
 {
-    while complete_first(device, environment, slots, scratch) {}
+    let mut completed = false;
+    while complete_first(device, shared, slots, scratch) {
+        completed = true;
+    }
+    completed
 }

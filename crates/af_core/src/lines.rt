@@ -1,4 +1,4 @@
-// Telephone lines: they change, and their hooks are given.
+// Telephone lines: they change, and their hooks are moved to the wanted position.
 ghost use Rattle.std.specs.Prelude.{◌≡◌, ◌<◌, [], ◌∷◌, length, option_and_then, option_map, slice_get, IsTrue, IsFalse};
 ghost use Rattle.std.specs.declared.option.Option.{Option};
 ghost use Rattle.std.specs.declared.option.Option.TheVariants.{Some};
@@ -6,7 +6,7 @@ ghost use Rattle.af_world.specs.declared.happening.Happening.TheVariants.{Hooked
 ghost use Rattle.af_world.specs.declared.happening.Wake.TheVariants as wake;
 ghost use Rattle.af_io.specs.Observed.{Appended};
 ghost use Rattle.af_world.specs.Log.{Log};
-ghost use Rattle.af_phone.specs.Lines.{changed, flag_value, hook_due, hooked, is_change};
+ghost use Rattle.af_phone.specs.Lines.{line_after_change, flag_value, hook_due, line_after_hook, is_change};
 ghost use Rattle.af_model.specs.Turn.{accept, hook_all, hook_at, wake_phase};
 ghost use Rattle.af_state.specs.Kept.{KeptDevice};
 ghost use Rattle.af_core.specs.Simulates.{Simulates};
@@ -23,7 +23,7 @@ use af_world::World;
 // A line that changes.
 fn changed(change: LineChange, line: Option<Line>) -> Option<Line>
     requires { IsTrue (is_change change) }
-    ensures { result ≡ option_map (changed change) line }
+    ensures { result ≡ option_map (line_after_change change) line }
 {
     let mut line = line?;
     line.change(change);
@@ -31,33 +31,28 @@ fn changed(change: LineChange, line: Option<Line>) -> Option<Line>
 }
 
 /// The line of device `number` changes, and the links that select it are told.
-pub fn change_line(
-    number: u8,
-    change: LineChange,
-    environment: &mut SharedState,
-    slots: &mut [Slot],
-)
-    requires there { number < length environment.old.devices }
+pub fn change_line(number: u8, change: LineChange, shared: &mut SharedState, slots: &mut [Slot])
+    requires there { number < length shared.old.devices }
     requires change { IsTrue (is_change change) }
-    requires kept { IsBetweenPhases (kept_of environment.old slots.old) }
-    ensures simulates { (t : Option Log) → Simulates t t (StandsFor (kept_of environment.old slots.old))
-        (StandsFor (kept_of environment.new slots.new)) (wake_phase (wake.Line number change)) accept }
-    ensures kept { IsBetweenPhases (kept_of environment.new slots.new) }
+    requires kept { IsBetweenPhases (kept_of shared.old slots.old) }
+    ensures simulates { (t : Option Log) → Simulates t t (StandsFor (kept_of shared.old slots.old))
+        (StandsFor (kept_of shared.new slots.new)) (wake_phase (wake.Line number change)) accept }
+    ensures kept { IsBetweenPhases (kept_of shared.new slots.new) }
 {
-    let line = changed(change, environment.devices[number as usize].line());
-    become_line(number, line, change.event(), environment, slots);
+    let line = changed(change, shared.devices[number as usize].line());
+    become_line(number, line, change.event(), shared, slots);
 }
 
-// A line behind a try to give it the wanted hook.
+// A line after a try to move its hook to the wanted position.
 fn hooked(done: bool, line: Option<Line>) -> Option<Line>
-    ensures { result ≡ option_map (hooked done) line }
+    ensures { result ≡ option_map (line_after_hook done) line }
 {
     let mut line = line?;
     line.hooked(done);
     Some(line)
 }
 
-// The hook that the line of a device is still to be given.
+// The wanted hook of a device's line, if the actual hook is another and the line is live.
 fn hook_wanted(device: &Device) -> Option<bool>
     ensures { result ≡ option_and_then hook_due device.now.line }
 {
@@ -82,73 +77,71 @@ fn hook<W: World>(number: u8, off: bool, world: &mut W) -> bool
     }
 }
 
-// The hook of a device's line, which is wanted off or on, is given where the call is done, and else the line is dead.
+// Moves the hook of a device's line. If the call fails, the line is dead.
 fn give_wanted<W: World>(
     number: u8,
     off: bool,
-    environment: &mut SharedState,
+    shared: &mut SharedState,
     slots: &mut [Slot],
     world: &mut W,
 )
-    requires there { number < length environment.old.devices }
-    requires wanted { (d : KeptDevice) → slice_get environment.old.devices number ≡ Some d →
+    requires there { number < length shared.old.devices }
+    requires wanted { (d : KeptDevice) → slice_get shared.old.devices number ≡ Some d →
         option_and_then hook_due d.line ≡ Some off }
-    requires kept { IsBetweenPhases (kept_of environment.old slots.old) }
-    ensures simulates { Simulates (W.log world.old) (W.log world.new) (StandsFor (kept_of environment.old slots.old))
-        (StandsFor (kept_of environment.new slots.new)) (λ s log. hook_at number (slice_get s.devices number) s log) accept }
-    ensures kept { IsBetweenPhases (kept_of environment.new slots.new) }
-    ensures count { length environment.new.devices ≡ length environment.old.devices }
+    requires kept { IsBetweenPhases (kept_of shared.old slots.old) }
+    ensures simulates { Simulates (W.log world.old) (W.log world.new) (StandsFor (kept_of shared.old slots.old))
+        (StandsFor (kept_of shared.new slots.new)) (λ s log. hook_at number (slice_get s.devices number) s log) accept }
+    ensures kept { IsBetweenPhases (kept_of shared.new slots.new) }
+    ensures count { length shared.new.devices ≡ length shared.old.devices }
     ensures leads { W.leads_to world.old world.new }
 {
     let done = hook(number, off, world);
-    let line = hooked(done, environment.devices[number as usize].line());
+    let line = hooked(done, shared.devices[number as usize].line());
     if done {
         let change = (EventKind::Hook, flag_value(off));
-        become_line(number, line, change, environment, slots);
+        become_line(number, line, change, shared, slots);
     } else {
-        environment.devices[number as usize].set_line(line);
+        shared.devices[number as usize].set_line(line);
     }
 }
 
-// The hook of a device's line is given, if it is live and wanted to have another than it was given. The answer is whether it was.
+// Moves the hook of a device's line, if the line is live and its actual hook is not the wanted one. The answer is whether it made
+// the call.
 fn give_hook<W: World>(
     number: u8,
-    environment: &mut SharedState,
+    shared: &mut SharedState,
     slots: &mut [Slot],
     world: &mut W,
 ) -> bool
-    requires there { number < length environment.old.devices }
-    requires kept { IsBetweenPhases (kept_of environment.old slots.old) }
-    ensures simulates { Simulates (W.log world.old) (W.log world.new) (StandsFor (kept_of environment.old slots.old))
-        (StandsFor (kept_of environment.new slots.new)) (λ s log. hook_at number (slice_get s.devices number) s log) accept }
-    ensures kept { IsBetweenPhases (kept_of environment.new slots.new) }
-    ensures count { length environment.new.devices ≡ length environment.old.devices }
-    ensures same { IsFalse result → (environment.new ≡ environment.old) × (slots.new ≡ slots.old) }
+    requires there { number < length shared.old.devices }
+    requires kept { IsBetweenPhases (kept_of shared.old slots.old) }
+    ensures simulates { Simulates (W.log world.old) (W.log world.new) (StandsFor (kept_of shared.old slots.old))
+        (StandsFor (kept_of shared.new slots.new)) (λ s log. hook_at number (slice_get s.devices number) s log) accept }
+    ensures kept { IsBetweenPhases (kept_of shared.new slots.new) }
+    ensures count { length shared.new.devices ≡ length shared.old.devices }
+    ensures same { IsFalse result → (shared.new ≡ shared.old) × (slots.new ≡ slots.old) }
     ensures leads { W.leads_to world.old world.new }
 {
-    let Some(off) = hook_wanted(&environment.devices[number as usize]) else {
+    let Some(off) = hook_wanted(&shared.devices[number as usize]) else {
         return false;
     };
-    give_wanted(number, off, environment, slots, world);
+    give_wanted(number, off, shared, slots, world);
     true
 }
 
-/// The hooks of all devices, by rising number. The answer is whether any was to be given, of which links may be told.
-pub fn give_hooks<W: World>(
-    environment: &mut SharedState,
-    slots: &mut [Slot],
-    world: &mut W,
-) -> bool
-    requires kept { IsBetweenPhases (kept_of environment.old slots.old) }
-    ensures simulates { Simulates (W.log world.old) (W.log world.new) (StandsFor (kept_of environment.old slots.old))
-        (StandsFor (kept_of environment.new slots.new)) hook_all accept }
-    ensures kept { IsBetweenPhases (kept_of environment.new slots.new) }
-    ensures same { IsFalse result → (environment.new ≡ environment.old) × (slots.new ≡ slots.old) }
+/// The hooks of all devices, in the order of their numbers. The answer is whether any call was made, since an event for links may
+/// follow.
+pub fn give_hooks<W: World>(shared: &mut SharedState, slots: &mut [Slot], world: &mut W) -> bool
+    requires kept { IsBetweenPhases (kept_of shared.old slots.old) }
+    ensures simulates { Simulates (W.log world.old) (W.log world.new) (StandsFor (kept_of shared.old slots.old))
+        (StandsFor (kept_of shared.new slots.new)) hook_all accept }
+    ensures kept { IsBetweenPhases (kept_of shared.new slots.new) }
+    ensures same { IsFalse result → (shared.new ≡ shared.old) × (slots.new ≡ slots.old) }
     ensures leads { W.leads_to world.old world.new }
 {
     let mut any = false;
-    for number in 0..environment.devices.len() {
-        if give_hook(number as u8, environment, slots, world) {
+    for number in 0..shared.devices.len() {
+        if give_hook(number as u8, shared, slots, world) {
             any = true;
         }
     }

@@ -19,36 +19,36 @@ use af_world::{LinkGot, LinkTook, Why, World};
 // One read, if the link is to be read.
 fn read_link<W: World>(
     number: u8,
-    environment: &mut SharedState,
+    shared: &mut SharedState,
     link: &mut ServedLink,
     scratch: &mut Scratch,
     world: &mut W,
 )
-    requires link { IsInTurn number environment.old.waits link.old }
-    ensures simulates { Simulates (W.log world.old) (W.log world.new) (StandsForLink environment.old link.old)
-        (StandsForLink environment.new link.new) (read_phase number) accept }
-    ensures link { LinkServed number environment.old.waits environment.new.waits link.new }
+    requires link { IsInTurn number shared.old.waits link.old }
+    ensures simulates { Simulates (W.log world.old) (W.log world.new) (StandsForLink shared.old link.old)
+        (StandsForLink shared.new link.new) (read_phase number) accept }
+    ensures link { LinkServed number shared.old.waits shared.new.waits link.new }
     ensures leads { W.leads_to world.old world.new }
 {
-    if !link.wants_read(number, &environment.waits) {
+    if !link.wants_read(number, &shared.waits) {
         return;
     }
     let (input, _) = scratch.input.split_at_mut(LONGEST_READ);
     match world.read(number, input) {
         LinkGot::Bytes(n) => {
             link.take_in(&input[..n]);
-            advance(number, environment, link, scratch)
+            advance(number, shared, link, scratch)
         }
         LinkGot::NotYet => link.wait_for_bytes(),
         LinkGot::Ended => {
             link.wait_for_bytes();
             link.stop(Why::Ended);
         }
-        LinkGot::Failed => drop_link(number, Why::LinkFault, environment, link),
+        LinkGot::Failed => drop_link(number, Why::LinkFault, shared, link),
     }
 }
 
-// All that waits to be sent is offered: where it lies, if that is in one piece, and else copied into one.
+// Offers all that waits to be sent. If that wraps round the end of the session's ring, it is copied into one piece first.
 fn offer<W: World>(number: u8, link: &mut ServedLink, world: &mut W) -> LinkTook
     requires some { 0 < length link.old.pending }
     requires bound { length link.old.pending ≤ output_room }
@@ -67,44 +67,44 @@ fn offer<W: World>(number: u8, link: &mut ServedLink, world: &mut W) -> LinkTook
 // One write of all that waits to be sent.
 fn write_once<W: World>(
     number: u8,
-    environment: &mut SharedState,
+    shared: &mut SharedState,
     link: &mut ServedLink,
     scratch: &mut Scratch,
     world: &mut W,
 )
-    requires link { IsInTurn number environment.old.waits link.old }
+    requires link { IsInTurn number shared.old.waits link.old }
     requires wants { IsTrue (wants_write link.old) }
-    ensures simulates { Simulates (W.log world.old) (W.log world.new) (StandsForLink environment.old link.old)
-        (StandsForLink environment.new link.new) (write_phase number) (write_phase number) }
-    ensures link { LinkServed number environment.old.waits environment.new.waits link.new }
+    ensures simulates { Simulates (W.log world.old) (W.log world.new) (StandsForLink shared.old link.old)
+        (StandsForLink shared.new link.new) (write_phase number) (write_phase number) }
+    ensures link { LinkServed number shared.old.waits shared.new.waits link.new }
     ensures fewer { writes_left link.new < writes_left link.old }
     ensures leads { W.leads_to world.old world.new }
 {
     match offer(number, link, world) {
         LinkTook::Took(n) => {
             link.took(n);
-            advance(number, environment, link, scratch);
+            advance(number, shared, link, scratch);
         }
-        LinkTook::Failed => drop_link(number, Why::LinkFault, environment, link),
+        LinkTook::Failed => drop_link(number, Why::LinkFault, shared, link),
     }
 }
 
-// Writes until nothing waits to be sent, or the link is stuck.
+// Writes until nothing waits to be sent, or the link is blocked.
 fn write_link<W: World>(
     number: u8,
-    environment: &mut SharedState,
+    shared: &mut SharedState,
     link: &mut ServedLink,
     scratch: &mut Scratch,
     world: &mut W,
 )
-    requires link { IsInTurn number environment.old.waits link.old }
-    ensures simulates { Simulates (W.log world.old) (W.log world.new) (StandsForLink environment.old link.old)
-        (StandsForLink environment.new link.new) (write_phase number) accept }
-    ensures link { LinkServed number environment.old.waits environment.new.waits link.new }
+    requires link { IsInTurn number shared.old.waits link.old }
+    ensures simulates { Simulates (W.log world.old) (W.log world.new) (StandsForLink shared.old link.old)
+        (StandsForLink shared.new link.new) (write_phase number) accept }
+    ensures link { LinkServed number shared.old.waits shared.new.waits link.new }
     ensures leads { W.leads_to world.old world.new }
 {
     while link.wants_write() {
-        write_once(number, environment, link, scratch, world);
+        write_once(number, shared, link, scratch, world);
     }
 }
 
@@ -126,18 +126,18 @@ fn close_link<W: World>(number: u8, link: &ServedLink, world: &mut W) -> bool
 /// A link's part of a turn. The answer is whether it was closed.
 pub fn serve_link<W: World>(
     number: u8,
-    environment: &mut SharedState,
+    shared: &mut SharedState,
     link: &mut ServedLink,
     scratch: &mut Scratch,
     world: &mut W,
 ) -> bool
-    requires link { IsInTurn number environment.old.waits link.old }
-    ensures simulates { Simulates (W.log world.old) (W.log world.new) (StandsForLink environment.old link.old)
-        (StandsForSlot environment.new (if result then None else Some link.new)) (serve_link number) accept }
-    ensures link { LinkServed number environment.old.waits environment.new.waits link.new }
+    requires link { IsInTurn number shared.old.waits link.old }
+    ensures simulates { Simulates (W.log world.old) (W.log world.new) (StandsForLink shared.old link.old)
+        (StandsForSlot shared.new (if result then None else Some link.new)) (serve_link number) accept }
+    ensures link { LinkServed number shared.old.waits shared.new.waits link.new }
     ensures leads { W.leads_to world.old world.new }
 {
-    read_link(number, environment, link, scratch, world);
-    write_link(number, environment, link, scratch, world);
+    read_link(number, shared, link, scratch, world);
+    write_link(number, shared, link, scratch, world);
     close_link(number, link, world)
 }

@@ -1,12 +1,12 @@
 // The core: all that the server keeps, and one turn.
-ghost use Rattle.std.specs.Prelude.{◌≡◌, ◌≤◌, ◌<◌, ◌↔◌, ℕ, List, length, map, slice_get, All, IfOk, IsNone, IsTrue, IsSomeAnd, MatchOption, is_some, replicate};
+ghost use Rattle.std.specs.Prelude.{◌≡◌, ◌≤◌, ◌<◌, ◌↔◌, ℕ, false, List, length, map, slice_get, All, IfOk, IsNone, IsTrue, IsSomeAnd, MatchOption, is_some, replicate};
 ghost use Rattle.std.specs.declared.option.Option.TheVariants.{None, Some};
 ghost use Rattle.af_limits.specs.Limits.{most_links};
 ghost use Rattle.af_sample.specs.Channels.{IsChannelCount};
 ghost use Rattle.af_sample.specs.Rates.{IsListedRate};
 ghost use Rattle.af_buffers.specs.PlayBuffer.{PlayWindow, Hears};
 ghost use Rattle.af_buffers.specs.RecordBuffer.{RecordWindow, Keeps};
-ghost use Rattle.af_model.specs.State.{State, LinkState, opening, outline, outline_with, slot_at};
+ghost use Rattle.af_model.specs.State.{State, LinkState, opening_state, outline, outline_with, slot_at};
 ghost use Rattle.af_model.specs.More.{any_wants, has_more};
 ghost use Rattle.af_model.specs.Turn.{accept, fits, wake_phase};
 ghost use Rattle.af_core.specs.Simulates.{Simulates};
@@ -33,7 +33,7 @@ use std::marker::Model;
 /// What the server keeps of its devices and links. It takes all its memory when it is made, and no turn takes any.
 #[derive(Drop)]
 pub struct Core {
-    environment: SharedState,
+    shared: SharedState,
     slots: Vec<Slot>,
     bounds: WantingSpan,
     scratch: Scratch,
@@ -45,17 +45,17 @@ impl Model for Core {
 
     ghost Value = { Kept };
 
-    ghost view = { λ a. kept_of a.environment a.slots.items };
+    ghost view = { λ a. kept_of a.shared a.slots.items };
 
-    ghost invariant = { λ a. IsBetweenPhases (kept_of a.environment a.slots.items)
-        × (AreBounds a.bounds a.environment.waits a.slots.items × AreExact a.bounds a.environment.waits a.slots.items) };
+    ghost invariant = { λ a. IsBetweenPhases (kept_of a.shared a.slots.items)
+        × (AreBounds a.bounds a.shared.waits a.slots.items × AreExact a.bounds a.shared.waits a.slots.items) };
 }
 
 // The devices at their starts.
 fn start_devices(alloc: Global, config: &[DeviceSpec]) -> Result<Vec<Device>, OutOfMemory>
     requires rates { All (λ d. IsListedRate d.rate) config.now }
     requires channels { All (λ d. IsChannelCount d.channels) config.now }
-    ensures stands { IfOk result (λ devices. StandForDevices devices.items (opening config.now).devices) }
+    ensures stands { IfOk result (λ devices. StandForDevices devices.items (opening_state config.now).devices) }
     ensures count { IfOk result (λ devices. length devices.items ≡ length config.now) }
 {
     let mut devices = Vec::with_capacity(alloc, config.len())?;
@@ -66,7 +66,7 @@ fn start_devices(alloc: Global, config: &[DeviceSpec]) -> Result<Vec<Device>, Ou
     Ok(devices)
 }
 
-// A number for each link that there may be, none of which is open.
+// A slot for each link number. None is open.
 fn make_slots(alloc: Global) -> Result<Vec<Slot>, OutOfMemory>
     ensures { IfOk result (λ slots. slots.items ≡ replicate most_links None) }
 {
@@ -102,32 +102,44 @@ fn fits_now(devices: &[Device], slots: &[Slot], wake: &Wake) -> bool
     }
 }
 
-// What a wake does.
+// What a wake does. The answer is whether any link may want something else after it, and not that of the wake alone.
 fn wake_up<W: World>(
     wake: Wake,
-    environment: &mut SharedState,
+    shared: &mut SharedState,
     slots: &mut [Slot],
     scratch: &mut Scratch,
     world: &mut W,
-)
-    requires fits { IsTrue (fits (outline_of (kept_of environment.old slots.old)) wake) }
-    requires kept { IsBetweenPhases (kept_of environment.old slots.old) }
-    ensures simulates { Simulates (W.log world.old) (W.log world.new) (StandsFor (kept_of environment.old slots.old))
-        (StandsFor (kept_of environment.new slots.new)) (wake_phase wake) accept }
-    ensures kept { IsBetweenPhases (kept_of environment.new slots.new) }
-    ensures only { WakesOnly wake environment.old.waits slots.old environment.new.waits slots.new }
+) -> bool
+    requires fits { IsTrue (fits (outline_of (kept_of shared.old slots.old)) wake) }
+    requires kept { IsBetweenPhases (kept_of shared.old slots.old) }
+    ensures simulates { Simulates (W.log world.old) (W.log world.new) (StandsFor (kept_of shared.old slots.old))
+        (StandsFor (kept_of shared.new slots.new)) (wake_phase wake) accept }
+    ensures kept { IsBetweenPhases (kept_of shared.new slots.new) }
+    ensures only { result ≡ false → WakesOnly wake shared.old.waits slots.old shared.new.waits slots.new }
     ensures leads { W.leads_to world.old world.new }
 {
     match wake {
-        Wake::Opened(number) => slots[number as usize].open(),
-        Wake::Readable(number) => slots[number as usize].set_ready(),
-        Wake::Writable(number) => slots[number as usize].set_writable(),
+        Wake::Opened(number) => {
+            slots[number as usize].open();
+            false
+        }
+        Wake::Readable(number) => {
+            slots[number as usize].set_ready();
+            false
+        }
+        Wake::Writable(number) => {
+            slots[number as usize].set_writable();
+            false
+        }
         Wake::Ticked(device, frames) => {
             let ticked = DeviceTick { device, frames };
-            tick(ticked, environment, slots, scratch, world)
+            tick(ticked, shared, slots, scratch, world)
         }
-        Wake::Line(number, change) => change_line(number, change, environment, slots),
-        Wake::Idle | Wake::Stop => {}
+        Wake::Line(number, change) => {
+            change_line(number, change, shared, slots);
+            true
+        }
+        Wake::Idle | Wake::Stop => false,
     }
 }
 
@@ -135,29 +147,29 @@ fn wake_up<W: World>(
 fn turn_parts<W: World>(
     wake: Wake,
     bounds: &mut WantingSpan,
-    environment: &mut SharedState,
+    shared: &mut SharedState,
     slots: &mut [Slot],
     scratch: &mut Scratch,
     world: &mut W,
 )
-    requires fits { IsTrue (fits (outline_of (kept_of environment.old slots.old)) wake) }
-    requires kept { IsBetweenPhases (kept_of environment.old slots.old) }
-    requires bounds { AreBounds bounds.old environment.old.waits slots.old }
+    requires fits { IsTrue (fits (outline_of (kept_of shared.old slots.old)) wake) }
+    requires kept { IsBetweenPhases (kept_of shared.old slots.old) }
+    requires bounds { AreBounds bounds.old shared.old.waits slots.old }
     ensures turns { Turns (W.log world.old) (W.log world.new) wake
-        (kept_of environment.old slots.old) (kept_of environment.new slots.new) }
-    ensures kept { IsBetweenPhases (kept_of environment.new slots.new) }
-    ensures bounds { AreBounds bounds.new environment.new.waits slots.new }
-    ensures exact { AreExact bounds.new environment.new.waits slots.new }
+        (kept_of shared.old slots.old) (kept_of shared.new slots.new) }
+    ensures kept { IsBetweenPhases (kept_of shared.new slots.new) }
+    ensures bounds { AreBounds bounds.new shared.new.waits slots.new }
+    ensures exact { AreExact bounds.new shared.new.waits slots.new }
     ensures leads { W.leads_to world.old world.new }
 {
     world.woke(wake);
-    wake_up(wake, environment, slots, scratch, world);
-    bounds.wake(wake, slots);
-    serve_slots(bounds, environment, slots, scratch, world);
-    if give_hooks(environment, slots, world) {
+    let concerns_all = wake_up(wake, shared, slots, scratch, world);
+    bounds.wake(wake, concerns_all, slots);
+    serve_slots(bounds, shared, slots, scratch, world);
+    if give_hooks(shared, slots, world) {
         bounds.include_all(slots);
     }
-    bounds.narrow(&environment.waits, slots);
+    bounds.narrow(&shared.waits, slots);
 }
 
 impl Core {
@@ -166,14 +178,14 @@ impl Core {
     pub fn new(alloc: Global, config: &Config) -> Result<Core, OutOfMemory>
         requires rates { All (λ d. IsListedRate d.rate) config.now.items }
         requires channels { All (λ d. IsChannelCount d.channels) config.now.items }
-        ensures { IfOk result (λ core. Stands core (opening config.now.items)) }
+        ensures { IfOk result (λ core. Stands core (opening_state config.now.items)) }
     {
         let devices = start_devices(alloc, config.as_slice())?;
         let waits = DeferredRequests::new(alloc)?;
         let slots = make_slots(alloc)?;
         let scratch = Scratch::new(alloc)?;
         Ok(Core {
-            environment: SharedState { devices, waits },
+            shared: SharedState { devices, waits },
             slots,
             bounds: NO_LINKS,
             scratch,
@@ -185,7 +197,7 @@ impl Core {
         ensures kept { result ≡ fits (outline_of self.now) wake.now }
         ensures shows { (s : State) → Stands self.now s → result ≡ fits (outline s) wake.now }
     {
-        fits_now(&self.environment.devices, &self.slots, wake)
+        fits_now(&self.shared.devices, &self.slots, wake)
     }
 
     /// Whether a link is open.
@@ -215,7 +227,7 @@ impl Core {
         ensures hears { (s : State) → Stands self.now s →
             IsSomeAnd (slice_get s.devices device) (λ d. Hears result.now d.channels d.accepted d.now) }
     {
-        self.environment.devices[usize::from(device)].next()
+        self.shared.devices[usize::from(device)].next()
     }
 
     /// The last frames of a device, which is there: what was captured up to its time.
@@ -225,7 +237,7 @@ impl Core {
         ensures keeps { (s : State) → Stands self.now s →
             IsSomeAnd (slice_get s.devices device) (λ d. Keeps result.now d.channels d.captured d.begin d.now) }
     {
-        self.environment.devices[usize::from(device)].last()
+        self.shared.devices[usize::from(device)].last()
     }
 
     /// The telephone line of a device, which is there. None where it has none.
@@ -236,7 +248,7 @@ impl Core {
         ensures shows { (s : State) → Stands self.now s → IsSomeAnd (slice_get s.devices device)
             (λ d. MatchOption result (d.line ≡ None) (λ line. d.line ≡ Some line.now)) }
     {
-        self.environment.devices[usize::from(device)].kept_line()
+        self.shared.devices[usize::from(device)].kept_line()
     }
 
     /// The session of a link: what came in and was not read yet, and what was not sent yet. None where the link is not open.
@@ -263,7 +275,7 @@ impl Core {
         ensures waits { (s : State) → Stands self.now s → StandForWaiting s.devices result.now s.waiting }
         ensures later { All (λ w. 0 < w.left) result.now }
     {
-        self.environment.waits.order()
+        self.shared.waits.order()
     }
 
     /// One turn: the wake with its effect, then each open link by rising number, and then the hooks of the devices' lines by
@@ -277,7 +289,7 @@ impl Core {
         turn_parts(
             wake,
             &mut self.bounds,
-            &mut self.environment,
+            &mut self.shared,
             &mut self.slots,
             &mut self.scratch,
             world,

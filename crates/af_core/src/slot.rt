@@ -1,13 +1,13 @@
-// A number for a link, which keeps its memory while no link is open there.
+// A slot: the number of a link. It keeps its memory while no link is open there.
 ghost use Rattle.std.specs.Prelude.{◌≡◌, ◌≤◌, ◌<◌, ◌+◌, ◌-◌, ℕ, max, true, false, find, length, map, option_map, slice_get, IfOk, IsSomeAnd, MatchOption, is_some};
 ghost use Rattle.std.specs.declared.option.Option.TheVariants.{None, Some};
 ghost use Rattle.af_limits.specs.Limits.{most_links};
 ghost use Rattle.af_wait.specs.Waits.{without_first};
-ghost use Rattle.af_model.specs.State.{EnvironmentState, LinkState, opened};
+ghost use Rattle.af_model.specs.State.{EnvironmentState, LinkState, new_link_state};
 ghost use Rattle.af_model.specs.Tick.{complete_at};
 ghost use Rattle.af_model.specs.Events.{tell_open};
 ghost use Rattle.af_model.specs.More.{open_wants};
-ghost use Rattle.af_model.specs.Turn.{accept, serve_slot_link, serve_all, is_open_at, ready, writable, in_open};
+ghost use Rattle.af_model.specs.Turn.{accept, serve_slot_link, serve_all, is_open_at, mark_readable, mark_writable, in_open};
 ghost use Rattle.af_state.specs.Deferrals.{has_waiting, kept_due, OnlyQueues, LeavesOthers};
 ghost use Rattle.af_state.specs.SharedState.{StandsForSharedState};
 ghost use Rattle.af_core.specs.Simulates.{Simulates};
@@ -84,7 +84,7 @@ impl Slot {
 
     /// A link is open here from now on.
     pub fn open(&mut self)
-        ensures { self.new ≡ Some opened }
+        ensures { self.new ≡ Some new_link_state }
     {
         self.link.reset();
         self.is_open = true;
@@ -92,7 +92,7 @@ impl Slot {
 
     /// The link that is open here may have something to read.
     pub fn set_ready(&mut self)
-        ensures { self.new ≡ in_open ready self.old }
+        ensures { self.new ≡ in_open mark_readable self.old }
     {
         if self.is_open {
             self.link.set_ready();
@@ -101,7 +101,7 @@ impl Slot {
 
     /// The link that is open here may take something again.
     pub fn set_writable(&mut self)
-        ensures { self.new ≡ in_open writable self.old }
+        ensures { self.new ≡ in_open mark_writable self.old }
     {
         if self.is_open {
             self.link.set_writable();
@@ -113,34 +113,34 @@ impl Slot {
         &mut self,
         number: u8,
         device: u8,
-        environment: &mut SharedState,
+        shared: &mut SharedState,
         scratch: &mut Scratch,
     )
         requires number { number < most_links }
-        requires due { option_map (λ k. k.wait.link) (find (kept_due device) environment.old.waits) ≡ Some number }
-        requires settled { IsSettledSlot (has_waiting environment.old.waits number) self.old }
-        requires stands { (a : EnvironmentState) × StandsForSharedState environment.old a }
-        ensures step { OfFirstDue device environment.old (λ w a. StandsForSlot environment.new self.new (complete_at w a self.old)) }
-        ensures settled { IsSettledSlot (has_waiting environment.new.waits number) self.new }
-        ensures only_queues { OnlyQueues number (without_first (kept_due device) environment.old.waits) environment.new.waits }
+        requires due { option_map (λ k. k.wait.link) (find (kept_due device) shared.old.waits) ≡ Some number }
+        requires settled { IsSettledSlot (has_waiting shared.old.waits number) self.old }
+        requires stands { (a : EnvironmentState) × StandsForSharedState shared.old a }
+        ensures step { OfFirstDue device shared.old (λ w a. StandsForSlot shared.new self.new (complete_at w a self.old)) }
+        ensures settled { IsSettledSlot (has_waiting shared.new.waits number) self.new }
+        ensures only_queues { OnlyQueues number (without_first (kept_due device) shared.old.waits) shared.new.waits }
     {
         if self.is_open {
-            complete_link(number, device, environment, &mut self.link, scratch);
+            complete_link(number, device, shared, &mut self.link, scratch);
         } else {
-            environment.waits.take_due(device);
+            shared.waits.take_due(device);
         }
     }
 
     /// The link that is open here is told an event, if it selects it.
-    pub fn tell(&mut self, number: u8, event: Event, environment: &mut SharedState)
-        requires { IsSettledSlot (has_waiting environment.old.waits number) self.old }
-        ensures step { (a : EnvironmentState) → StandsForSharedState environment.old a →
-            StandsForSlot environment.new self.new (tell_open number event a self.old) }
-        ensures settled { IsSettledSlot (has_waiting environment.new.waits number) self.new }
-        ensures only_drops { OnlyDrops number environment.old environment.new }
+    pub fn tell(&mut self, number: u8, event: Event, shared: &mut SharedState)
+        requires { IsSettledSlot (has_waiting shared.old.waits number) self.old }
+        ensures step { (a : EnvironmentState) → StandsForSharedState shared.old a →
+            StandsForSlot shared.new self.new (tell_open number event a self.old) }
+        ensures settled { IsSettledSlot (has_waiting shared.new.waits number) self.new }
+        ensures only_drops { OnlyDrops number shared.old shared.new }
     {
         if self.is_open {
-            tell_link(number, event, environment, &mut self.link);
+            tell_link(number, event, shared, &mut self.link);
         }
     }
 
@@ -148,20 +148,20 @@ impl Slot {
     pub fn serve<W: World>(
         &mut self,
         number: u8,
-        environment: &mut SharedState,
+        shared: &mut SharedState,
         scratch: &mut Scratch,
         world: &mut W,
     )
         requires number { number < most_links }
-        requires settled { IsSettledSlot (has_waiting environment.old.waits number) self.old }
-        ensures simulates { Simulates (W.log world.old) (W.log world.new) (StandsForSlot environment.old self.old)
-            (StandsForSlot environment.new self.new) (serve_slot_link number) accept }
-        ensures settled { IsSettledSlot (has_waiting environment.new.waits number) self.new }
-        ensures leaves_others { LeavesOthers number environment.old.waits environment.new.waits }
+        requires settled { IsSettledSlot (has_waiting shared.old.waits number) self.old }
+        ensures simulates { Simulates (W.log world.old) (W.log world.new) (StandsForSlot shared.old self.old)
+            (StandsForSlot shared.new self.new) (serve_slot_link number) accept }
+        ensures settled { IsSettledSlot (has_waiting shared.new.waits number) self.new }
+        ensures leaves_others { LeavesOthers number shared.old.waits shared.new.waits }
         ensures leads { W.leads_to world.old world.new }
     {
         if self.is_open {
-            let is_closed = serve_link(number, environment, &mut self.link, scratch, world);
+            let is_closed = serve_link(number, shared, &mut self.link, scratch, world);
             self.is_open = !is_closed;
         }
     }
@@ -182,8 +182,8 @@ pub fn open_end(slots: &[Slot], below: usize) -> usize
     end
 }
 
-/// The first link from a number on, and below another, that is to be read, written or closed, or else the second number or one above
-/// it.
+/// The first link from a number on, and below another, that is to be read, written or closed, or else the second number or one
+/// above it.
 pub fn first_wanting(waits: &DeferredRequests, slots: &[Slot], from: usize, below: usize) -> usize
     requires count { length slots.now ≤ most_links }
     requires bound { below ≤ length slots.now }
@@ -218,22 +218,22 @@ pub fn last_wanting(waits: &DeferredRequests, slots: &[Slot], from: usize, below
 /// The part of a turn of all links, by rising number: of those between which all are that want any.
 pub fn serve_slots<W: World>(
     bounds: &WantingSpan,
-    environment: &mut SharedState,
+    shared: &mut SharedState,
     slots: &mut [Slot],
     scratch: &mut Scratch,
     world: &mut W,
 )
-    requires kept { IsBetweenPhases (kept_of environment.old slots.old) }
-    requires bounds { AreBounds bounds.now environment.old.waits slots.old }
-    ensures simulates { Simulates (W.log world.old) (W.log world.new) (StandsFor (kept_of environment.old slots.old))
-        (StandsFor (kept_of environment.new slots.new)) serve_all accept }
-    ensures kept { IsBetweenPhases (kept_of environment.new slots.new) }
+    requires kept { IsBetweenPhases (kept_of shared.old slots.old) }
+    requires bounds { AreBounds bounds.now shared.old.waits slots.old }
+    ensures simulates { Simulates (W.log world.old) (W.log world.new) (StandsFor (kept_of shared.old slots.old))
+        (StandsFor (kept_of shared.new slots.new)) serve_all accept }
+    ensures kept { IsBetweenPhases (kept_of shared.new slots.new) }
     ensures none_open { NoneOpenFrom bounds.now.open_below slots.new }
-    ensures wants { WantsWithin bounds.now.wants_from bounds.now.wants_below environment.new.waits slots.new }
+    ensures wants { WantsWithin bounds.now.wants_from bounds.now.wants_below shared.new.waits slots.new }
     ensures leads { W.leads_to world.old world.new }
 {
     for number in bounds.wants_from..bounds.wants_below {
         let slot = &mut slots[number];
-        slot.serve(number as u8, environment, scratch, world);
+        slot.serve(number as u8, shared, scratch, world);
     }
 }

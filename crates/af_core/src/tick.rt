@@ -10,7 +10,7 @@ ghost use Rattle.af_io.specs.Observed.{Appended};
 ghost use Rattle.af_model.specs.Turn.{accept, wake_phase};
 ghost use Rattle.af_core.specs.Simulates.{Simulates};
 ghost use Rattle.af_core.specs.Live.{IsTick, Passes, Ticks, TicksLive};
-ghost use Rattle.af_core.specs.Stands.{IsBetweenPhases, StandsFor, kept_of};
+ghost use Rattle.af_core.specs.Stands.{IsBetweenPhases, StandsFor, WantTheSame, kept_of};
 
 use crate::complete::complete_due;
 use crate::slot::Slot;
@@ -40,7 +40,7 @@ fn capture<W: World>(tick: DeviceTick, bytes: &mut [u8], world: &mut W) -> bool
     }
 }
 
-// What comes to a device: the samples of the bytes that came, or silence where none did.
+// The samples of a capture, or silence if the capture failed.
 fn captured(came: bool, ty: SampleType, bytes: &[u8], samples: &mut [i16])
     requires { length bytes.now ≡ length samples.old * width_of ty }
     ensures { samples.new ≡ (if came then samples_of ty bytes.now else replicate (length samples.old) (pos 0)) }
@@ -64,7 +64,7 @@ fn emit<W: World>(number: u8, sound: &[u8], world: &mut W) -> bool
     }
 }
 
-// The sample periods of a device go by. It captured what came, and its sound comes to stand in the bytes.
+// Sample periods of the device go by. It captures what came, and `bytes` receives its sound.
 fn pass(came: bool, frames: u32, device: &mut Device, bytes: &mut [u8], work: &mut Work)
     requires bound { frames ≤ longest_tick }
     requires size { length bytes.old ≡ frames * frame_bytes device.old.ty device.old.next.channels }
@@ -80,7 +80,7 @@ fn pass(came: bool, frames: u32, device: &mut Device, bytes: &mut [u8], work: &m
     convert_out(ty, sound, bytes);
 }
 
-// A live device makes one capture and, if that was done, one emit of its sound. It is dead behind one that failed.
+// A live device makes one capture and, if that was done, one emit of its sound. It is dead after a call that failed.
 fn tick_live<W: World>(
     tick: DeviceTick,
     device: &mut Device,
@@ -106,7 +106,7 @@ fn tick_live<W: World>(
     }
 }
 
-// The sample periods of a device go by, with room for what it captures.
+// Sample periods of a device go by, with room for what it captures.
 fn tick_device<W: World>(
     tick: DeviceTick,
     device: &mut Device,
@@ -128,26 +128,27 @@ fn tick_device<W: World>(
     }
 }
 
-/// The sample periods of a device go by, and the requests that are due then complete. It is kept out of the code of a turn, most of
-/// which tick no device.
+/// The sample periods of a device go by, and the requests that are due then complete. The answer is whether one did: if not, no
+/// link wants anything else than before. It is kept out of the code of a turn, most of which tick no device.
 #[inline(never)]
 pub fn tick<W: World>(
     tick: DeviceTick,
-    environment: &mut SharedState,
+    shared: &mut SharedState,
     slots: &mut [Slot],
     scratch: &mut Scratch,
     world: &mut W,
-)
-    requires there { tick.device < length environment.old.devices }
+) -> bool
+    requires there { tick.device < length shared.old.devices }
     requires tick { IsTick tick }
-    requires kept { IsBetweenPhases (kept_of environment.old slots.old) }
-    ensures simulates { Simulates (W.log world.old) (W.log world.new) (StandsFor (kept_of environment.old slots.old))
-        (StandsFor (kept_of environment.new slots.new)) (wake_phase (Ticked tick.device tick.frames)) accept }
-    ensures kept { IsBetweenPhases (kept_of environment.new slots.new) }
+    requires kept { IsBetweenPhases (kept_of shared.old slots.old) }
+    ensures simulates { Simulates (W.log world.old) (W.log world.new) (StandsFor (kept_of shared.old slots.old))
+        (StandsFor (kept_of shared.new slots.new)) (wake_phase (Ticked tick.device tick.frames)) accept }
+    ensures kept { IsBetweenPhases (kept_of shared.new slots.new) }
+    ensures same { result ≡ false → WantTheSame shared.old.waits slots.old shared.new.waits slots.new }
     ensures leads { W.leads_to world.old world.new }
 {
-    let device = &mut environment.devices[tick.device as usize];
+    let device = &mut shared.devices[tick.device as usize];
     tick_device(tick, device, &mut scratch.input, &mut scratch.work, world);
-    environment.waits.pass(tick.device, tick.frames);
-    complete_due(tick.device, environment, slots, scratch);
+    shared.waits.pass(tick.device, tick.frames);
+    complete_due(tick.device, shared, slots, scratch)
 }

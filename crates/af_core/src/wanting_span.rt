@@ -1,5 +1,5 @@
 // What is known of the numbers of links, so that a turn does not look at each of them.
-ghost use Rattle.std.specs.Prelude.{◌≡◌, ◌≤◌, length, List};
+ghost use Rattle.std.specs.Prelude.{◌≡◌, ◌≤◌, false, true, length, List};
 ghost use Rattle.af_limits.specs.Limits.{most_links};
 ghost use Rattle.af_state.specs.Deferrals.{KeptDeferral};
 ghost use Rattle.af_core.specs.Stands.{AreBounds, AreExact, NoneOpenFrom, bounds_after, bounds_of_all, bounds_with};
@@ -48,11 +48,9 @@ impl WantingSpan {
         self.wants_below = self.open_below;
     }
 
-    /// What is known after what a wake does.
-    pub fn wake(&mut self, wake: Wake, slots: &[Slot])
-        requires most { (bounds_after wake self.old).open_below ≤ length slots.now }
-        requires none_open { NoneOpenFrom (bounds_after wake self.old).open_below slots.now }
-        ensures { (ks : List KeptDeferral) → AreBounds (bounds_after wake self.old) ks slots.now → AreBounds self.new ks slots.now }
+    // The link that a wake is about may want something.
+    fn include_woken(&mut self, wake: Wake)
+        ensures { self.new ≡ bounds_after wake self.old }
     {
         match wake {
             Wake::Opened(number) => {
@@ -60,8 +58,21 @@ impl WantingSpan {
                 self.include(number);
             }
             Wake::Readable(number) | Wake::Writable(number) => self.include(number),
-            Wake::Ticked(..) | Wake::Line(..) => self.include_all(slots),
-            Wake::Idle | Wake::Stop => {}
+            Wake::Ticked(..) | Wake::Line(..) | Wake::Idle | Wake::Stop => {}
+        }
+    }
+
+    /// What is known after what a wake does, which concerns all links or only the one that it is about.
+    pub fn wake(&mut self, wake: Wake, concerns_all: bool, slots: &[Slot])
+        requires most { (bounds_after wake self.old).open_below ≤ length slots.now }
+        requires none_open { NoneOpenFrom (bounds_after wake self.old).open_below slots.now }
+        ensures one { concerns_all ≡ false → self.new ≡ bounds_after wake self.old }
+        ensures all { concerns_all ≡ true → (ks : List KeptDeferral) → (bounds_after wake self.old).open_below ≤ most_links →
+            AreBounds self.new ks slots.now }
+    {
+        self.include_woken(wake);
+        if concerns_all {
+            self.include_all(slots);
         }
     }
 

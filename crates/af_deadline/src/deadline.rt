@@ -1,4 +1,4 @@
-// A moment until which another program is waited for, a little at a time.
+// A moment until which another program is waited for, in short steps.
 use std::time::{Clock, Duration};
 use std::{io, thread};
 

@@ -1,4 +1,4 @@
-// A piece that is handed to a writer which does not wait.
+// A piece that is handed to a writer which does not block.
 ghost use Rattle.std.specs.Prelude.{◌≡◌, ◌≤◌, length, take, MatchResult};
 ghost use Rattle.std.specs.declared.option.Option.TheVariants.{None, Some};
 ghost use Rattle.std.specs.Io.KnownBytes.{Appends, Keeps};

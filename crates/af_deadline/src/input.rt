@@ -13,8 +13,8 @@ use std::time::{Clock, Duration};
 /// How many milliseconds a piece may take.
 const PIECE_MILLIS: u64 = 20;
 
-/// The input of a child, over a writer that does not wait. A write waits at most 20 milliseconds until all of it is taken. One that was
-/// not taken whole is the last: each further one fails, for the same reason.
+/// The input of a child, over a writer that does not wait. A write waits at most 20 milliseconds until all of it is taken. One
+/// that was not taken whole is the last: each further one fails, for the same reason.
 #[derive(Drop)]
 pub struct DeadlineInput<'a, W: Write + Drop, C> {
     writer: W,

@@ -1,4 +1,5 @@
-//! Child programs that hold nobody up: a write to one fails where it is not taken in time, and one that does not end in time is killed.
+//! Child programs that hold nobody up: a write to one fails where it is not taken in time, and one that does not end in time is
+//! killed.
 #![tactic(auto)]
 
 mod deadline;

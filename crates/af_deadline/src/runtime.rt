@@ -10,9 +10,9 @@ use std::os::unix::net::UnixStream;
 use std::process::{Child, Command, OpenProcess, Processes, Stdio};
 use std::time::Clock;
 
-/// A runtime over another, whose child programs hold nobody up. Where a child is to be given bytes, its standard input is a socket. A
-/// write waits at most 20 milliseconds until it is taken whole, and the first that is not is the last. A child is waited for at most 100
-/// milliseconds, and killed then.
+/// A runtime over another, whose child programs hold nobody up. Where a child is to be given bytes, its standard input is a
+/// socket. A write waits at most 20 milliseconds until it is taken whole, and the first that is not is the last. A child is
+/// waited for at most 100 milliseconds, and killed then.
 #[derive(Drop)]
 pub struct DeadlineRuntime<'a, R, C> {
     programs: R,

@@ -1,4 +1,4 @@
-// What is told of the end of an answering machine.
+// Details of the end of an answering machine.
 use crate::children::WatchedSpawner;
 use crate::dial::WatchedDial;
 use crate::links::{

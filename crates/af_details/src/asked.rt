@@ -1,4 +1,4 @@
-// What a server was asked, in words.
+// A request to a server, in words.
 use af_request::Request;
 use af_sample::SampleType;
 use af_time::DevTime;

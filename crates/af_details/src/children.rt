@@ -1,4 +1,4 @@
-// The children of an answering machine, which are counted.
+// The children of an answering machine, counted.
 ghost use Rattle.std.specs.Prelude.{◌≡◌, ◌≤◌, ◌^◌, ◌-◌, ℕ};
 ghost use Rattle.std.specs.declared.option.Option.TheVariants.{None};
 ghost use Rattle.arrayvec.specs.ArrayVec.{array_vec_len};
@@ -34,7 +34,7 @@ impl Calls {
         }
     }
 
-    // A greeting begins, or behind it a message.
+    // A greeting begins, or the message after it.
     fn note_start(&mut self, started: Started) {
         if !self.greeted {
             self.answered = self.answered.saturating_add(1);

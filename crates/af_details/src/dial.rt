@@ -1,4 +1,4 @@
-// A dial over TCP, and its links, which are watched.
+// A dial over TCP, and its links. What goes over them is watched.
 ghost use Rattle.std.specs.Prelude.{◌≡◌, ◌≤◌, ◌<◌, length};
 ghost use Rattle.std.specs.declared.option.Option.TheVariants.{None};
 ghost use Rattle.af_limits.specs.Limits.{longest_address};

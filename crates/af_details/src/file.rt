@@ -1,4 +1,4 @@
-// What a file is that is no sound file which can be played, as far as its head shows.
+// What a file is that cannot be played, as far as its header shows.
 use af_sound::{SoundFault, SoundForm};
 use std::fmt;
 use std::fmt::{Formatter, Write};
@@ -46,8 +46,8 @@ impl<'a> fmt::Display for Unplayable<'a> {
 const UNKNOWN: &str =
     "no sound file that is known here; samples without a head are played with --file=raw";
 
-// The kind of a file of another form than the one that was expected. Four bytes show that a file is no .au file, and twelve that
-// it is no WAVE file: more was not read.
+// The kind of a file that has another form than expected. An .au file is ruled out by four bytes, and a WAVE file by twelve: more
+// was not read.
 fn kind_of<'a>(form: SoundForm, first: &[u8]) -> &'a str {
     match first {
         [b'R', b'I', b'F', b'F', ..] if form == SoundForm::Au =>
@@ -68,7 +68,7 @@ fn kind_of<'a>(form: SoundForm, first: &[u8]) -> &'a str {
     }
 }
 
-// A coding of .au files that is not read, by its number.
+// An .au coding that is not read, by its number.
 fn au_coding<W: Write>(tag: u32, f: &mut Formatter<W>) -> fmt::Result {
     match tag {
         2 => f.write_str(".au with 8 bits"),
@@ -79,7 +79,7 @@ fn au_coding<W: Write>(tag: u32, f: &mut Formatter<W>) -> fmt::Result {
     }
 }
 
-// A coding of WAVE files that is not read, by its tag and its bits.
+// A WAVE coding that is not read, by its tag and its bits.
 fn wave_coding<W: Write>(tag: u32, bits: u32, f: &mut Formatter<W>) -> fmt::Result {
     match tag {
         1 => write!(f, "WAVE with {bits} bits"),

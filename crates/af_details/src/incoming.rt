@@ -2,7 +2,7 @@
 use af_wire::Order;
 use arrayvec::ArrayVec;
 
-// The longest message whose body is looked at whole: the reply to a setup, of eight devices.
+// The longest message whose body is kept whole: the reply to a setup, of eight devices.
 const LONGEST_KEPT: usize = 112;
 
 /// A message that comes: its first bytes, how many have come of it, and how many it has, once its header is there.

@@ -1,5 +1,5 @@
-//! What a person is told of a tool that did not do what was wanted, or lost sound. The outside is watched as the tools use it, and
-//! the lines are made of what was seen.
+//! What a person is told of a tool that did not do what was wanted, or lost sound. The outside is watched as the tools use it,
+//! and the lines are made of what was seen.
 #![tactic(auto)]
 
 mod answer;

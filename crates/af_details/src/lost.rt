@@ -22,7 +22,7 @@ impl Lost {
         }
     }
 
-    /// A block of which so many frames were lost.
+    /// A block that lost so many frames.
     pub fn note(&mut self, frames: u32)
         ensures none { frames ≡ 0 → self.new ≡ self.old }
     {
@@ -33,7 +33,7 @@ impl Lost {
     }
 }
 
-/// How many of the frames that begin at a time lie before another time.
+/// How many of the frames that begin at a time are before another time.
 pub fn frames_before(start: DevTime, frames: u32, time: DevTime) -> u32
     ensures { result ≤ frames }
 {

@@ -1,4 +1,4 @@
-// The tools and their options, as a person is told of them.
+// The tools and their options, as they are shown to a person.
 use crate::values::Values;
 use std::fmt;
 use std::fmt::{Formatter, Write};

@@ -1,4 +1,4 @@
-// Blocks that are played one behind the other, and where their times jump.
+// Blocks that are played one after another, and where their times jump.
 use af_time::DevTime;
 
 /// How many blocks were played, how often the time of one did not follow on the one before it, and the number of the block at

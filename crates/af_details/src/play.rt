@@ -1,4 +1,4 @@
-// What is told of a play: of a file that does not fit, and of frames that came too late.
+// Details of a play: a file that does not fit, and frames that came too late.
 use crate::asked::channels_text;
 use crate::file::{Unplayable, ending};
 use crate::shown::Counted;
@@ -6,7 +6,7 @@ use crate::source::WatchedSource;
 use crate::talk::Talk;
 use af_cli::PlayJob;
 use af_sound::SoundForm;
-use af_tool::ToolEnd;
+use af_toolkit::ToolEnd;
 use std::io::Read;
 
 /// Tells what is wrong with a sound file, and what makes one that can be played.
@@ -62,7 +62,7 @@ fn tell_channels(rt: &impl Eprint, job: &PlayJob, talk: &Talk, from: u8, to: u8)
     let _ = eprintln!(rt; "af: the file has {from}, and device {device} of {address} has {to}");
 }
 
-// Tells what makes a file that the device plays.
+// Tells which command makes a file that the device plays.
 fn tell_remedy(rt: &impl Eprint, job: &PlayJob, form: SoundForm, talk: &Talk) {
     if let Some(info) = talk.devices.get(usize::from(job.device)) {
         let device = job.device;

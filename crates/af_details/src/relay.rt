@@ -1,11 +1,11 @@
-// What is told of a relay.
+// Details of a relay.
 use crate::links::tell_no_device;
 use crate::shown::Counted;
 use crate::talk::Talk;
 use af_cli::PassJob;
-use af_tool::ToolEnd;
+use af_toolkit::ToolEnd;
 
-/// Tells which of the devices of a relay is not there, or how the two differ.
+/// Tells which of the devices of a relay does not exist, or how the two differ.
 pub fn tell_pair(rt: &impl Eprint, job: &PassJob, end: ToolEnd, from: &Talk, to: &Talk) {
     match end {
         ToolEnd::NoDevice { devices: _ } => tell_missing(rt, job, from, to),
@@ -43,13 +43,13 @@ pub fn tell_pair(rt: &impl Eprint, job: &PassJob, end: ToolEnd, from: &Talk, to:
     }
 }
 
-// Tells what one of the devices has.
+// Tells the rate and the channels of one of the devices.
 fn tell_end(rt: &impl Eprint, talk: &Talk, device: u8, count: Counted<'_>, per: &str) {
     let address = talk.address.as_str();
     let _ = eprintln!(rt; "af: device {device} of {address} has {count}{per}");
 }
 
-// Tells of the first of the devices that is not there.
+// Tells which of the devices does not exist, the first one first.
 fn tell_missing(rt: &impl Eprint, job: &PassJob, from: &Talk, to: &Talk) {
     if usize::from(job.from_device) < from.devices.len() {
         tell_no_device(rt, to, job.to_device);

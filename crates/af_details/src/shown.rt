@@ -1,4 +1,4 @@
-// Texts as a person is shown them.
+// Texts as they are shown to a person.
 use std::fmt;
 use std::fmt::{Formatter, Write};
 

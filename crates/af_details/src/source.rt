@@ -1,4 +1,4 @@
-// A source over a reader, of which the first bytes are kept.
+// A source over a reader. Its first bytes are kept.
 ghost use Rattle.std.specs.Prelude.{◌≡◌, ◌<◌, length};
 ghost use Rattle.std.specs.declared.option.Option.TheVariants.{None};
 ghost use Rattle.af_io.specs.Observed.{CountsOneFault};

@@ -1,4 +1,4 @@
-// What a client and a server say to each other on a link, as far as a person wants to know it afterwards.
+// What a client and a server sent each other on a link, as far as a person wants to know it afterwards.
 use crate::asked::Asked;
 use crate::incoming::Incoming;
 use crate::lost::{Lost, frames_before};
@@ -41,7 +41,7 @@ pub struct Talk {
     pub gone: Lost,
     /// The blocks that were played.
     pub passage: Passage,
-    // none before the setup is sent
+    // None before the setup is sent.
     order: Option<Order>,
     context: Option<Context>,
     incoming: Incoming,
@@ -116,7 +116,7 @@ impl Talk {
         self.asked = Some(asked);
     }
 
-    // Notes what a message says that is whole. Of one with a long body only the first bytes are there.
+    // Notes what a complete message says. If its body is long, only its first bytes are kept.
     fn note_message(&mut self, order: Order) {
         let [1, detail, _, _, _, _, _, _, body @ ..] = self.incoming.bytes() else {
             return;
@@ -134,7 +134,7 @@ impl Talk {
         }
     }
 
-    // The reply to what was asked last has this time.
+    // The reply to the last request has this time.
     fn note_time(&mut self, now: DevTime) {
         match self.asked {
             Some(Asked::Play { frames, time }) => {
@@ -149,7 +149,7 @@ impl Talk {
         }
     }
 
-    // How many frames of the past the device of the context keeps.
+    // How many frames of the past the context's device keeps.
     fn horizon(&self) -> u32 {
         let Some(context) = self.context else {
             return 0;

@@ -1,4 +1,4 @@
-// What is told of the end of a tool.
+// Details of the end of a tool.
 use crate::dial::WatchedDial;
 use crate::links::{
     tell_bad_reply, tell_dial, tell_link, tell_no_device, tell_refusal, tell_stream,
@@ -11,7 +11,7 @@ use crate::talk::Talk;
 use crate::usage::tell_usage;
 use af_cli::{Call, RecordJob, Task, call_of};
 use af_io::{Args, Reason};
-use af_tool::ToolEnd;
+use af_toolkit::ToolEnd;
 use std::alloc::Global;
 use std::io::Read;
 use std::net::Net;
@@ -46,7 +46,7 @@ pub fn tell_tool<R: Net + Drop, S: Read + Drop>(
     }
 }
 
-// Tells what is to be told of an end whatever the tool is.
+// Tells what every tool tells of an end.
 fn tell_end<R: Net + Drop>(
     rt: &impl Eprint,
     end: ToolEnd,
@@ -71,7 +71,7 @@ fn tell_end<R: Net + Drop>(
     }
 }
 
-// Tells what is to be told of an end of a tool that has one server.
+// Tells the end of a tool that has one server.
 fn tell_task<S: Read + Drop>(
     rt: &impl Eprint,
     task: &Task,
@@ -92,7 +92,7 @@ fn tell_task<S: Read + Drop>(
     }
 }
 
-// The device that a task is about, if it is about one.
+// The device that a task names, if it names one.
 fn device_of(task: &Task) -> Option<u8> {
     match task {
         Task::Play(job) => Some(job.device),
@@ -102,7 +102,7 @@ fn device_of(task: &Task) -> Option<u8> {
     }
 }
 
-// Tells what a recording lost.
+// Tells the frames that a recording lost.
 fn tell_recorded(rt: &impl Eprint, job: &RecordJob, talk: &Talk) {
     if talk.gone.frames == 0 {
         return;

@@ -1,4 +1,4 @@
-// Which word is wrong, and what it may be.
+// Which argument is wrong, and what it may be.
 use crate::help::{tell_manual, tell_options, tell_tools, tell_version};
 use crate::options::{Command, OptionRow};
 use crate::shown::Shown;
@@ -46,7 +46,7 @@ fn asks_help(words: &Args) -> bool {
     has_word(words, "--help") || has_word(words, "-h")
 }
 
-// Tells which word of a tool is wrong, and how its words are to be.
+// Tells which argument of a tool is wrong, and the right usage.
 fn tell_mistake(rt: &impl Eprint, alloc: Global, command: Command, words: &Args) {
     if let Ok(table) = command_words(alloc, command) {
         match matches_for(alloc, command.name(), table.as_slice(), words.as_slice()) {
@@ -57,7 +57,7 @@ fn tell_mistake(rt: &impl Eprint, alloc: Global, command: Command, words: &Args)
     let _ = eprintln!(rt; "af: usage: {command}");
 }
 
-// The words of a tool's command.
+// The arguments of a tool's command.
 fn command_words<'a>(alloc: Global, command: Command) -> Result<Vec<Argument<'a>>, AllocError> {
     let mut table = Vec::new(alloc);
     for place in command.places() {
@@ -79,7 +79,7 @@ fn kind_of(row: &OptionRow<'_>) -> ArgumentKind {
     }
 }
 
-// Tells what is wrong with the words before their values are looked at.
+// Tells what is wrong with the arguments before their values are looked at.
 fn tell_error(rt: &impl Eprint, alloc: Global, command: Command, error: &Error) {
     let Ok(text) = error.to_string(alloc) else {
         return;
@@ -107,7 +107,7 @@ fn has_negative(line: &str) -> bool {
     }
 }
 
-// Tells which words are missing.
+// Tells which arguments are missing.
 fn tell_missing(rt: &impl Eprint, command: Command, text: &str) {
     for word in command.places() {
         if names(text, "<", word) {
@@ -137,7 +137,7 @@ fn names(text: &str, mark: &str, name: &str) -> bool {
     })
 }
 
-// Tells which values are outside of what they may be.
+// Tells which values are out of range.
 fn tell_values(rt: &impl Eprint, command: Command, matches: &ArgMatches<'_>) {
     for place in command.places() {
         if let Some(address) = text_of(matches, place) {
@@ -161,7 +161,7 @@ fn tell_values(rt: &impl Eprint, command: Command, matches: &ArgMatches<'_>) {
     }
 }
 
-/// The device that the words of an answering machine name.
+/// The device that the arguments of an answering machine name.
 pub fn device_in(alloc: Global, words: &Args) -> u8 {
     let Ok(table) = command_words(alloc, Command::Answer) else {
         return 0;

@@ -1,4 +1,4 @@
-// What the value of an option may be.
+// The values that an option takes.
 use af_cli::number_in;
 use std::fmt;
 use std::fmt::{Formatter, Write};

@@ -12,7 +12,7 @@ use Rattle.af_device_tests.proofs.CardRuns.{card, microphone, begins, one, two, 
 
 -- Comes back
 
--- A card took a byte of a frame when it ended. Silence is captured meanwhile, and another program begins with whole frames.
+-- A card took one byte of a frame when it ended. Silence is captured meanwhile, and another program begins with whole frames.
 abbrev comes_back : List ℕ → List ℕ → List ToldAct
 comes_back idle taken = begins 0
     ∷ gave (1 ∷ 2 ∷ 3 ∷ []) ∷ captured (1 ∷ 2 ∷ []) ∷ emitted (11 ∷ 12 ∷ []) ∷ took (11 ∷ []) ∷ ended 20000000
@@ -71,7 +71,8 @@ comes_back_missed fed =
 
 -- Waits
 
--- The second start fails, so that the wait is two seconds. The third program lives for ten seconds, so that the wait is one again.
+-- The second start fails, so that the wait is two seconds. The third program lives for ten seconds, so that the wait is one
+-- again.
 abbrev waits : ℕ → ℕ → List ToldAct
 waits third lived = begins 0 ∷ ended 10000000
     ∷ launched 1010000000 [] launch.Failed
@@ -132,7 +133,7 @@ in_step_between = record {
   starts = record { most = omega arith; spaced = (tt, tt) };
 }
 
--- all of a sound may be lost of which a card took nothing
+-- if a card took nothing of a sound, all of it may be lost
 in_step_lost : IsFed card 0 (take 4 (in_step (3 ∷ 4 ∷ 5 ∷ 6 ∷ [])))
 in_step_lost = record {
   past = record { past = All-nil (PastRunFits card); idle = All-nil (IsSilent 0) };

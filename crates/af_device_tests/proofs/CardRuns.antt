@@ -1,5 +1,6 @@
--- Small runs of a device over a program, computed. The acts of each keep to the promise of a device (`IsFed`). With one act changed,
--- left out or added they do not. They are the runs of `src/tests/card.rt`, with a to h as 1 to 8, and A to H as 11 to 18.
+-- Small runs of a device over a program, computed. The acts of each keep to the promise of a device (`IsFed`). With one act
+-- changed, left out or added they do not. They are the runs of `src/tests/card.rt`, with a to h as 1 to 8, and A to H as 11 to
+-- 18.
 use Rattle.std.proofs.Common.{◌≡◌, ℕ, zero, suc, ◌*◌, ◌⊎◌, inl, inr, List, [], ◌∷◌, ◌++◌, length, refl, ap, ◌∙◌, arith, get_or, take}
 use Rattle.std.proofs.lemmas.List.Elements.{All-nil, All-cons, All-head}
 use Rattle.std.specs.List.{All}
@@ -27,11 +28,11 @@ microphone = shape_of kind.Microphone
 abbrev pub speaker : Shape
 speaker = shape_of kind.Speaker
 
--- a start by the one word cat, which succeeds
+-- a start by the command line cat, which succeeds
 abbrev pub begins : ℕ → ToldAct
 begins at = launched at ((99 ∷ 97 ∷ 116 ∷ []) ∷ []) launch.Runs
 
--- a fact on each element of a list of one, or of two
+-- a fact for each element of a list of one, or of two
 pub one : {X : Type 0} (P : X → Type 0) (x : X) → P x → All P (x ∷ [])
 one P x p = All-cons P x [] p (All-nil P)
 
@@ -96,7 +97,7 @@ fast_silent fed = let first = ap (λ bytes. get_or bytes 0 0) fed.now.3.captured
 
 -- No room
 
--- It has room for three bytes of six: the frame that was begun is finished, and the third is lost.
+-- It has room for three of six bytes: the frame that was begun is finished, and the third is lost.
 abbrev pub no_room : List ToldAct → List ToldAct
 no_room rest = begins 0
     ∷ gave (1 ∷ 2 ∷ 3 ∷ 4 ∷ 5 ∷ 6 ∷ []) ∷ captured (1 ∷ 2 ∷ 3 ∷ 4 ∷ 5 ∷ 6 ∷ []) ∷ emitted (11 ∷ 12 ∷ 13 ∷ 14 ∷ 15 ∷ 16 ∷ [])
@@ -118,7 +119,7 @@ no_room_fed = record {
   starts = record { most = omega arith; spaced = (tt, tt) };
 }
 
--- whole frames of the front of a sound are none, or begin with its first frame
+-- a front of whole frames of a sound is empty, or begins with its first frame
 front : (frames first second : ℕ) (rest : List ℕ) →
     (take (frames * 2) (first ∷ second ∷ rest) ≡ []) ⊎ ((more : ℕ) × (take (frames * 2) (first ∷ second ∷ rest) ≡ first ∷ second ∷ take (more * 2) rest))
 front zero first second rest = inl refl
@@ -134,7 +135,7 @@ first_byte frames first second rest = elim (front frames first second rest) [
   | inr some ↦ inr (ap (λ bytes. get_or bytes 0 0) some.1)
 ]
 
--- what of the second sound is handed
+-- what is handed of the second sound
 abbrev of_second : ℕ → List ℕ
 of_second frames = take (frames * 2) (17 ∷ 18 ∷ [])
 
@@ -171,13 +172,13 @@ no_room_cut fed =
 
 -- Dies
 
--- A microphone ends after half a frame, and comes back a second later: the half is in no frame.
+-- A microphone ends after half a frame, and comes back a second later. The half is dropped.
 abbrev dies : ToldAct → List ℕ → List ℕ → List ToldAct
 dies again heard lost = begins 0
     ∷ gave (1 ∷ 2 ∷ 3 ∷ []) ∷ captured (1 ∷ 2 ∷ []) ∷ emitted (11 ∷ 12 ∷ []) ∷ ended 20000000
     ∷ again ∷ gave (4 ∷ 5 ∷ []) ∷ captured heard ∷ emitted lost ∷ []
 
--- its first program, of which half a frame is left
+-- its first program, which leaves half a frame
 abbrev half_run : Run
 half_run = record { given = 1 ∷ 2 ∷ 3 ∷ []; taken = []; captured = (1 ∷ 2 ∷ []) ∷ []; emitted = (11 ∷ 12 ∷ []) ∷ [] }
 
@@ -193,7 +194,7 @@ half_run_fits = (
   omega arith,
 )
 
--- whatever the words of the second start are: the promise says nothing of them
+-- whatever the command line of the second start is: the promise does not speak of it
 dies_fed : (words : List (List ℕ)) → IsFed microphone 1 (dies (launched 1020000000 words launch.Runs) (4 ∷ 5 ∷ []) (14 ∷ 15 ∷ []))
 dies_fed words = record {
   past = record { past = one (PastRunFits microphone) half_run half_run_fits; idle = All-nil (IsSilent 0) };
@@ -218,7 +219,7 @@ dies_half fed = let first = ap (λ bytes. get_or bytes 0 0) fed.now.3.captured.g
 dies_early : IsFed microphone 1 (dies (begins 1019999999) (4 ∷ 5 ∷ []) (14 ∷ 15 ∷ [])) → ⊥
 dies_early fed = let late = fed.starts.spaced.0 in let is = late.1 in let after = late.2 in grind arith
 
--- of the last tick more is emitted than was captured
+-- in the last tick more is emitted than was captured
 dies_longer : IsFed microphone 1 (dies (begins 1020000000) (4 ∷ 5 ∷ []) (14 ∷ 15 ∷ 16 ∷ 17 ∷ [])) → ⊥
 dies_longer fed = longer fed.now.2 fed.now.3.in_step where
   longer : (tick : Option ℕ) → IsInStep tick ((4 ∷ 5 ∷ []) ∷ []) ((14 ∷ 15 ∷ 16 ∷ 17 ∷ []) ∷ []) → ⊥
@@ -227,7 +228,7 @@ dies_longer fed = longer fed.now.2 fed.now.3.in_step where
 
 -- Busy
 
--- Each look finds frames due by the clock, and the start comes as their sound is emitted.
+-- Each look finds frames due by the clock, and the program is started as their sound is emitted.
 abbrev busy : List ℕ → List ToldAct
 busy idle = begins 0
     ∷ gave (1 ∷ 2 ∷ 3 ∷ []) ∷ captured (1 ∷ 2 ∷ []) ∷ emitted (11 ∷ 12 ∷ []) ∷ ended 20000000
@@ -292,7 +293,7 @@ spent_twice fed = let late = fed.starts.spaced.0 in let is = late.1 in grind ari
 
 -- Full
 
--- A loudspeaker is handed a piece, which is a frame here, and the next one is due once all of it was taken.
+-- A loudspeaker is handed a piece, which is a frame here. The next one is due once it took all of that.
 abbrev full : List ToldAct → List ToldAct
 full rest = begins 0
     ∷ captured (0 ∷ 0 ∷ []) ∷ emitted (11 ∷ 12 ∷ []) ∷ took (11 ∷ [])

@@ -1,7 +1,7 @@
--- Runs of dialogues, one after the other.
+-- Runs of dialogues, one after another.
 use Rattle.std.proofs.Common.{◌≡◌, List, [], ◌∷◌, ◌++◌, map, refl, sym, ap, ◌∙◌, subst}
 use mathlib.Core.Path.{fun_ext, path_j, subst_refl}
-use Rattle.af_dialogue.specs.Dialogue.{Dialogue, Exchange, Reaches, Follows, Begins, EndsIn, Parted, ends, calls, exchange, exchange_among, followed_by, among}
+use Rattle.af_dialogue.specs.Dialogue.{Dialogue, Exchange, Reaches, Follows, Begins, EndsIn, Parted, ends, calls, exchange, exchange_among, followed_by, dialogue_among}
 
 module _ {Call : Type 0} {Answer : Call → Type 0} where
   -- a run, and another one of what it left
@@ -35,7 +35,7 @@ module _ {Call : Type 0} {Answer : Call → Type 0} where
       let p = follows_parted (more r.0) next run y r.2 in
       record { x = p.x; front = e ∷ p.front; more = p.more; is = ap (λ l. e ∷ l) p.is; first = (r.0, r.1, p.first); second = p.second }
 
-  -- a dialogue with nothing after it, and three one after the other
+  -- a dialogue with nothing after it, and three one after another
   pub followed_by_end : {X : Type 0} (d : Dialogue Answer X) → followed_by d (λ x. ends x) ≡ d
   followed_by_end (ends x) = refl
   followed_by_end {X} (calls call next) = ap {B = Dialogue Answer X} (λ (f : Answer call → Dialogue Answer X). calls call f) (fun_ext (λ answer. followed_by_end (next answer)))
@@ -45,7 +45,7 @@ module _ {Call : Type 0} {Answer : Call → Type 0} where
   followed_by_both {X} {Y} {Z} (calls call more) next last =
       ap {B = Dialogue Answer Z} (λ (f : Answer call → Dialogue Answer Z). calls call f) (fun_ext (λ answer. followed_by_both (more answer) next last))
 
-  -- what holds of all ends holds of all that are left after a run, and of the end
+  -- what holds for all ends holds for all that are left after a run, and for the end
   pub ends_in_rest : {X : Type 0} (P : X → Type 0) (d rest : Dialogue Answer X) (run : List (Exchange Answer)) → EndsIn P d → Reaches d run rest → EndsIn P rest
   ends_in_rest {X} P d rest [] all is = subst (λ (x : Dialogue Answer X). EndsIn P x) is all
   ends_in_rest P (ends x) rest (e ∷ run) all r = absurd r
@@ -94,7 +94,7 @@ Named Answer name call = Answer (name call)
 
 -- a run of a dialogue among other calls
 module _ {Call Other X : Type 0} (Answer : Other → Type 0) (name : Call → Other) where
-  pub reaches_among : (d rest : Dialogue (Named Answer name) X) (run : List (Exchange (Named Answer name))) → Reaches d run rest → Reaches (among Answer name d) (map (exchange_among Answer name) run) (among Answer name rest)
-  reaches_among d rest [] is = ap (λ (x : Dialogue (Named Answer name) X). among Answer name x) is
+  pub reaches_among : (d rest : Dialogue (Named Answer name) X) (run : List (Exchange (Named Answer name))) → Reaches d run rest → Reaches (dialogue_among Answer name d) (map (exchange_among Answer name) run) (dialogue_among Answer name rest)
+  reaches_among d rest [] is = ap (λ (x : Dialogue (Named Answer name) X). dialogue_among Answer name x) is
   reaches_among (ends x) rest (e ∷ run) r = absurd r
   reaches_among (calls call next) rest (e ∷ run) r = (r.0, ap (λ (x : Exchange (Named Answer name)). exchange_among Answer name x) r.1, reaches_among (next r.0) rest run r.2)

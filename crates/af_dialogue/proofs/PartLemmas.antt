@@ -1,4 +1,4 @@
--- Code that comes through parts of a program, one after the other.
+-- Code that comes through parts of a program, one after another.
 use Rattle.std.proofs.Common.{◌≡◌, true, List, [], ◌++◌, refl, sym, ap, ◌∙◌, subst, append_assoc, append-nil, inl, inr}
 use Rattle.std.proofs.lemmas.Grind.{flat_map-append}
 use Rattle.std.specs.Prelude.{Result, Ok, Err}
@@ -58,7 +58,7 @@ module _ {Call F E : Type 0} {Answer : Call → Type 0} (ending : Ending F E) wh
   came_outside part how outer = record { reached = refl; ended = inr outer }
 
 module _ {Call B : Type 0} {Answer : Call → Type 0} (sight : Sight Answer B) where
-  -- nothing need be seen of the next call
+  -- nothing needs to be seen of the next call
   pub shows_none : {X : Type 0} (d : Dialogue Answer X) → MayShow sight d []
   shows_none (ends x) = refl
   shows_none (calls call next) = (sight.begun call, refl)
@@ -74,7 +74,7 @@ module _ {Call B : Type 0} {Answer : Call → Type 0} (sight : Sight Answer B) w
   pub shows_first : {X Y : Type 0} (d : Dialogue Answer X) (next : X → Dialogue Answer Y) (run : List (Exchange Answer)) (seen : List B) → Shows sight run d seen → Shows sight run (followed_by d next) seen
   shows_first d next run seen s = (s.0, s.1, may_show_first d next s.0 s.2)
 
-  -- exchanges one after the other
+  -- exchanges one after another
   pub seen_on : (run more : List (Exchange Answer)) → seen_of sight (run ++ more) ≡ seen_of sight run ++ seen_of sight more
   seen_on run more = flat_map-append sight.whole run more
 
@@ -111,7 +111,7 @@ module _ {Call B : Type 0} {Answer : Call → Type 0} (sight : Sight Answer B) w
               ∙ sym (append_assoc (seen_of sight run) shows.0 f.0) ∙ ap (λ l. l ++ f.0) (sym shows.1),
         )
 
-    -- and all of it where the run is whole
+    -- and all of it if the run is whole
     pub shows_whole : {X : Type 0} (d : Dialogue Answer X) (x : X) (s : S) (run : List (Exchange Answer)) (seen : List B) → Follows d run x → Gives partner s run → Shows sight run (ends x) seen →
         seen_of sight (run_with partner s d) ≡ seen
     shows_whole d x s run seen r g shows =

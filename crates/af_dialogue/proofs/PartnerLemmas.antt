@@ -1,10 +1,10 @@
 -- Runs of a dialogue with a partner, and with several.
 use Rattle.std.proofs.Common.{◌≡◌, Bool, true, false, not, if◌then◌else◌, List, [], ◌∷◌, ◌++◌, refl, sym, ap, ap₂, ◌∙◌, subst, append-nil}
 use Rattle.af_dialogue.specs.Dialogue.{Dialogue, Exchange, Reaches, Follows, EndsIn, ends, calls, exchange, followed_by}
-use Rattle.af_dialogue.specs.Partner.{Partner, Gives, both, calls_of, end_with, run_with, state_after}
+use Rattle.af_dialogue.specs.Partner.{Partner, Gives, both_partners, calls_of, end_with, run_with, state_after}
 
 module _ {Call : Type 0} {Answer : Call → Type 0} {S : Type 0} (partner : Partner Answer S) where
-  -- exchanges one after the other
+  -- exchanges one after another
   pub state_on : (s : S) (run more : List (Exchange Answer)) → state_after partner s (run ++ more) ≡ state_after partner (state_after partner s run) more
   state_on s [] more = refl
   state_on s (e ∷ run) more = state_on (partner.after s e.call) run more
@@ -56,7 +56,7 @@ module _ {Call : Type 0} {Answer : Call → Type 0} {S : Type 0} (partner : Part
       (run_with partner s d ≡ run) × (end_with partner s d ≡ x)
   whole_run d x s run r g = (run_is d (ends x) s run r g ∙ append-nil run, end_is d (ends x) s run r g)
 
-  -- two dialogues, one after the other
+  -- two dialogues, one after another
   pub run_on : {X Y : Type 0} (d : Dialogue Answer X) (next : X → Dialogue Answer Y) (s : S) →
       run_with partner s (followed_by d next) ≡ run_with partner s d ++ run_with partner (state_after partner s (run_with partner s d)) (next (end_with partner s d))
   run_on (ends x) next s = refl
@@ -67,7 +67,7 @@ module _ {Call : Type 0} {Answer : Call → Type 0} {S : Type 0} (partner : Part
   end_on (ends x) next s = refl
   end_on (calls call more) next s = end_on (more (partner.answer s call)) next (partner.after s call)
 
-  -- what holds of all ends holds of the end with a partner
+  -- what holds for all ends holds for the end with a partner
   pub end_in : {X : Type 0} (P : X → Type 0) (d : Dialogue Answer X) (s : S) → EndsIn P d → P (end_with partner s d)
   end_in P (ends x) s all = all
   end_in P (calls call next) s all = end_in P (next (partner.answer s call)) (partner.after s call) (all (partner.answer s call))
@@ -84,9 +84,9 @@ module _ {Call : Type 0} {Answer : Call → Type 0} {S T : Type 0} (mine : Call 
   apart true s t e run is g = ((is, g.0), g.1)
   apart false s t e run is g = (g.0, (is, g.1))
 
-  pub gives_apart : (s : S × T) (run : List (Exchange Answer)) → Gives (both mine one other) s run → Gives one s.0 (calls_of mine run) × Gives other s.1 (calls_of others run)
+  pub gives_apart : (s : S × T) (run : List (Exchange Answer)) → Gives (both_partners mine one other) s run → Gives one s.0 (calls_of mine run) × Gives other s.1 (calls_of others run)
   gives_apart s [] g = (tt, tt)
-  gives_apart s (e ∷ run) g = apart (mine e.call) s.0 s.1 e run g.0 (gives_apart ((both mine one other).after s e.call) run g.1)
+  gives_apart s (e ∷ run) g = apart (mine e.call) s.0 s.1 e run g.0 (gives_apart ((both_partners mine one other).after s e.call) run g.1)
 
   together : (b : Bool) (s : S) (t : T) (e : Exchange Answer) (run : List (Exchange Answer)) →
       Gives one s (if b then e ∷ calls_of mine run else calls_of mine run) × Gives other t (if not b then e ∷ calls_of others run else calls_of others run) →
@@ -94,11 +94,11 @@ module _ {Call : Type 0} {Answer : Call → Type 0} {S T : Type 0} (mine : Call 
   together true s t e run g = (g.0.0, g.0.1, g.1)
   together false s t e run g = (g.1.0, g.0, g.1.1)
 
-  pub gives_both : (s : S × T) (run : List (Exchange Answer)) → Gives one s.0 (calls_of mine run) → Gives other s.1 (calls_of others run) → Gives (both mine one other) s run
+  pub gives_both : (s : S × T) (run : List (Exchange Answer)) → Gives one s.0 (calls_of mine run) → Gives other s.1 (calls_of others run) → Gives (both_partners mine one other) s run
   gives_both s [] g h = tt
   gives_both s (e ∷ run) g h =
       let t = together (mine e.call) s.0 s.1 e run (g, h) in
-      (t.0, gives_both ((both mine one other).after s e.call) run t.1 t.2)
+      (t.0, gives_both ((both_partners mine one other).after s e.call) run t.1 t.2)
 
   -- and so is the state of each
   state_one : (b : Bool) (s : S) (e : Exchange Answer) (run : List (Exchange Answer)) → state_after one (if b then one.after s e.call else s) run ≡ state_after one s (if b then e ∷ run else run)
@@ -109,10 +109,10 @@ module _ {Call : Type 0} {Answer : Call → Type 0} {S T : Type 0} (mine : Call 
   state_other true t e run = refl
   state_other false t e run = refl
 
-  pub state_of_one : (s : S × T) (run : List (Exchange Answer)) → (state_after (both mine one other) s run).0 ≡ state_after one s.0 (calls_of mine run)
+  pub state_of_one : (s : S × T) (run : List (Exchange Answer)) → (state_after (both_partners mine one other) s run).0 ≡ state_after one s.0 (calls_of mine run)
   state_of_one s [] = refl
-  state_of_one s (e ∷ run) = state_of_one ((both mine one other).after s e.call) run ∙ state_one (mine e.call) s.0 e (calls_of mine run)
+  state_of_one s (e ∷ run) = state_of_one ((both_partners mine one other).after s e.call) run ∙ state_one (mine e.call) s.0 e (calls_of mine run)
 
-  pub state_of_other : (s : S × T) (run : List (Exchange Answer)) → (state_after (both mine one other) s run).1 ≡ state_after other s.1 (calls_of others run)
+  pub state_of_other : (s : S × T) (run : List (Exchange Answer)) → (state_after (both_partners mine one other) s run).1 ≡ state_after other s.1 (calls_of others run)
   state_of_other s [] = refl
-  state_of_other s (e ∷ run) = state_of_other ((both mine one other).after s e.call) run ∙ state_other (mine e.call) s.1 e (calls_of others run)
+  state_of_other s (e ∷ run) = state_of_other ((both_partners mine one other).after s e.call) run ∙ state_other (mine e.call) s.1 e (calls_of others run)

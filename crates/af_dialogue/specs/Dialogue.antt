@@ -1,4 +1,4 @@
--- What a program does that makes calls: what it asks next, how it goes on by each answer, and how it ends.
+-- What a program does that makes calls: which call it makes next, how it goes on by each answer, and how it ends.
 use Rattle.std.specs.Prelude.{◌≡◌, List, [], ◌∷◌, ◌++◌}
 
 -- A dialogue has come to its end, or it makes a call and goes on by the answer. The call says what its answer may be.
@@ -15,18 +15,18 @@ abbrev pub exchange : {Call : Type 0} {Answer : Call → Type 0} (call : Call) �
 exchange call answer = record { call = call; answer = answer }
 
 -- one call, which ends with its answer
-abbrev pub asking : {Call : Type 0} {Answer : Call → Type 0} (call : Call) → Dialogue Answer (Answer call)
-asking call = calls call (λ answer. ends answer)
+abbrev pub one_call : {Call : Type 0} {Answer : Call → Type 0} (call : Call) → Dialogue Answer (Answer call)
+one_call call = calls call (λ answer. ends answer)
 
 -- a dialogue, and after it the one that its end leads to
 abbrev pub followed_by : {Call : Type 0} {Answer : Call → Type 0} {X Y : Type 0} → Dialogue Answer X → (X → Dialogue Answer Y) → Dialogue Answer Y
 followed_by (ends x) next = next x
 followed_by (calls call more) next = calls call (λ answer. followed_by (more answer) next)
 
--- the same dialogue as one of a program that makes other calls too: each of its calls is one of these
-abbrev pub among : {Call Other X : Type 0} (Answer : Other → Type 0) (name : Call → Other) → Dialogue (λ (call : Call). Answer (name call)) X → Dialogue Answer X
-among Answer name (ends x) = ends x
-among Answer name (calls call next) = calls (name call) (λ answer. among Answer name (next answer))
+-- the same dialogue of a program that makes other calls too: each of its calls is one of these
+abbrev pub dialogue_among : {Call Other X : Type 0} (Answer : Other → Type 0) (name : Call → Other) → Dialogue (λ (call : Call). Answer (name call)) X → Dialogue Answer X
+dialogue_among Answer name (ends x) = ends x
+dialogue_among Answer name (calls call next) = calls (name call) (λ answer. dialogue_among Answer name (next answer))
 
 abbrev pub exchange_among : {Call Other : Type 0} (Answer : Other → Type 0) (name : Call → Other) → Exchange (λ (call : Call). Answer (name call)) → Exchange Answer
 exchange_among Answer name e = record { call = name e.call; answer = e.answer }
@@ -45,7 +45,7 @@ Follows d run x = Reaches d run (ends x)
 abbrev pub Begins : {Call : Type 0} {Answer : Call → Type 0} {X : Type 0} → Dialogue Answer X → List (Exchange Answer) → Type 0
 Begins {Answer = Answer} {X = X} d run = (rest : Dialogue Answer X) × Reaches d run rest
 
--- whatever the answers are, it ends so
+-- it ends so, whatever the answers are
 abbrev pub EndsIn : {Call : Type 0} {Answer : Call → Type 0} {X : Type 0} → (X → Type 0) → Dialogue Answer X → Type 0
 EndsIn P (ends x) = P x
 EndsIn {Answer = Answer} P (calls call next) = (answer : Answer call) → EndsIn P (next answer)

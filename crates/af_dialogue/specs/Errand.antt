@@ -1,14 +1,14 @@
--- A small dialogue, on which the definitions are tried: a clock is asked for its time, and a player is told to play 100 later,
--- until it does or n times were asked.
+-- A small dialogue, on which the definitions are tried. A clock is asked for its time, and a player is told to play 100 later,
+-- until it does or n times were asked for.
 use Rattle.std.specs.Prelude.{ℕ, zero, suc, ◌+◌, nat_lt, Bool, true, false}
 use Rattle.af_dialogue.specs.Dialogue.{Dialogue, Exchange, ends, calls, exchange}
-use Rattle.af_dialogue.specs.Partner.{Partner, both}
+use Rattle.af_dialogue.specs.Partner.{Partner, both_partners}
 
 pub data ErrandCall : Type 0 where
   asks_time : ErrandCall
   plays_at : (time : ℕ) → ErrandCall
 
--- a clock tells a time, and a player whether it plays
+-- a clock answers a time, and a player whether it plays
 abbrev pub ErrandAnswer : ErrandCall → Type 0
 ErrandAnswer asks_time = ℕ
 ErrandAnswer (plays_at time) = Bool
@@ -23,12 +23,12 @@ abbrev pub errand : ℕ → Dialogue ErrandAnswer ℕ
 errand zero = ends 0
 errand (suc n) = calls asks_time (λ time. calls (plays_at (time + 100)) (λ played. unless_played played (time + 100) (errand n)))
 
--- the exchanges: the clock told a time, and the player was asked
-abbrev pub told : (time : ℕ) → Exchange ErrandAnswer
-told time = exchange asks_time time
+-- the exchanges: the clock answered a time, and the player was asked
+abbrev pub time_exchange : (time : ℕ) → Exchange ErrandAnswer
+time_exchange time = exchange asks_time time
 
-abbrev pub asked_to_play : (time : ℕ) (played : Bool) → Exchange ErrandAnswer
-asked_to_play time played = exchange (plays_at time) played
+abbrev pub play_exchange : (time : ℕ) (played : Bool) → Exchange ErrandAnswer
+play_exchange time played = exchange (plays_at time) played
 
 -- the calls of the clock
 abbrev pub is_of_clock : ErrandCall → Bool
@@ -52,4 +52,4 @@ abbrev pub player : Partner ErrandAnswer ℕ
 player = record { answer = player_answer; after = λ first call. first }
 
 abbrev pub clock_and_player : Partner ErrandAnswer (ℕ × ℕ)
-clock_and_player = both is_of_clock clock player
+clock_and_player = both_partners is_of_clock clock player

@@ -33,8 +33,8 @@ abbrev pub calls_of : {Call : Type 0} {Answer : Call → Type 0} → (Call → B
 calls_of mine run = filter (λ e. mine e.call) run
 
 -- two partners as one: the first answers the calls that pass the test, and the second all others
-abbrev pub both : {Call : Type 0} {Answer : Call → Type 0} {S T : Type 0} → (Call → Bool) → Partner Answer S → Partner Answer T → Partner Answer (S × T)
-both mine one other = record {
+abbrev pub both_partners : {Call : Type 0} {Answer : Call → Type 0} {S T : Type 0} → (Call → Bool) → Partner Answer S → Partner Answer T → Partner Answer (S × T)
+both_partners mine one other = record {
   answer = λ s call. if mine call then one.answer s.0 call else other.answer s.1 call;
   after = λ s call. (if mine call then one.after s.0 call else s.0, if mine call then s.1 else other.after s.1 call);
 }

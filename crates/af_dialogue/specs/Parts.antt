@@ -3,7 +3,7 @@ use Rattle.std.specs.Prelude.{◌≡◌, ◌⊎◌, Bool, true, List, [], ◌++�
 use Rattle.std.specs.List.{flat_map}
 use Rattle.af_dialogue.specs.Dialogue.{Dialogue, Exchange, Reaches, ends, calls, followed_by}
 
--- A part of a program ends with a value, with which the program goes on, or with the end of the whole program.
+-- A part of a program ends with a value, by which the program goes on, or with the end of the whole program.
 abbrev pub Part : {Call : Type 0} → (Call → Type 0) → (X F : Type 0) → Type 0
 Part Answer X F = Dialogue Answer (Result X F)
 
@@ -16,7 +16,7 @@ or_ends next (Err finish) = ends (Err finish)
 abbrev pub goes_on : {Call : Type 0} {Answer : Call → Type 0} {X Y F : Type 0} → Part Answer X F → (X → Part Answer Y F) → Part Answer Y F
 goes_on part next = followed_by part (or_ends next)
 
--- How the code of a program tells its end: by which value, and which of them say that something from outside ended it.
+-- How the code of a program reports its end: by which value, and which of them say that something from outside ended it.
 pub record Ending (F E : Type 0) : Type 0 where
   pub of : F → E
   pub is_outer : E → Bool
@@ -33,19 +33,19 @@ abbrev pub IsEndedOutside : {F E X : Type 0} → Ending F E → Result X E → T
 IsEndedOutside ending (Ok x) = ⊥
 IsEndedOutside ending (Err how) = ending.is_outer how ≡ true
 
--- Code that answers this came so far in a part: it made these calls, and this is left. It came to the end of the part, or something
--- from outside ended it.
+-- Code that answers this came so far in a part: it made these calls, and this is left. It came to the end of the part, or
+-- something from outside ended it.
 pub record Came {Call F E X : Type 0} {Answer : Call → Type 0} (ending : Ending F E) (part : Part Answer X F) (result : Result X E) (run : List (Exchange Answer)) (rest : Part Answer X F) : Type 0 where
   pub reached : Reaches part run rest
   pub ended : ((finish : Result X F) × (rest ≡ ends finish) × Tells ending result finish) ⊎ IsEndedOutside ending result
 
--- What is seen of a program in one place, as the bytes on a link: of each exchange all this, and of a call that gets no answer a
--- prefix of this.
+-- What is seen of a program in one place, as the bytes on a link: all this for each exchange, and a prefix of this for a call
+-- that gets no answer.
 pub record Sight {Call : Type 0} (Answer : Call → Type 0) (B : Type 0) : Type 0 where
   pub whole : Exchange Answer → List B
   pub begun : Call → List B
 
--- of each exchange the part that may be seen without its answer is seen first
+-- what may be seen of an exchange without its answer is seen first
 abbrev pub IsSight : {Call B : Type 0} {Answer : Call → Type 0} → Sight Answer B → Type 0
 IsSight {B = B} {Answer = Answer} sight = (e : Exchange Answer) → (more : List B) × (sight.whole e ≡ sight.begun e.call ++ more)
 

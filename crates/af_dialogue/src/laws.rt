@@ -1,9 +1,9 @@
 //! Laws of dialogues, each the contract of a function that does nothing. They hold of every kind of calls.
 ghost use Rattle.std.specs.Prelude.{◌≡◌, ◌++◌, ◌∷◌, ◌↔◌, [], List, Bool, true, false, map, not};
-ghost use Rattle.af_dialogue.specs.Dialogue.{Dialogue, Exchange, Reaches, Follows, Begins, EndsIn, Parted, among, ends, exchange_among, followed_by};
-ghost use Rattle.af_dialogue.specs.Partner.{Partner, Gives, both, calls_of, end_with, run_with, state_after};
+ghost use Rattle.af_dialogue.specs.Dialogue.{Dialogue, Exchange, Reaches, Follows, Begins, EndsIn, Parted, dialogue_among, ends, exchange_among, followed_by};
+ghost use Rattle.af_dialogue.specs.Partner.{Partner, Gives, both_partners, calls_of, end_with, run_with, state_after};
 ghost use Rattle.af_dialogue.specs.Parts.{IsSight, Shows, Sight, seen_of};
-ghost use Rattle.af_dialogue.specs.Errand.{asked_to_play, clock_and_player, errand, is_of_clock, told};
+ghost use Rattle.af_dialogue.specs.Errand.{play_exchange, clock_and_player, errand, is_of_clock, time_exchange};
 
 /// A kind of calls: each says what its answer may be.
 pub trait Calls {
@@ -33,7 +33,7 @@ pub fn runs_begin<C: Calls, X>()
     ensures { (d : Dialogue C.answer X) (run more : List (Exchange C.answer)) → Begins d (run ++ more) → Begins d run }
 {}
 
-/// A run of a dialogue and of the one after it is one of each, and the other way round.
+/// A run of a dialogue and of the one after it is one of each, and the reverse.
 pub fn dialogues_are_joined<C: Calls, X, Y>()
     ensures joined { (d : Dialogue C.answer X) (next : X → Dialogue C.answer Y) (x : X) (rest : Dialogue C.answer Y)
         (run more : List (Exchange C.answer)) →
@@ -46,13 +46,13 @@ pub fn dialogues_are_joined<C: Calls, X, Y>()
 pub fn other_calls_change_no_run<C, D: Calls, X>()
     ensures { (name : C → D) (d rest : Dialogue (λ (call : C). D.answer (name call)) X)
         (run : List (Exchange (λ (call : C). D.answer (name call)))) → Reaches d run rest →
-        Reaches (among D.answer name d) (map (exchange_among D.answer name) run) (among D.answer name rest) }
+        Reaches (dialogue_among D.answer name d) (map (exchange_among D.answer name) run) (dialogue_among D.answer name rest) }
 {}
 
 /// Several partners answer a run exactly if each answers its own calls.
 pub fn partners_answer_apart<C: Calls, S, T>()
     ensures { (mine : C → Bool) (one : Partner C.answer S) (other : Partner C.answer T) (s : S × T)
-        (run : List (Exchange C.answer)) → Gives (both mine one other) s run
+        (run : List (Exchange C.answer)) → Gives (both_partners mine one other) s run
         ↔ (Gives one s.0 (calls_of mine run) × Gives other s.1 (calls_of (λ call. not (mine call)) run)) }
 {}
 
@@ -73,9 +73,10 @@ pub fn what_is_seen_is_a_front<C: Calls, S, X, B>()
 /// A player that plays nothing before 1000 is asked twice and no more.
 pub fn an_errand_is_run()
     ensures run { run_with clock_and_player (0, 120) (errand 5)
-        ≡ told 0 ∷ asked_to_play 100 false ∷ told 40 ∷ asked_to_play 140 true ∷ [] }
+        ≡ time_exchange 0 ∷ play_exchange 100 false ∷ time_exchange 40 ∷ play_exchange 140 true ∷ [] }
     ensures end { end_with clock_and_player (0, 120) (errand 5) ≡ 140 }
-    ensures clock { calls_of is_of_clock (run_with clock_and_player (0, 120) (errand 5)) ≡ told 0 ∷ told 40 ∷ [] }
+    ensures clock { calls_of is_of_clock (run_with clock_and_player (0, 120) (errand 5))
+        ≡ time_exchange 0 ∷ time_exchange 40 ∷ [] }
     ensures never { end_with clock_and_player (0, 1000) (errand 2) ≡ 0 }
-    ensures begun { Begins (errand 5) (told 7 ∷ asked_to_play 107 false ∷ []) }
+    ensures begun { Begins (errand 5) (time_exchange 7 ∷ play_exchange 107 false ∷ []) }
 {}

@@ -1,4 +1,4 @@
--- How what lies between a line and its program keeps to the acts, act by act.
+-- What stands between a line and its program keeps to the acts, act by act.
 use Rattle.std.proofs.Common.{◌≡◌, ℕ, ◌+◌, ◌≤◌, Bool, true, false, not, List, [], ◌∷◌, ◌++◌, length, take, drop, refl, sym, ap, ◌∙◌, subst, arith, is_some}
 use Rattle.std.specs.Prelude.{⊤, MatchOption}
 use Rattle.std.specs.List.{fold}
@@ -9,7 +9,7 @@ use Rattle.std.specs.declared.option.Option.TheVariants.{None, Some}
 use Rattle.af_io.specs.Observed.{Appended, Unchanged}
 use Rattle.af_program.specs.declared.starts.Starts.{Starts}
 use Rattle.af_program.specs.Acts.{ToldAct, gave, took, ended, captured, emitted, runs_in, runs_after}
-use Rattle.af_program.specs.Waits.{NextFits, may_come, begun_once_more, after_end, starts_ended}
+use Rattle.af_program.specs.Waits.{NextFits, may_come, begun_once_more, after_end, starts_after_end}
 use Rattle.af_program.proofs.StartLemmas.{begun-fits, next-failed, as-many, ended-fits, next-ended}
 use Rattle.af_phone.specs.declared.line.LineChange.{LineChange}
 use Rattle.af_exchange.specs.declared.running.Running.{Running}
@@ -17,7 +17,7 @@ use Rattle.af_exchange.specs.Lines.{text_of, hook_text}
 use Rattle.af_exchange.specs.Fronts.{SaysMore, SaysNoMore}
 use Rattle.af_exchange.specs.Ledger.{Ledger, Run, ledger_after, ledger_of, new_ledger, ledger_gave, ledger_took, ledger_changed, ledger_called, ledger_ended, ledger_begun, ledger_failed}
 use Rattle.af_exchange.specs.Told.{RunTold, PastRunTold, RunIsTold, IsTold, IsDrained}
-use Rattle.af_exchange.specs.Dialogue.{DialogueState, Account, Accounts, RunningFits, began_of, running_begun, PassesOver, CanEnd, LeavesNone, is_open}
+use Rattle.af_exchange.specs.Dialogue.{DialogueState, Account, Accounts, RunningFits, began_of, running_since, PassesOver, CanEnd, LeavesNone, is_open}
 use Rattle.af_exchange.proofs.RunLemmas.{told-gave, told-took, told-passed, told-changed, told-begun, told-ended, told-drained}
 
 -- some more acts
@@ -41,12 +41,12 @@ Accounts-same d d' (Some before) (Some after) fits same on runs =
 
 -- Runs
 
--- while a program runs a run is told of it
+-- while a program runs, the acts have a run for it
 run_of : (d : DialogueState) (r : Running) (now : Option Run) → RunningFits d (Some r) now → (run : Run) × (now ≡ Some run) × RunTold run d.left d.owed (not r.is_closed)
 run_of d r None fits = grind arith
 run_of d r (Some run) fits = (run, refl, fits)
 
--- something of the run has changed, and of what lies between
+-- something of the run has changed, and of what stands between the two
 Account-run : (d : DialogueState) (r r' : Running) (ledger : Ledger) (left owed : List ℕ) (run : Run) → d.running ≡ Some r → r'.began ≡ r.began → Account d ledger →
     RunTold run left owed (not r'.is_closed) → Account (record d { running = Some r'; left = left; owed = owed }) (record ledger { running = Some run })
 Account-run d r r' ledger left owed run is began account told = record {
@@ -80,7 +80,7 @@ Account-took d r r' count is began closed ledger account =
     (subst (λ x. RunTold (record run { taken = run.taken ++ take count d.owed }) d.left (drop count d.owed) (not x)) (sym closed)
     (told-took run d.left d.owed count (not r.is_closed) now.2)))
 
--- nothing of the run has changed, but for what is known of it
+-- nothing of the run has changed, except what is known of it
 pub Account-knows : (d : DialogueState) (r r' : Running) → d.running ≡ Some r → r'.began ≡ r.began →
     ((run : Run) → RunTold run d.left d.owed (not r.is_closed) → RunTold run d.left d.owed (not r'.is_closed)) → (ledger : Ledger) → Account d ledger →
     Account (record d { running = Some r' }) ledger
@@ -97,7 +97,7 @@ Account-knows d r r' is began on ledger account = record {
   knows None fits = grind arith
   knows (Some run) fits = on run fits
 
--- comments were passed over
+-- comments were skipped
 pub Account-passed : (d : DialogueState) (left : List ℕ) → PassesOver d.left left → (ledger : Ledger) → Account d ledger → Account (record d { left = left }) ledger
 Account-passed d left over ledger account = record {
   past = account.past;
@@ -170,10 +170,10 @@ Account-called d r r' owed off is began on ledger account =
 -- a program begins to run
 pub Account-begun : (d : DialogueState) (at : ℕ) (starts : Starts) → d.running ≡ None → may_come d.starts at ≡ true → starts ≡ begun_once_more d.starts →
     (ledger : Ledger) → Account d ledger →
-    Account (record d { running = Some (running_begun at); starts = starts; left = []; owed = hook_text d.off }) (ledger_begun ledger at)
+    Account (record d { running = Some (running_since at); starts = starts; left = []; owed = hook_text d.off }) (ledger_begun ledger at)
 Account-begun d at starts none may begun ledger account =
     let next : NextFits d.starts None ledger.starts = subst (λ x. NextFits d.starts (began_of x) ledger.starts) none account.next in
-    subst (λ s. Account (record d { running = Some (running_begun at); starts = s; left = []; owed = hook_text d.off }) (ledger_begun ledger at)) (sym begun) (record {
+    subst (λ s. Account (record d { running = Some (running_since at); starts = s; left = []; owed = hook_text d.off }) (ledger_begun ledger at)) (sym begun) (record {
       past = account.past;
       running = told-begun ledger.hook d.off account.hook;
       none = account.none;
@@ -212,7 +212,7 @@ Account-ended d r at starts is can after ledger account =
     let run = now.0 in
     let past : PastRunTold run = told-ended run d.left d.owed (not r.is_closed) can.0 now.2 can.1 in
     subst (λ x. Account (record d { running = None; starts = starts }) (ledger_ended x ledger at)) (sym now.1)
-    (subst (λ s. Account (record d { running = None; starts = s }) (record ledger { running = None; past = run ∷ ledger.past; starts = starts_ended ledger.starts at })) (sym after) (record {
+    (subst (λ s. Account (record d { running = None; starts = s }) (record ledger { running = None; past = run ∷ ledger.past; starts = starts_after_end ledger.starts at })) (sym after) (record {
       past = All-cons PastRunTold run ledger.past past account.past;
       running = tt;
       none = account.none;

@@ -1,4 +1,4 @@
--- What each call on what lies between a line and its program keeps of the acts.
+-- What each call on what stands between a line and its program keeps of the acts.
 use Rattle.std.proofs.Common.{◌≡◌, ◌≢◌, ℕ, Bool, true, false, not, List, [], ◌∷◌, ◌++◌, take, drop, refl, sym, ap, ◌∙◌, subst, arith, is_some}
 use Rattle.std.specs.declared.option.Option.{Option}
 use Rattle.std.specs.declared.option.Option.TheVariants.{None, Some}
@@ -20,7 +20,7 @@ use Rattle.af_exchange.specs.Lines.{text_of, hook_text}
 use Rattle.af_exchange.specs.Fronts.{SaysMore}
 use Rattle.af_exchange.specs.Ledger.{Notes}
 use Rattle.af_exchange.specs.Told.{RunTold}
-use Rattle.af_exchange.specs.Dialogue.{DialogueState, Accounts, running_begun, after_take, after_give, PassesOver, CanEnd}
+use Rattle.af_exchange.specs.Dialogue.{DialogueState, Accounts, running_since, after_take, after_give, PassesOver, CanEnd}
 use Rattle.af_exchange.proofs.NoteLemmas.{notes, notes-same}
 use Rattle.af_exchange.proofs.RunLemmas.{told-closed, told-owed, told-missed}
 use Rattle.af_exchange.proofs.AccountLemmas.{Accounts-on, Accounts-same, Account-gave, Account-took, Account-knows, Account-passed, Account-changed, Account-none-called, Account-called, Account-begun, Account-failed, Account-ended}
@@ -105,11 +105,11 @@ Accounts-owed d r off text owed acts acts' runs unclosed is more told fits =
 
 pub Accounts-begun : (d : DialogueState) (at : ℕ) (words : List (List ℕ)) (result : Launched) (starts : Starts) (left owed : List ℕ) (acts acts' : Option (List ToldAct)) →
     result ≡ launch.Runs → d.running ≡ None → may_come d.starts at ≡ true → starts ≡ begun_once_more d.starts → left ≡ [] → owed ≡ hook_text d.off →
-    Appended acts (launched at words result ∷ []) acts' → Accounts d acts → Accounts (record d { running = Some (running_begun at); starts = starts; left = left; owed = owed }) acts'
+    Appended acts (launched at words result ∷ []) acts' → Accounts d acts → Accounts (record d { running = Some (running_since at); starts = starts; left = left; owed = owed }) acts'
 Accounts-begun d at words launch.Runs starts left owed acts acts' is none may begun no-left owes told fits =
-    subst (λ x. Accounts (record d { running = Some (running_begun at); starts = starts; left = x; owed = owed }) acts') (sym no-left)
-    (subst (λ x. Accounts (record d { running = Some (running_begun at); starts = starts; left = []; owed = x }) acts') (sym owes)
-    (Accounts-on d (record d { running = Some (running_begun at); starts = starts; left = []; owed = hook_text d.off }) acts acts' (launched at words launch.Runs ∷ []) fits told
+    subst (λ x. Accounts (record d { running = Some (running_since at); starts = starts; left = x; owed = owed }) acts') (sym no-left)
+    (subst (λ x. Accounts (record d { running = Some (running_since at); starts = starts; left = []; owed = x }) acts') (sym owes)
+    (Accounts-on d (record d { running = Some (running_since at); starts = starts; left = []; owed = hook_text d.off }) acts acts' (launched at words launch.Runs ∷ []) fits told
     (Account-begun d at starts none may begun) (λ runs same. refl)))
 Accounts-begun d at words launch.Failed starts left owed acts acts' is none may begun no-left owes told fits = grind arith
 Accounts-begun d at words launch.OutOfMemory starts left owed acts acts' is none may begun no-left owes told fits = grind arith

@@ -36,7 +36,7 @@ shorter k n m is short = grind arith
 within-rest : (n m k : ℕ) → m ≡ 1 + n → m < 1 + k → n < k
 within-rest n m k is within = grind arith
 
--- a line at fault is the last that says anything
+-- a malformed line is the last that says anything
 pub stays-at-fault : (r : Reading) (bytes : List ℕ) → r.is_fault ≡ true → fold after_byte r bytes ≡ r
 stays-at-fault r [] fault = refl
 stays-at-fault r (byte ∷ bytes) fault =
@@ -54,7 +54,7 @@ part-over changes line byte long =
     let is : nat_lt (length line) 64 ≡ false = grind arith in
     ap (λ x. if x then at_line changes (line ++ byte ∷ []) else at_fault (at_line changes line)) is
 
--- a whole line is read, of which a part was read before
+-- a whole line is read, and a part of it was read before
 pub reads-line : (changes : List LineChange) (bytes line : List ℕ) → before_end bytes < length bytes → length line + before_end bytes ≤ 64 →
     fold after_byte (at_line changes line) (take (suc (before_end bytes)) bytes) ≡
     after_line (said_of (line ++ take (before_end bytes) bytes)) (at_line changes (line ++ take (before_end bytes) bytes))
@@ -85,7 +85,7 @@ reads-line changes (byte ∷ bytes) line within short = by_case (reads-line chan
       after_line (said_of (line ++ take n (byte ∷ bytes))) (at_line changes (line ++ take n (byte ∷ bytes)))) (sym (first ∙ one-more (before_end bytes)))
       (ap (λ r. fold after_byte r (take (suc (before_end bytes)) bytes)) on ∙ rest ∙ ap (λ l. after_line (said_of l) (at_line changes l)) one)
 
--- a line that is too long says nothing, and is at fault
+-- a line that is too long says nothing, and is malformed
 pub too-long : (changes : List LineChange) (bytes line : List ℕ) → length line ≤ 64 → 64 < length line + before_end bytes →
     ((fold after_byte (at_line changes line) bytes).changes ≡ changes) × ((fold after_byte (at_line changes line) bytes).is_fault ≡ true)
 too-long changes [] line short long = grind arith
@@ -168,7 +168,7 @@ says-part bytes none short changes =
     let all = only-part changes bytes [] none (grind arith) in
     (ap (λ (r : Reading). r.changes) all, ap (λ (r : Reading). r.is_fault) all)
 
--- the same, where the end of the line was counted
+-- the same, if the end of the line was counted
 
 pub says-nothing : (bytes : List ℕ) (end : ℕ) → end ≡ before_end bytes → end < length bytes → end ≤ 64 → says.Comment ≡ said_of (take end bytes) → SaysMore [] (end + 1) bytes
 says-nothing bytes end is within short said =

@@ -1,4 +1,4 @@
--- How what was said and told of a run goes on, act by act.
+-- What a run said and was handed goes on, act by act.
 use Rattle.std.proofs.Common.{◌≡◌, ℕ, Bool, true, false, List, [], ◌∷◌, ◌++◌, map, take, drop, refl, sym, ap, ◌∙◌, subst, append_assoc, append-nil, arith}
 use Rattle.std.specs.List.{fold}
 use Rattle.std.proofs.lemmas.List.{take-append-drop, map-append}
@@ -55,7 +55,7 @@ reads-on : (read more : List ℕ) (said said' : List LineChange) → changes_of 
     changes_of (read ++ more) ≡ at_line said' []
 reads-on read more said said' before after = fold-append after_byte (at_line [] []) read more ∙ ap (λ r. fold after_byte r more) before ∙ after
 
--- comments were passed over
+-- comments were skipped
 pub told-passed : (run : Run) (left left' owed : List ℕ) (is_open : Bool) → PassesOver left left' → RunTold run left owed is_open → RunTold run left' owed is_open
 told-passed run left left' owed is_open over t = record {
   read = t.read ++ over.0;
@@ -82,7 +82,7 @@ told-changed run left owed is_open change count says t = record {
   all = t.all;
 }
 
--- it is to be told a line, which it is owed
+-- a line is to be handed to it, and is owed
 pub told-owed : (run : Run) (left owed line : List ℕ) → RunTold run left owed true → RunTold (record run { told = run.told ++ line }) left (owed ++ line) true
 told-owed run left owed line t = record {
   read = t.read;
@@ -146,7 +146,7 @@ pub told-drained : (run : Run) (left owed : List ℕ) (is_open : Bool) → RunTo
     (run.changes ≡ map text_of (changes_of run.given).changes) × ((changes_of run.given).is_fault ≡ false)
 told-drained run left owed is_open t none = all-given run left owed is_open false t none
 
--- one comment more is passed over
+-- one more comment is skipped
 pub passes-on : (before mid after : List ℕ) (count : ℕ) → PassesOver before mid → SaysMore [] count mid → after ≡ drop count mid → PassesOver before after
 passes-on before mid after count over says rest = subst (λ x. PassesOver before x) (sym rest) (
   over.0 ++ take count mid,

@@ -1,4 +1,4 @@
--- What lies between a line and its program, and how it fits what the acts tell.
+-- What stands between a line and its program, and how it fits the acts.
 use Rattle.std.specs.Prelude.{◌≡◌, ⊤, ℕ, Bool, true, false, not, ◌||◌, List, [], ◌++◌, length, is_some, All}
 use Rattle.std.specs.List.{fold}
 use Rattle.std.specs.declared.option.Option.{Option}
@@ -33,8 +33,8 @@ abbrev pub new_dialogue : ℕ → DialogueState
 new_dialogue restarts = record { starts = no_starts restarts; running = None; left = []; owed = []; off = false }
 
 -- a program that was started at this moment
-abbrev pub running_begun : ℕ → Running
-running_begun at = record { began = at; is_closed = false; is_ended = false }
+abbrev pub running_since : ℕ → Running
+running_since at = record { began = at; is_closed = false; is_ended = false }
 
 -- after a take
 abbrev pub after_take : Gave → Running → Running
@@ -53,14 +53,14 @@ abbrev pub is_open : Option Running → Bool
 is_open None = false
 is_open (Some running) = not running.is_closed
 
--- whether a program is to be ended, where no change is left of what it gave
+-- whether a program is to be ended, if no change is left of what it gave
 abbrev pub is_over : Option Running → Bool
 is_over None = false
 is_over (Some running) = running.is_closed || running.is_ended
 
 -- How it fits the ledger
 
--- one program runs for both, or for none
+-- a program runs in both, or in neither
 abbrev pub RunningFits : DialogueState → Option Running → Option Run → Type 0
 RunningFits d None None = ⊤
 RunningFits d None (Some run) = ⊥
@@ -81,7 +81,7 @@ pub record Account (d : DialogueState) (ledger : Ledger) : Type 0 where
   pub tried : d.starts.tried ≡ length ledger.starts
   pub next : NextFits d.starts (began_of d.running) ledger.starts
 
--- if the acts are observed, all of this holds of them
+-- if the acts are observable, all of this holds of them
 abbrev pub Accounts : DialogueState → Option (List ToldAct) → Type 0
 Accounts d None = ⊤
 Accounts d (Some acts) = Account d (ledger_of acts) × (runs_in acts ≡ is_some d.running)
@@ -95,11 +95,11 @@ CanBegin d at = (d.running ≡ None) × (may_come d.starts at ≡ true)
 abbrev pub CanEnd : DialogueState → Type 0
 CanEnd d = (is_fault : Bool) × SaysNoMore is_fault d.left
 
--- whole lines that say nothing are passed over
+-- whole lines that say nothing are skipped
 abbrev pub PassesOver : List ℕ → List ℕ → Type 0
 PassesOver before after =
     (passed : List ℕ) × (before ≡ passed ++ after) × ((changes : List LineChange) → fold after_byte (at_line changes []) passed ≡ at_line changes [])
 
--- no change is left of what a program that runs gave, and no line of it is at fault
+-- no change is left of what the running program gave, and none of its lines is malformed
 abbrev pub LeavesNone : DialogueState → Type 0
 LeavesNone d = is_some d.running ≡ true → SaysNoMore false d.left

@@ -12,7 +12,7 @@ use Rattle.af_exchange.specs.Ledger.{ledger_of, Order}
 use Rattle.af_exchange.specs.Told.{IsTold, IsDrained}
 use Rattle.af_exchange.specs.Dialogue.{DialogueState, new_dialogue, is_open}
 
--- a program, what lies between it and its line, and the words of each start
+-- a program, what stands between it and its line, and the command line of each start
 pub record ExchangeState (P : Type 0) : Type 0 where
   pub program : P
   pub dialogue : DialogueState
@@ -28,7 +28,7 @@ IsToldWhereTold acts e =
 abbrev pub IsDrainedWhereTold : {P : Type 0} → (P → Option (List ToldAct)) → ExchangeState P → Type 0
 IsDrainedWhereTold acts e = MatchOption (acts e.program) ⊤ (λ told. IsDrained (ledger_of told).running)
 
--- how often its program may be started, and by which words, stay
+-- how often its program may be started, and its command line stay
 pub record SameOrders {P : Type 0} (before after : ExchangeState P) : Type 0 where
   pub restarts : after.dialogue.starts.restarts ≡ before.dialogue.starts.restarts
   pub words : after.words ≡ before.words
@@ -38,14 +38,14 @@ abbrev pub lines_of : Option LineChange → List (List ℕ)
 lines_of None = []
 lines_of (Some change) = text_of change ∷ []
 
--- the start that is tried at a moment: one if none runs and one may come
+-- the start that is tried at a moment: one, if no program runs and one may come
 abbrev pub order_at : DialogueState → List (List ℕ) → ℕ → List Order
 order_at d words at = if not (is_some d.running) && may_come d.starts at then record { at = at; words = words } ∷ [] else []
 
--- how many starts were tried after a moment at which one is tried if none runs and one may come
+-- how many starts were tried after a moment at which one is tried, if no program runs and one may come
 abbrev pub tried_after : DialogueState → ℕ → ℕ
 tried_after d at = if not (is_some d.running) && may_come d.starts at then d.starts.tried + 1 else d.starts.tried
 
--- Failed where no program runs that takes lines, and no start is left
+-- Failed if no program runs that takes lines, and no start is left
 abbrev pub hook_answer : DialogueState → Put
 hook_answer d = if is_open d.running || is_left d.starts then put.Done else put.Failed

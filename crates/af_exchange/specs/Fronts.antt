@@ -12,7 +12,7 @@ abbrev pub SaysMore : List LineChange → ℕ → List ℕ → Type 0
 SaysMore more count bytes =
     (1 ≤ count) × (count ≤ length bytes) × ((changes : List LineChange) → fold after_byte (at_line changes []) (take count bytes) ≡ at_line (changes ++ more) [])
 
--- no change is in them, and they are at fault or not
+-- no change is in them, and they are malformed or not
 abbrev pub SaysNoMore : Bool → List ℕ → Type 0
 SaysNoMore is_fault bytes = (changes : List LineChange) →
     ((fold after_byte (at_line changes []) bytes).changes ≡ changes) × ((fold after_byte (at_line changes []) bytes).is_fault ≡ is_fault)

@@ -1,5 +1,6 @@
--- What each program of a line gave and was handed, as the acts tell it. A change that was given is told as the sound that a device
--- captures, and a hook call as the sound that it emits: by their lines. Of the starts and the past programs the latest stands first.
+-- What each program of a line gave and was handed, by the acts. A change that was given is noted as the sound that a device
+-- captures, and a hook call as the sound that it emits: by their lines. In the lists of starts and of past programs the latest
+-- stands first.
 use Rattle.std.specs.Prelude.{ℕ, List, [], ◌∷◌, ◌++◌, codes}
 use Rattle.std.specs.List.{fold}
 use Rattle.std.specs.declared.option.Option.{Option}
@@ -7,18 +8,18 @@ use Rattle.std.specs.declared.option.Option.TheVariants.{None, Some}
 use Rattle.af_io.specs.Observed.{Appended}
 use Rattle.af_program.specs.declared.program.Launched.TheVariants as launch
 use Rattle.af_program.specs.Acts.{ToldAct, launched, gave, took, ended, captured, emitted}
-use Rattle.af_program.specs.Waits.{Start, starts_ended}
+use Rattle.af_program.specs.Waits.{Start, starts_after_end}
 
--- While one program ran: the bytes that it gave and those that it took; the lines of the changes that were given meanwhile; and the lines
--- that it is to be handed, in order: the hook as it was at its start, and each call.
+-- While one program ran: the bytes that it gave and those that it took; the lines of the changes that were given meanwhile; and
+-- the lines that it is to be handed, in order: the hook as it was at its start, and each call.
 pub record Run : Type 0 where
   pub given : List ℕ
   pub taken : List ℕ
   pub changes : List (List ℕ)
   pub told : List ℕ
 
--- the program that runs, those that ran, the lines of changes that were given while none ran, the line of the hook as it is, and all starts
--- that were tried
+-- the program that runs, those that ran, the lines of changes that were given while none ran, the line of the hook as it is, and
+-- all starts that were tried
 pub record Ledger : Type 0 where
   pub running : Option Run
   pub past : List Run
@@ -41,7 +42,7 @@ ledger_begun l at = record l { running = Some (new_run l.hook); starts = record 
 abbrev pub ledger_failed : Ledger → ℕ → Ledger
 ledger_failed l at = record l { starts = record { began = at; ended = Some at } ∷ l.starts }
 
--- what a run comes to where one is there
+-- a run after a give, if there is one
 abbrev pub ledger_gave : Option Run → Ledger → List ℕ → Ledger
 ledger_gave None l bytes = l
 ledger_gave (Some run) l bytes = record l { running = Some (record run { given = run.given ++ bytes }) }
@@ -60,7 +61,7 @@ ledger_called (Some run) l line = record l { running = Some (record run { told =
 
 abbrev pub ledger_ended : Option Run → Ledger → ℕ → Ledger
 ledger_ended None l at = l
-ledger_ended (Some run) l at = record l { running = None; past = run ∷ l.past; starts = starts_ended l.starts at }
+ledger_ended (Some run) l at = record l { running = None; past = run ∷ l.past; starts = starts_after_end l.starts at }
 
 -- after an act
 abbrev pub ledger_after : Ledger → ToldAct → Ledger
@@ -122,7 +123,7 @@ abbrev pub orders_told : Option (List ToldAct) → Option (List Order)
 orders_told None = None
 orders_told (Some acts) = Some (orders_in acts)
 
--- if the acts are observed, these changes, hook calls and starts are told more, and no others
+-- if the acts are observable, they have these further changes, hook calls and starts, and no others
 pub record Notes (given called : List (List ℕ)) (started : List Order) (acts acts' : Option (List ToldAct)) : Type 0 where
   pub changes : Appended (changes_told acts) given (changes_told acts')
   pub calls : Appended (calls_told acts) called (calls_told acts')

@@ -1,4 +1,4 @@
--- What a program writes as changes of the line, and what it is handed of the hook.
+-- Which changes of the line a program writes, and what it is handed of the hook.
 use Rattle.std.specs.Prelude.{◌≡◌, ⊤, ℕ, ◌==◌, nat_lt, nat_le, ◌&&◌, Bool, true, false, if◌then◌else◌, List, [], ◌∷◌, ◌++◌, length, take, drop, codes, bytes_eq}
 use Rattle.std.specs.List.{fold}
 use Rattle.std.specs.declared.option.Option.{Option}
@@ -14,7 +14,7 @@ use Rattle.af_exchange.specs.declared.line.Said.TheVariants as says
 abbrev pub longest_line : ℕ
 longest_line = 64
 
--- the digit that stands alone
+-- a single digit
 abbrev pub digit_in : List ℕ → Option LineChange
 digit_in [] = None
 digit_in (code ∷ []) = if is_digit code then Some (Digit code) else None
@@ -34,7 +34,7 @@ abbrev pub said_by : Option LineChange → Said
 said_by None = says.Fault
 said_by (Some change) = says.Change change
 
--- what a line says, without its LF: one that begins with `#` nothing; any other line that says no change is at fault
+-- what a line says, without its LF: one that begins with `#` says nothing; any other line without a change is malformed
 abbrev pub said_of : List ℕ → Said
 said_of line = if is_comment line then says.Comment else said_by (change_of line)
 
@@ -51,13 +51,13 @@ text_of (Current true) = codes "loop on"
 text_of (Current false) = codes "loop off"
 text_of (Digit code) = codes "digit " ++ (code ∷ [])
 
--- the line that says how the hook is, off or on
+-- the line for the hook, off or on
 abbrev pub hook_text : Bool → List ℕ
 hook_text true = codes "offhook\n"
 hook_text false = codes "onhook\n"
 
--- What bytes come to: the changes that they say, the line that has begun, and whether a line is at fault. None that comes after that says
--- anything.
+-- What bytes come to: the changes that they say, the line that has begun, and whether a line is malformed. No line after that
+-- says anything.
 pub record Reading : Type 0 where
   pub changes : List LineChange
   pub line : List ℕ

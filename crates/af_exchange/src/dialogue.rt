@@ -1,4 +1,4 @@
-// What lies between a line and its program.
+// What stands between a line and its program: bytes each way, and the hook.
 ghost use Rattle.std.specs.Prelude.{◌≡◌, ◌↔◌, ◌≤◌, ◌+◌, [], ◌∷◌, true, is_some, List, IfOk};
 ghost use Rattle.std.specs.declared.option.Option.{Option};
 ghost use Rattle.std.specs.declared.option.Option.TheVariants.{None, Some};
@@ -24,8 +24,8 @@ use std::marker::Model;
 /// So many bytes of a program, or for one, are kept at most.
 const MOST_BYTES: usize = 4096;
 
-/// What lies between a line and its program: what the program gave and was not read, what it is owed, and how the hook is. Beside these
-/// it has the program that runs, and how often one was started.
+/// What stands between a line and its program: what the program gave and was not read, what it is owed, and the state of the
+/// hook. Beside these it has the program that runs, and how often one was started.
 #[derive(Drop)]
 pub(crate) struct Dialogue {
     starts: Starts,
@@ -139,8 +139,8 @@ impl Dialogue {
         self.starts
     }
 
-    /// The hook is off now, or on. A program that runs and takes lines is owed its line. Where there is no room for it the program took
-    /// nothing for so long that it is to be ended.
+    /// The hook is off now, or on. A program that runs and takes lines is owed its line. Where there is no room for it the
+    /// program took nothing for so long that it is to be ended.
     pub(crate) fn call<P: Program>(&mut self, program: &mut P, off: bool)
         requires fits { Accounts self.old (P.acts program.old) }
         ensures fits { Accounts self.new (P.acts program.new) }

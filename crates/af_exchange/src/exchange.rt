@@ -1,4 +1,4 @@
-// The program that stands for the exchange of a telephone line.
+// The program that is the exchange of a telephone line.
 ghost use Rattle.std.specs.Prelude.{◌≡◌, ◌↔◌, ◌≤◌, ◌+◌, ◌-◌, [], ◌∷◌, true, false, is_some, IfOk, IfSome};
 ghost use Rattle.std.specs.declared.option.Option.TheVariants.{None, Some};
 ghost use Rattle.arrayvec.specs.ArrayVec.{array_vec_len};
@@ -24,8 +24,8 @@ use af_time::OutOfMemory;
 use std::alloc::Global;
 use std::marker::Model;
 
-/// The program that stands for the exchange of a telephone line, with all that lies between it and the line. Moments are nanoseconds of a
-/// clock, and never go back. No call waits.
+/// The program that is the exchange of a telephone line, with all that stands between it and the line. Moments are nanoseconds of
+/// a clock, and never go back. No call blocks.
 #[derive(Drop)]
 pub struct Exchange<P: Program + Drop> {
     alloc: Global,
@@ -53,8 +53,8 @@ impl<P: Program + Drop> Model for Exchange<P> {
 }
 
 impl<P: Program + Drop> Exchange<P> {
-    /// An exchange over a program that tells of no act, with the phone on its hook. It is started by these words, and so many times again at
-    /// most. All memory is taken here, but for what a start takes.
+    /// An exchange over a program with no acts so far, with the phone on its hook. It is started by this command line, and at
+    /// most so many times again. All memory is taken here, except what a start takes.
     pub fn new(
         alloc: Global,
         program: P,
@@ -93,8 +93,9 @@ impl<P: Program + Drop> Exchange<P> {
         )
     }
 
-    /// The next change of the line, if the program gave one. Where none runs it is started again, if a start may come at this moment. A
-    /// program that is at fault, or gives or takes nothing any more, is ended, once all changes that it gave were given.
+    /// The next change of the line, if the program gave one. Where none runs it is started again, if a start may come at this
+    /// moment. A program that is at fault, or gives or takes nothing any more, is ended, once all changes that it gave were
+    /// given.
     pub fn next_change(&mut self, at: u64) -> Option<LineChange>
         ensures told { IsToldWhereTold P.acts self.new }
         ensures notes { Notes (lines_of result) [] (order_at self.old.dialogue self.old.words at) (P.acts self.old.program) (P.acts self.new.program) }
@@ -230,7 +231,8 @@ fn next_of<P: Program>(dialogue: &mut Dialogue, program: &mut P, at: u64) -> Opt
     }
 }
 
-/// What stands first in what a program gave, once comments are passed over. Where that is a part of a line, the program is asked for more.
+/// What stands first in what a program gave, once comments are skipped. If that is a part of a line, the program is asked for
+/// more.
 fn first_of<P: Program>(dialogue: &mut Dialogue, program: &mut P) -> Front
     requires fits { Accounts dialogue.old (P.acts program.old) }
     ensures fits { Accounts dialogue.new (P.acts program.new) }

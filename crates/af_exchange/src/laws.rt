@@ -10,8 +10,9 @@ ghost use Rattle.af_phone.specs.Lines.{is_change};
 ghost use Rattle.af_exchange.specs.Lines.{after_byte, at_line, at_fault, changes_of, said_of, text_of, IsFront};
 ghost use Rattle.af_exchange.specs.declared.line.Said.{Said};
 
-/// Small runs. A line that came in two pieces says one change, and a comment none. Two lines say two changes. Where a line between two
-/// changes is at fault, the first is said alone. A last line without its LF says nothing so far. 64 bytes are a line, and 65 are at fault.
+/// Small runs. A line that came in two pieces says one change, and a comment none. Two lines say two changes. Where a line
+/// between two changes is at fault, the first is said alone. A last line without its LF says nothing so far. 64 bytes are a line,
+/// and 65 are at fault.
 pub fn lines_are_read_as_changes()
     ensures piece { changes_of (codes "digi") ≡ at_line [] (codes "digi") }
     ensures pieces { fold after_byte (changes_of (codes "digi")) (codes "t #\n") ≡ at_line (LineChange.Digit 35 ∷ []) [] }
@@ -40,8 +41,8 @@ pub fn a_line_says_its_change()
     ensures { (change : LineChange) → is_change change ≡ true → said_of (text_of change) ≡ Said.Change change }
 {}
 
-/// A small run of acts, sorted by program: one is told the hook at its start and a call, gives a change in two pieces, takes the second line
-/// in part, and ends. The hook is moved once more, and the next start fails.
+/// A small run of acts, sorted by program: one is told the hook at its start and a call, gives a change in two pieces, takes the
+/// second line in part, and ends. The hook is moved once more, and the next start fails.
 pub fn acts_are_sorted_by_program()
     ensures { ledger_of (launched 0 [] Launched.Runs ∷ took (codes "onhook\n") ∷ gave (codes "ring") ∷ emitted (codes "offhook\n") ∷ gave (codes " on\n")
         ∷ captured (codes "ring on") ∷ took (codes "offh") ∷ ended 5 ∷ emitted (codes "onhook\n") ∷ launched 9 [] Launched.Failed ∷ [])

@@ -1,4 +1,4 @@
-//! The program that stands for the exchange of a telephone line: it says what changes on the line, and is told each hook call.
+//! The program that is the exchange of a telephone line: it says what changes on the line, and is told each hook call.
 #![tactic(auto)]
 
 mod dialogue;

@@ -22,7 +22,8 @@ pub(crate) enum Said {
     Fault,
 }
 
-/// What stands first in the bytes of a program: a comment or a change, with so many bytes; a line that is at fault; or a part of a line.
+/// What stands first in the bytes of a program: a comment or a change, with so many bytes; a line that is at fault; or a part of
+/// a line.
 #[derive(Clone, Copy)]
 pub(crate) enum Front {
     Comment(usize),

@@ -1,11 +1,11 @@
 // What is known of a program that runs.
 ghost use Rattle.std.specs.Prelude.{◌≡◌};
-ghost use Rattle.af_exchange.specs.Dialogue.{running_begun, after_take, after_give};
+ghost use Rattle.af_exchange.specs.Dialogue.{running_since, after_take, after_give};
 
 use af_program::{Gave, Took};
 
-/// A program that runs: when it was started, in nanoseconds; whether it takes nothing any more, or took nothing for so long that nothing
-/// more is kept for it; and whether it gives nothing any more.
+/// A program that runs: when it was started, in nanoseconds; whether it takes nothing any more, or took nothing for so long that
+/// nothing more is kept for it; and whether it gives nothing any more.
 #[derive(Clone, Copy)]
 pub(crate) struct Running {
     pub(crate) began: u64,
@@ -16,7 +16,7 @@ pub(crate) struct Running {
 impl Running {
     /// A program that is started now.
     pub(crate) fn begun(at: u64) -> Running
-        ensures { result ≡ running_begun at }
+        ensures { result ≡ running_since at }
     {
         Running {
             began: at,

@@ -1,4 +1,4 @@
--- Lists that are appended to or unchanged, if they are observed.
+-- Lists that are appended to or unchanged, if they are observable.
 use Rattle.std.proofs.Common.{List, [], ◌++◌, refl, sym, ap, ◌∙◌, append_assoc, append-nil}
 use Rattle.std.specs.declared.option.Option.{Option}
 use Rattle.std.specs.declared.option.Option.TheVariants.{None, Some}

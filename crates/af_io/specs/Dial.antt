@@ -11,13 +11,13 @@ pub record ToldLink : Type 0 where
   pub gives : List ℕ
   pub sent : List ℕ
 
--- the first of the links that were told of was given
+-- the first of the observable links was given
 abbrev pub IsFirstOf : {F : Type 0} → (F → Option (List ℕ)) → (F → Option (List ℕ)) → F → Option (List ToldLink) → Option (List ToldLink) → Type 0
 IsFirstOf left sent far None after = after ≡ None
 IsFirstOf left sent far (Some []) after = ⊥
 IsFirstOf left sent far (Some (link ∷ links)) after = (left far ≡ Some link.gives) × (sent far ≡ Some link.sent) × (after ≡ Some links)
 
--- if the links that it will give are observed, it gives the first of them
+-- if the links that it will give are observable, it gives the first of them
 abbrev pub GivesNext : {F : Type 0} → (F → Option (List ℕ)) → (F → Option (List ℕ)) → Dialed F → Option (List ToldLink) → Option (List ToldLink) → Type 0
 GivesNext left sent (dialed.Far far) before after = IsFirstOf left sent far before after
 GivesNext left sent dialed.Failed before after = after ≡ before
@@ -28,18 +28,18 @@ abbrev pub IsUnhurt : {F : Type 0} → (F → ℕ) → Dialed F → Type 0
 IsUnhurt faults (dialed.Far far) = faults far ≡ 0
 IsUnhurt faults _ = ⊤
 
--- if the links that were given back are observed, the entry of this one was added: what it had been sent
+-- if the links that were given back are observable, this one was added: what it had been sent
 abbrev pub AppendedBack : Option (List (List ℕ)) → Option (List ℕ) → Option (List (List ℕ)) → Type 0
 AppendedBack before None after = after ≡ None
 AppendedBack before (Some sent) after = Appended before (sent ∷ []) after
 
--- the count of hurt links rises exactly where the link that is given back has failed
+-- the count of failed links rises exactly if the link that is given back has failed
 pub record CountsHurt (faults before after : ℕ) : Type 0 where
   pub hurt : 0 < faults → FaultCounted before after
   pub unhurt : faults ≡ 0 → after ≡ before
   pub count : before ≤ after
 
--- a dial that tells nothing: how many dials have failed, and how many links had failed
+-- a dial that is not observable: how many dials have failed, and how many links had failed
 pub record DialCounts : Type 0 where
   pub faults : ℕ
   pub hurt : ℕ

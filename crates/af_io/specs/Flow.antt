@@ -8,7 +8,7 @@ use Rattle.af_io.specs.declared.flow.Put.{Put}
 use Rattle.af_io.specs.declared.flow.Put.TheVariants as put
 use Rattle.af_io.specs.Observed.{Consumed, Appended}
 
--- the bytes that a read gave, of the slice that was read into
+-- the bytes that a read put into the slice
 abbrev pub given_of : Got → List ℕ → List ℕ
 given_of (got.Bytes n) into = take n into
 given_of got.Ended into = []
@@ -19,7 +19,7 @@ abbrev pub IsSpent : Option (List ℕ) → Type 0
 IsSpent None = Unit {0}
 IsSpent (Some left) = left ≡ []
 
--- a read gives at least one byte and at most as many as there is room for, and it is Ended where none is left
+-- a read gives at least one byte and at most as many as there is room for; it is Ended if none is left
 abbrev pub GotFits : Got → ℕ → Option (List ℕ) → Type 0
 GotFits (got.Bytes n) room left = (1 ≤ n) × (n ≤ room)
 GotFits got.Ended room left = IsSpent left

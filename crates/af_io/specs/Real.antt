@@ -1,4 +1,4 @@
--- What sources over readers and sinks over writers do to the bytes that std's traits tell of.
+-- What sources over readers and sinks over writers do to the bytes that std's traits make observable.
 use Rattle.std.specs.Prelude.{◌≡◌, ℕ, ◌≤◌, List, length, take, ◌++◌}
 use Rattle.std.specs.declared.option.Option.{Option}
 use Rattle.std.specs.Io.KnownBytes.{Keeps, Appends, Consumes, IsAtEnd}
@@ -7,7 +7,7 @@ use Rattle.af_io.specs.declared.flow.Got.TheVariants as got
 use Rattle.af_io.specs.declared.flow.Put.{Put}
 use Rattle.af_io.specs.declared.flow.Put.TheVariants as put
 
--- a source over a reader: the bytes that are left for the reader to give, if they are known, and how many reads have failed
+-- a source over a reader: the bytes that the reader has left to give, if they are known, and how many reads have failed
 pub record ReaderState : Type 0 where
   pub remaining : Option (List ℕ)
   pub faults : ℕ
@@ -17,14 +17,14 @@ pub record WriterState : Type 0 where
   pub contents : Option (List ℕ)
   pub faults : ℕ
 
--- a link over a stream: the bytes that are left for the stream to give and those that it took, if they are known, and how many
--- calls have failed
+-- a link over a stream: the bytes that the stream has left to give and those that it took, if they are known, and how many calls
+-- have failed
 pub record StreamState : Type 0 where
   pub remaining : Option (List ℕ)
   pub contents : Option (List ℕ)
   pub faults : ℕ
 
--- a read gives just what the reader gave, is Ended where the reader is at its end, and loses nothing where it fails
+-- a read gives just what the reader gave, is Ended if the reader is at its end, and loses nothing if it fails
 abbrev pub ReadsOn : Got → Option (List ℕ) → List ℕ → Option (List ℕ) → Type 0
 ReadsOn (got.Bytes n) before into after = (1 ≤ n) × (n ≤ length into) × Consumes before after (take n into)
 ReadsOn got.Ended before into after = Keeps before after × IsAtEnd after
@@ -37,7 +37,7 @@ pub record AppendsPrefix (before : Option (List ℕ)) (piece : List ℕ) (after 
   pub whole : piece ≡ front ++ rest
   pub appends : Appends before after front
 
--- a write hands the whole piece to the writer, and a prefix of it where it fails
+-- a write hands the whole piece to the writer, or a prefix of it if it fails
 abbrev pub WritesOn : Put → Option (List ℕ) → List ℕ → Option (List ℕ) → Type 0
 WritesOn put.Done before piece after = Appends before after piece
 WritesOn put.Failed before piece after = AppendsPrefix before piece after

@@ -1,4 +1,4 @@
-// The words of a command line, which contracts see as a list of words, each a list of bytes.
+// The arguments of a program, which contracts see as a list of words, each a list of bytes.
 ghost use Rattle.std.specs.Prelude.{◌≡◌, ◌++◌, [], ◌∷◌, length, map, option_map, slice_get, string_bytes, OnOk, OnErr};
 
 use af_time::OutOfMemory;
@@ -56,7 +56,7 @@ impl Args {
         self.words.as_slice()
     }
 
-    /// The word at a place, counted from 0, or None exactly where the place is not below the length.
+    /// The word at a place, counted from 0. None exactly if the place is not below the length.
     pub fn word(&self, place: usize) -> Option<&str>
         ensures { option_map (λ word. word.now) result ≡ slice_get self.now place }
     {
@@ -67,7 +67,7 @@ impl Args {
     }
 }
 
-/// Why the words of a program were not had.
+/// Why the arguments of a program could not be read.
 #[derive(Clone, Copy, Debug, PartialEq, Eq)]
 pub enum WordsFault {
     /// A word is not UTF-8.

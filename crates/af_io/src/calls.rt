@@ -1,6 +1,6 @@
-// The calls of what is in memory, of which those fail whose numbers are listed.
+// The calls of something in memory. Those whose numbers are listed fail.
 ghost use Rattle.std.specs.Prelude.{◌≡◌, ◌↔◌, Contains, IsTrue};
-ghost use Rattle.af_io.specs.Observed.{counted, faults_after};
+ghost use Rattle.af_io.specs.Observed.{next_count, faults_after};
 
 use crate::faults::faults_after;
 
@@ -26,7 +26,7 @@ impl Calls {
     /// Counts a call, and says whether it fails, since its number is listed.
     pub(crate) fn next_fails(&mut self, fails: &[u64]) -> bool
         ensures fails { IsTrue result ↔ Contains fails.now self.old.number }
-        ensures number { self.new.number ≡ counted self.old.number }
+        ensures number { self.new.number ≡ next_count self.old.number }
         ensures faults { self.new.faults ≡ faults_after self.old.faults result }
     {
         let fails = fails.contains(&self.number);
@@ -38,7 +38,7 @@ impl Calls {
     /// The call that was counted last fails, though its number is not listed.
     pub(crate) fn fail(&mut self)
         ensures number { self.new.number ≡ self.old.number }
-        ensures faults { self.new.faults ≡ counted self.old.faults }
+        ensures faults { self.new.faults ≡ next_count self.old.faults }
     {
         self.faults = faults_after(self.faults, true);
     }

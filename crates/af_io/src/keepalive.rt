@@ -1,11 +1,11 @@
-// How a link notices that its other side is gone without an end, as a machine that lost its power.
+// How a link notices that its other side is gone without a close, as after a power failure.
 use libc::net as c;
 use std::os::fd::AsRawFd;
 
 /// For how many seconds a link is silent before the other side is asked whether it is there.
 const SILENT_SECONDS: i32 = 60;
 
-/// How many seconds lie between two questions.
+/// How many seconds there are between two questions.
 const SECONDS_BETWEEN: i32 = 15;
 
 /// How many questions may stay without an answer.
@@ -14,8 +14,8 @@ const MOST_UNANSWERED: i32 = 3;
 /// For how many milliseconds what was sent, or asked, may stay without an answer.
 const UNANSWERED_MILLIS: i32 = 100_000;
 
-/// Has the system end a connection whose other side has answered nothing for two minutes at most: its reads and writes fail then. Where
-/// the system refuses an option, the connection goes on without it.
+/// Has the system end a connection whose other side has answered nothing for two minutes at most: its reads and writes fail then.
+/// Where the system refuses an option, the connection goes on without it.
 pub fn keep_alive<S: AsRawFd>(stream: &S) {
     let fd = stream.as_raw_fd();
     let tcp = c::IPPROTO_TCP;

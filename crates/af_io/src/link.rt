@@ -18,7 +18,7 @@ pub trait Link {
     /// How often a read or a write has failed.
     ghost faults: { Self → ℕ };
 
-    /// Reads at least one byte, or answers Ended exactly where none is left.
+    /// Reads at least one byte, or answers Ended exactly if none is left.
     fn read(&mut self, into: &mut [u8]) -> Got
         requires { 0 < length into.old }
         ensures consumed { Consumed (left self.old) (given_of result into.new) (left self.new) }

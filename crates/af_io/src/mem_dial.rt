@@ -2,10 +2,10 @@
 ghost use Rattle.std.specs.Prelude.{◌≡◌, ◌≢◌, ◌≤◌, ◌<◌, ◌+◌, ◌↔◌, ℕ, [], ◌∷◌, ◌++◌, length, map, option_map, slice_get, true, false, Bool, IfSome, IsSome, IsTrue};
 ghost use Rattle.std.specs.declared.option.Option.TheVariants.{Some, None};
 ghost use Rattle.af_limits.specs.Limits.{longest_address};
-ghost use Rattle.af_io.specs.Observed.{Appended, CountsOneFault, counted};
+ghost use Rattle.af_io.specs.Observed.{Appended, CountsOneFault, next_count};
 ghost use Rattle.af_io.specs.Link.{MemLinkState};
 ghost use Rattle.af_io.specs.Dial.{CountsHurt, GivesNext, AppendedBack, IsUnhurt};
-ghost use Rattle.af_io.specs.MemDial.{back_of, both_of, hurt_by, told_if, told_link};
+ghost use Rattle.af_io.specs.MemDial.{back_of, both_of, count_after, told_if, told_link};
 
 use crate::faults::faults_after;
 use crate::{Dial, Dialed, Link, MemLink};
@@ -124,7 +124,7 @@ impl Dial for MemDial {
         ensures asked { self.new.asked ≡ self.old.asked }
         ensures back { AppendedBack (back_of self.old) (Some far.sent) (back_of self.new) }
         ensures gives { Some (map told_link self.new.links) ≡ Some (map told_link self.old.links) }
-        ensures counts { self.new.hurt ≡ hurt_by far self.old.hurt }
+        ensures counts { self.new.hurt ≡ count_after far self.old.hurt }
         ensures kept { length self.old.kept < 2 → (self.new.kept ≡ self.old.kept ++ far ∷ []) × (self.new.keeps_all ≡ self.old.keeps_all) }
     {
         self.hurt = faults_after(self.hurt, far.faults() > 0);
@@ -134,7 +134,7 @@ impl Dial for MemDial {
     }
 }
 
-// Notes an address, as long as there is room: whether all are noted so far.
+// Notes an address, if there is room. The answer is whether all are noted so far.
 fn note(
     addresses: &mut ArrayVec<ArrayString<LONGEST_ADDRESS>, 2>,
     tells: bool,
@@ -150,7 +150,7 @@ fn note(
     tells && addresses.try_push(address).is_ok()
 }
 
-// The first link that is there, and the other one stays.
+// Takes the first link, if there is one, and leaves the other.
 fn take_next(first: &mut Option<MemLink>, second: &mut Option<MemLink>) -> Option<MemLink>
     ensures some { IfSome result (λ link. both_of first.old second.old ≡ link ∷ both_of first.new second.new) }
     ensures none { result ≡ None → (both_of first.old second.old ≡ []) × (both_of first.new second.new ≡ []) }
@@ -161,7 +161,7 @@ fn take_next(first: &mut Option<MemLink>, second: &mut Option<MemLink>) -> Optio
     }
 }
 
-// Keeps a link where there is room for it.
+// Keeps a link, if there is room for it.
 fn keep(kept: &mut Option<MemLink>, later: &mut Option<MemLink>, far: MemLink) -> bool
     requires { kept.old ≡ None → later.old ≡ None }
     ensures done { IsTrue result → both_of kept.new later.new ≡ both_of kept.old later.old ++ far ∷ [] }

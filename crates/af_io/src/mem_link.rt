@@ -1,7 +1,7 @@
-// A link in memory, of which chosen calls fail.
+// A link in memory, whose calls fail as listed.
 ghost use Rattle.std.specs.Prelude.{◌≡◌, ◌≤◌, ◌<◌, ◌+◌, ◌↔◌, ◌⊎◌, ℕ, [], ◌++◌, length, min, Contains, IfOk, IsSome, vec_capacity};
 ghost use Rattle.std.specs.declared.option.Option.TheVariants.{Some};
-ghost use Rattle.af_io.specs.Observed.{Consumed, CountsOneFault, counted};
+ghost use Rattle.af_io.specs.Observed.{Consumed, CountsOneFault, next_count};
 ghost use Rattle.af_io.specs.Flow.{given_of, GotFits, Written};
 
 use crate::bytes::copy_first;
@@ -104,7 +104,7 @@ impl Link for MemLink {
         ensures failed { (result ≡ Got.Failed) ↔ Contains self.old.fails self.old.calls }
         ensures whole { (n : ℕ) → result ≡ Got.Bytes n
             → n ≡ min (min self.old.piece (length into.new)) (length self.old.left) }
-        ensures calls { self.new.calls ≡ counted self.old.calls }
+        ensures calls { self.new.calls ≡ next_count self.old.calls }
         ensures rest { self.new
             ≡ record self.old { left = self.new.left; calls = self.new.calls; faults = self.new.faults } }
     {
@@ -129,7 +129,7 @@ impl Link for MemLink {
         ensures failed { (result ≡ Put.Failed)
             ↔ (Contains self.old.fails self.old.calls ⊎ (self.old.room < length self.old.sent + length piece.now)) }
         ensures nothing { result ≡ Put.Failed → self.new.sent ≡ self.old.sent }
-        ensures calls { self.new.calls ≡ counted self.old.calls }
+        ensures calls { self.new.calls ≡ next_count self.old.calls }
         ensures rest { self.new
             ≡ record self.old { sent = self.new.sent; calls = self.new.calls; faults = self.new.faults } }
     {

@@ -1,7 +1,7 @@
-// A source and a sink in memory, of which chosen calls fail.
+// A source and a sink in memory, whose calls fail as listed.
 ghost use Rattle.std.specs.Prelude.{◌≡◌, ◌≤◌, ◌<◌, ◌+◌, ◌↔◌, ◌⊎◌, ℕ, [], length, min, Contains};
 ghost use Rattle.std.specs.declared.option.Option.TheVariants.{Some};
-ghost use Rattle.af_io.specs.Observed.{Consumed, CountsOneFault, counted};
+ghost use Rattle.af_io.specs.Observed.{Consumed, CountsOneFault, next_count};
 ghost use Rattle.af_io.specs.Flow.{given_of, GotFits, Written};
 
 use crate::bytes::copy_first;
@@ -70,7 +70,7 @@ impl<'a> Source for MemSource<'a> {
         ensures failed { (result ≡ Got.Failed) ↔ Contains self.old.fails self.old.calls }
         ensures whole { (n : ℕ) → result ≡ Got.Bytes n
             → n ≡ min (min self.old.piece (length into.new)) (length self.old.left) }
-        ensures calls { self.new.calls ≡ counted self.old.calls }
+        ensures calls { self.new.calls ≡ next_count self.old.calls }
         ensures rest { self.new
             ≡ record self.old { left = self.new.left; calls = self.new.calls; faults = self.new.faults } }
     {
@@ -149,7 +149,7 @@ impl<'a> Sink for MemSink<'a> {
         ensures failed { (result ≡ Put.Failed)
             ↔ (Contains self.old.fails self.old.calls ⊎ (self.old.size < length self.old.held + length piece.now)) }
         ensures nothing { result ≡ Put.Failed → self.new.held ≡ self.old.held }
-        ensures calls { self.new.calls ≡ counted self.old.calls }
+        ensures calls { self.new.calls ≡ next_count self.old.calls }
         ensures rest { self.new
             ≡ record self.old { held = self.new.held; calls = self.new.calls; faults = self.new.faults } }
     {

@@ -1,4 +1,4 @@
-// Sources and sinks over std's readers and writers, which tell no content and count their faults.
+// Sources and sinks over std's readers and writers. Their content is not observable, and their faults are counted.
 ghost use Rattle.std.specs.Prelude.{◌≡◌, ◌≤◌, ◌<◌, length, take, MatchOption};
 ghost use Rattle.std.specs.declared.option.Option.TheVariants.{None};
 ghost use Rattle.std.specs.Io.KnownBytes.{Appends, Keeps};
@@ -11,7 +11,7 @@ use crate::{Got, Put, Reason, Sink, Source};
 use std::io::{ErrorKind, Read, Write};
 use std::marker::Model;
 
-// A call, and at most 1000 more where it is interrupted.
+// A call, and at most 1000 more if it is interrupted.
 const ATTEMPTS: u32 = 1001;
 
 /// A source over any reader. An interrupted read is made again, at most 1000 times, and then it is a fault, as every
@@ -137,8 +137,8 @@ pub fn read_some<R: Read>(reader: &mut R, into: &mut [u8], reason: &mut Option<R
     Got::Failed
 }
 
-// A write of a first part of a piece, made again where it is interrupted. None where it failed, which writes nothing, and
-// the reason is kept.
+// Writes a first part of a piece, and tries again if interrupted. None means that it failed and wrote nothing. The reason is
+// kept.
 fn write_some<W: Write>(writer: &mut W, piece: &[u8], reason: &mut Option<Reason>) -> Option<usize>
     ensures { MatchOption result (Keeps (W.contents writer.old) (W.contents writer.new))
         (λ count. (1 ≤ count) × (count ≤ length piece.now)

@@ -4,7 +4,7 @@ use std::fmt;
 use std::fmt::{Formatter, Write};
 use std::io::{Error, ErrorKind};
 
-// The words of a system's error have at most 256 bytes, and its number behind them at most 24.
+// A system's error has at most 256 bytes of text, and its number after them at most 24.
 const LONGEST_TEXT: usize = 288;
 
 /// Why the system refused a call. It is written in the system's words, as `Address already in use`, without the number of

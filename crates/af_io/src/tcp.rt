@@ -1,8 +1,8 @@
-// Links over TCP, which tell no content, pass on what their streams give and take, and count their faults.
+// Links over TCP. They pass on what their streams give and take, and count their faults. Their content is not observable.
 ghost use Rattle.std.specs.Prelude.{◌≡◌, ◌≤◌, ◌<◌, ℕ, ◌∷◌, [], length, IsSome};
 ghost use Rattle.std.specs.declared.option.Option.TheVariants.{None};
 ghost use Rattle.af_limits.specs.Limits.{longest_address};
-ghost use Rattle.af_io.specs.Observed.{Consumed, Appended, CountsOneFault, counted};
+ghost use Rattle.af_io.specs.Observed.{Consumed, Appended, CountsOneFault, next_count};
 ghost use Rattle.af_io.specs.Flow.{given_of, GotFits, Written};
 ghost use Rattle.af_io.specs.Real.{ReadsOn, WritesOn};
 ghost use Rattle.af_io.specs.Dial.{CountsHurt, GivesNext, AppendedBack, IsUnhurt};
@@ -126,7 +126,7 @@ impl<R: Net + Drop> Dial for TcpDial<R> {
     {
         match TcpStream::connect(&self.rt, address) {
             Ok(stream) => {
-                // A request is to leave at once. Where the system refuses that, it leaves later.
+                // A request is to leave at once. If the system refuses that, it leaves later.
                 let _ = stream.set_nodelay(true);
                 keep_alive(&stream);
                 Dialed::Far(TcpLink {

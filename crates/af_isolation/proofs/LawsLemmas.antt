@@ -11,7 +11,7 @@ use Rattle.af_model.proofs.PrefixLawLemmas.{takes_in_order}
 use Rattle.af_isolation.specs.Laws.{KeepsLaws}
 use Rattle.af_isolation.proofs.RunWithoutLemmas.{isolates_links}
 
--- where none is known to have lost a sample
+-- if no sample is known to be lost
 pub keeps_laws : (config : List DeviceSpec) (log : Log) → RunLosesNone config log → KeepsLaws config log
 keeps_laws config log loses_none = record {
   takes_in_order = takes_in_order config log;

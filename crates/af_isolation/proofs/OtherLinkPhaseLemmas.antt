@@ -10,13 +10,13 @@ use Rattle.af_world.specs.Log.{Log}
 use Rattle.af_world.specs.Outside.{same_bytes}
 use Rattle.af_model.specs.State.{EnvironmentState, OpenLink, SlotLink, link_in_slot}
 use Rattle.af_model.specs.Waiting.{has_deferral}
-use Rattle.af_model.specs.Turn.{Parsed, accept, parse_then, and_then, parse_one, wants_read, is_read, read_by, read_phase, after_read, wants_write, write_by, write_offered, write_taken, write_phase, after_write, close_due, close_by, close_for, close_phase, same_why, serve_link}
+use Rattle.af_model.specs.Turn.{Parsed, accept, parse_then, and_then, parse_one, wants_read, is_read, read_by, read_phase, after_read, wants_write, write_by, after_bytes_offered, after_bytes_taken, write_phase, after_write, close_due, close_by, close_for, close_phase, same_why, serve_link}
 use Rattle.af_model.proofs.BoolTestLemmas.{both-true, cond-some, none_some, some_is}
 use Rattle.af_model.proofs.PhasePartLemmas.{then_inv}
 use Rattle.af_isolation.specs.Without.{without}
 use Rattle.af_isolation.proofs.OtherLinkLemmas.{after_read_other, after_write_other, dropped_other, environment_without, open_without, slot_without, waits_without}
 
--- Where a phase goes on from a log, another goes on from the log without link k, to what m makes of the state.
+-- If a phase goes on from a log, another goes on from the log without link k, to what m makes of the state.
 abbrev pub Follows : {T : Type 0} → ℕ → (T → T) → (Log → Option (Parsed T)) → (Log → Option (Parsed T)) → Type 0
 Follows {T} k m f g = (log : Log) (b : Parsed T) → f log ≡ Some b → g (without k log) ≡ accept (m b.state) (without k b.log)
 
@@ -87,7 +87,7 @@ module _ (k j : ℕ) (other : (j == k) ≡ false) where
   -- Writes
 
   -- some bytes were taken, or the write failed
-  write_taken_other : (p : OpenLink) (took : Option (List ℕ)) → write_taken j took (open_without k p) ≡ option_map (open_without k) (write_taken j took p)
+  write_taken_other : (p : OpenLink) (took : Option (List ℕ)) → after_bytes_taken j took (open_without k p) ≡ option_map (open_without k) (after_bytes_taken j took p)
   write_taken_other p None = ap (λ q. Some q) (dropped_other k j why.LinkFault p)
   write_taken_other p (Some bytes) =
       elim (same_bytes bytes (take (length bytes) p.link.pending)) as (λ t. cond t (Some (after_write j bytes (open_without k p))) None ≡ option_map (open_without k) (cond t (Some (after_write j bytes p)) None)) [
@@ -96,9 +96,9 @@ module _ (k j : ℕ) (other : (j == k) ≡ false) where
       ]
 
   -- all that waits was offered
-  write_offered_other : (p : OpenLink) (offered : ℕ) (took : Option (List ℕ)) → write_offered j offered took (open_without k p) ≡ option_map (open_without k) (write_offered j offered took p)
+  write_offered_other : (p : OpenLink) (offered : ℕ) (took : Option (List ℕ)) → after_bytes_offered j offered took (open_without k p) ≡ option_map (open_without k) (after_bytes_offered j offered took p)
   write_offered_other p offered took =
-      elim (offered == length p.link.pending) as (λ t. cond t (write_taken j took (open_without k p)) None ≡ option_map (open_without k) (cond t (write_taken j took p) None)) [
+      elim (offered == length p.link.pending) as (λ t. cond t (after_bytes_taken j took (open_without k p)) None ≡ option_map (open_without k) (cond t (after_bytes_taken j took p) None)) [
         | true ↦ write_taken_other p took
         | false ↦ refl
       ]
@@ -106,7 +106,7 @@ module _ (k j : ℕ) (other : (j == k) ≡ false) where
   -- one write
   write_by_other : (p : OpenLink) (h : Happening) → write_by j (open_without k p) h ≡ option_map (open_without k) (write_by j p h)
   write_by_other p (Wrote i offered took) =
-      elim (i == j) as (λ t. cond t (write_offered j offered took (open_without k p)) None ≡ option_map (open_without k) (cond t (write_offered j offered took p) None)) [
+      elim (i == j) as (λ t. cond t (after_bytes_offered j offered took (open_without k p)) None ≡ option_map (open_without k) (cond t (after_bytes_offered j offered took p) None)) [
         | true ↦ write_offered_other p offered took
         | false ↦ refl
       ]
@@ -120,7 +120,7 @@ module _ (k j : ℕ) (other : (j == k) ≡ false) where
   -- it stays in the log without link k
   write_kept : (p : OpenLink) (h : Happening) (q : OpenLink) → write_by j p h ≡ Some q → (log : Log) → without k (h ∷ log) ≡ h ∷ without k log
   write_kept p (Wrote i offered took) q e log =
-      let t = cond-some (i == j) (write_offered j offered took p) q e in
+      let t = cond-some (i == j) (after_bytes_offered j offered took p) q e in
       ap (λ t. cond t (without k log) (Wrote i offered took ∷ without k log)) (is_other i t.0)
   write_kept p (Woke wake) q e log = absurd (none_some e)
   write_kept p (Read i got) q e log = absurd (none_some e)
@@ -129,12 +129,12 @@ module _ (k j : ℕ) (other : (j == k) ≡ false) where
   write_kept p (Emitted d sound done) q e log = refl
   write_kept p (Hooked d off done) q e log = refl
 
-  -- a link that has nothing to send, or is stuck
+  -- a link that has nothing to send, or is blocked
   write_rests : (p : OpenLink) → wants_write p.link ≡ false → (log : Log) → write_phase j p log ≡ accept p log
   write_rests p w [] = ap (λ t. cond t None (accept p [])) w
   write_rests p w (h ∷ log) = ap (λ t. cond t (and_then (write_by j p h) (λ q. write_phase j q log)) (accept p (h ∷ log))) w
 
-  -- behind the last write
+  -- after the last write
   write_done : (p : OpenLink) (log : Log) (b : Parsed OpenLink) → wants_write p.link ≡ false → accept p log ≡ Some b → write_phase j (open_without k p) (without k log) ≡ accept (open_without k b.state) (without k b.log)
   write_done p log b w e = write_rests (open_without k p) w (without k log) ∙ follows_nothing k (open_without k) p log b e
 

@@ -16,10 +16,10 @@ use Rattle.af_wire.specs.declared.event.Event.{Event}
 use Rattle.af_wire.specs.Event.{event_bytes}
 use Rattle.af_model.specs.State.{Completion, DeviceState, Deferral, Deferred, deferred_play, deferred_record, EnvironmentState, LinkState, OpenLink, open_link, say, SlotLink, device_set, with_device, has_acted}
 use Rattle.af_model.specs.Waiting.{wait}
-use Rattle.af_model.specs.Tick.{complete_for, completing}
+use Rattle.af_model.specs.Tick.{complete_for, complete_deferred}
 use Rattle.af_model.specs.Advance.{absorb, advance}
-use Rattle.af_model.specs.Events.{dropped, mask_of, tell_open, tell_selected, without_waiter}
-use Rattle.af_model.specs.Turn.{Parsed, after_read, after_write, close_phase, parse_then, read_phase, sent, serve_link, serve_open, write_by, write_offered, write_phase, write_taken}
+use Rattle.af_model.specs.Events.{drop_link, mask_of, tell_open, tell_selected, without_waiter}
+use Rattle.af_model.specs.Turn.{Parsed, after_read, after_write, close_phase, parse_then, read_phase, send_pending, serve_link, serve_open, write_by, after_bytes_offered, write_phase, after_bytes_taken}
 use Rattle.af_model.proofs.BoolTestLemmas.{cond-some, none_some, same_number, some_is}
 use Rattle.af_model.proofs.DeviceHistoryLemmas.{AllLive, Laters, Later, all_live_refl, later_completing, laters_refl, laters_trans, laters_with, live_laters, now_acted, with_there}
 use Rattle.af_model.proofs.LinkInvariantLemmas.{Keeps, advance_keeps, complete_keeps}
@@ -29,7 +29,7 @@ use Rattle.af_isolation.specs.Without.{acted_on, device_without, without}
 
 -- Who has acted
 
--- who acted on a device goes on to have done so
+-- who acted on a device stays one of its actors
 pub laters_acted : (k : ℕ) (ds es : List DeviceState) → Laters ds es → acted_on k ds ≡ true → acted_on k es ≡ true
 laters_acted k [] es l h = absurd cc
 laters_acted k (d ∷ ds) [] l h = absurd l
@@ -114,18 +114,18 @@ own_keeps k a = record {
     waiting p d deferred (inl acted) = inl acted
     waiting p d deferred (inr same) = inr (same.0, pushed_without (λ (w : Deferral). w.link) k p.environment.waiting (record { link = k; device = d; deferred = deferred }) refl ∙ same.1)
 
--- a request of it that had waited completes
-completing_alike : (k : ℕ) (deferred : Deferred) (device : DeviceState) → (device_without k (completing k deferred device) ≡ device_without k device) ⊎ (has_acted k (completing k deferred device) ≡ true)
+-- a deferred request of link k completes
+completing_alike : (k : ℕ) (deferred : Deferred) (device : DeviceState) → (device_without k (complete_deferred k deferred device) ≡ device_without k device) ⊎ (has_acted k (complete_deferred k deferred device) ≡ true)
 completing_alike k deferred device = alike deferred
   where
     gone : (deferred : Deferred) → filter (λ (c : Completion). not (c.link == k)) (device.completed ++ record { link = k; deferred = deferred; at = device.now } ∷ []) ≡ filter (λ c. not (c.link == k)) device.completed
     gone deferred = pushed_without (λ (c : Completion). c.link) k device.completed (record { link = k; deferred = deferred; at = device.now }) refl
 
-    alike : (deferred : Deferred) → (device_without k (completing k deferred device) ≡ device_without k device) ⊎ (has_acted k (completing k deferred device) ≡ true)
+    alike : (deferred : Deferred) → (device_without k (complete_deferred k deferred device) ≡ device_without k device) ⊎ (has_acted k (complete_deferred k deferred device) ≡ true)
     alike (deferred_record c start frames) = inl (ap (λ l. record device { completed = l }) (gone (deferred_record c start frames)))
     alike (deferred_play quiet start sound preempt) =
         let play : Deferred = deferred_play quiet start sound preempt in
-        let done : Bool → DeviceState = λ b. record (completing k play device) { accepted = cond b device.accepted (device.accepted ++ record { start = start; samples = sound; preempt = preempt; at = device.now } ∷ []); actors = cond b device.actors (device.actors ++ k ∷ []) } in
+        let done : Bool → DeviceState = λ b. record (complete_deferred k play device) { accepted = cond b device.accepted (device.accepted ++ record { start = start; samples = sound; preempt = preempt; at = device.now } ∷ []); actors = cond b device.actors (device.actors ++ k ∷ []) } in
         elim (length sound == 0) as (λ b. (device_without k (done b) ≡ device_without k device) ⊎ (has_acted k (done b) ≡ true)) [
           | true ↦ inl (ap (λ l. record device { completed = l }) (gone play))
           | false ↦ inr (now_acted k device.actors)
@@ -134,7 +134,7 @@ completing_alike k deferred device = alike deferred
 pub complete_own : (k d : ℕ) (deferred : Deferred) (p : OpenLink) → Unmoved k p.environment (complete_for (record { link = k; device = d; deferred = deferred }) (slice_get p.environment.devices d) p).environment
 complete_own k d deferred p =
     complete_keeps k (λ closing. Unit {0}) (λ q. Unmoved k p.environment q.environment) (own_keeps k p.environment) d deferred (slice_get p.environment.devices d) p refl
-    (λ device there h. becomes_unmoved k d (completing k deferred) p.environment p.environment device there (later_completing k device deferred) (completing_alike k deferred device) h) tt (unmoved_refl k p.environment)
+    (λ device there h. becomes_unmoved k d (complete_deferred k deferred) p.environment p.environment device there (later_completing k device deferred) (completing_alike k deferred device) h) tt (unmoved_refl k p.environment)
 
 advance_own : (k : ℕ) (p : OpenLink) → Unmoved k p.environment (advance k p).environment
 advance_own k p = advance_keeps k (λ closing. Unit {0}) (λ q. Unmoved k p.environment q.environment) (own_keeps k p.environment) p (unmoved_refl k p.environment)
@@ -148,10 +148,10 @@ without_twice k (w ∷ ws) =
       | false ↦ λ e. without_twice k ws
     ] refl
 
-dropped_own : (k : ℕ) (cause : Why) (p : OpenLink) → Unmoved k p.environment (dropped k cause p).environment
+dropped_own : (k : ℕ) (cause : Why) (p : OpenLink) → Unmoved k p.environment (drop_link k cause p).environment
 dropped_own k cause p = inr (refl, without_twice k p.environment.waiting)
 
--- an event is told to it, which touches no device
+-- an event is queued for it, which touches no device
 abbrev pub Untouched : ℕ → EnvironmentState → EnvironmentState → Type 0
 Untouched k a b = (b.devices ≡ a.devices) × (without_waiter k b.waiting ≡ without_waiter k a.waiting)
 
@@ -160,7 +160,7 @@ tell_own k e a None = (refl, refl)
 tell_own k e a (Some l) =
     let p = open_link a l in
     elim (selects (mask_of l e.device) e.kind) as (λ t. Untouched k a (cond t (tell_selected k e p) p).environment) [
-      | true ↦ elim (nat_le (length l.pending + 20) event_limit) as (λ t. Untouched k a (cond t (say p (event_bytes l.order e l.sequence)) (dropped k why.Overrun p)).environment) [
+      | true ↦ elim (nat_le (length l.pending + 20) event_limit) as (λ t. Untouched k a (cond t (say p (event_bytes l.order e l.sequence)) (drop_link k why.Overrun p)).environment) [
         | true ↦ (refl, refl)
         | false ↦ (refl, without_twice k a.waiting)
       ]
@@ -169,7 +169,7 @@ tell_own k e a (Some l) =
 
 -- Serving it
 
--- what serving link k takes off a log names it alone
+-- what serving link k takes off a log names only link k
 record Own (k : ℕ) (a : EnvironmentState) (part : Log) (b : EnvironmentState) : Type 0 where
   later : Laters a.devices b.devices
   moved : Unmoved k a b
@@ -209,12 +209,12 @@ own_got k p Failed = record { later = laters_refl p.environment.devices; moved =
 own_read : (k : ℕ) (p : OpenLink) → Takes (read_phase k p) (λ part q. Own k p.environment part q.environment)
 own_read k p = read_takes k p (λ part q. Own k p.environment part q.environment) (λ w. own_refl k p.environment) (λ w got r. own_got k p got)
 
-own_wrote : (k : ℕ) (p q : OpenLink) (offered : ℕ) (took : Option (List ℕ)) → write_taken k took p ≡ Some q → Own k p.environment (Wrote k offered took ∷ []) q.environment
+own_wrote : (k : ℕ) (p q : OpenLink) (offered : ℕ) (took : Option (List ℕ)) → after_bytes_taken k took p ≡ Some q → Own k p.environment (Wrote k offered took ∷ []) q.environment
 own_wrote k p q offered None e =
     subst (λ x. Own k p.environment (Wrote k offered None ∷ []) x.environment) (some_is e)
     (record { later = laters_refl p.environment.devices; moved = dropped_own k why.LinkFault p; gone = λ rest. named k (without k rest) (Wrote k offered None ∷ without k rest) })
 own_wrote k p q offered (Some bytes) e =
-    let left = open_link p.environment (sent (length bytes) p.link) in
+    let left = open_link p.environment (send_pending (length bytes) p.link) in
     let t = cond-some (same_bytes bytes (take (length bytes) p.link.pending)) (Some (after_write k bytes p)) q e in
     subst (λ x. Own k p.environment (Wrote k offered (Some bytes) ∷ []) x.environment) (some_is t.1)
     (record { later = advance_later k left; moved = advance_own k left; gone = λ rest. named k (without k rest) (Wrote k offered (Some bytes) ∷ without k rest) })
@@ -227,8 +227,8 @@ own_one k p q (Captured d n got) e = absurd (none_some e)
 own_one k p q (Emitted d out done) e = absurd (none_some e)
 own_one k p q (Hooked d off done) e = absurd (none_some e)
 own_one k p q (Wrote j offered took) e =
-    let i = cond-some (j == k) (write_offered k offered took p) q e in
-    let t = cond-some (offered == length p.link.pending) (write_taken k took p) q i.1 in
+    let i = cond-some (j == k) (after_bytes_offered k offered took p) q e in
+    let t = cond-some (offered == length p.link.pending) (after_bytes_taken k took p) q i.1 in
     subst (λ n. Own k p.environment (Wrote n offered took ∷ []) q.environment) (sym (eqb-true j k i.0)) (own_wrote k p q offered took t.1)
 
 own_write : (k : ℕ) (p : OpenLink) → Takes (write_phase k p) (λ part q. Own k p.environment part q.environment)

@@ -4,7 +4,7 @@ use Rattle.std.proofs.lemmas.Bool.{eqb-false}
 use Rattle.std.specs.declared.option.Option.{Option}
 use Rattle.std.specs.declared.option.Option.TheVariants.{None, Some}
 use Rattle.af_limits.specs.Limits.{longest_tick}
-use Rattle.af_phone.specs.Lines.{changed, event_kind_of, flag_value, hooked, is_change, value_of}
+use Rattle.af_phone.specs.Lines.{line_after_change, event_kind_of, flag_value, line_after_hook, is_change, value_of}
 use Rattle.af_phone.specs.declared.LineChange.{LineChange}
 use Rattle.af_wire.specs.declared.event.EventKind.TheVariants as kind
 use Rattle.af_world.specs.declared.happening.Happening.{Happening}
@@ -13,10 +13,10 @@ use Rattle.af_world.specs.declared.happening.Wake.{Wake}
 use Rattle.af_world.specs.declared.happening.Wake.TheVariants as wake
 use Rattle.af_world.specs.Log.{Log}
 use Rattle.af_world.specs.Outside.{same_bytes}
-use Rattle.af_model.specs.State.{DeviceState, LinkState, Outline, SlotState, State, closed_slot, lines_of, links_of, opened, outline, slot_at, with_slot}
+use Rattle.af_model.specs.State.{DeviceState, LinkState, Outline, SlotState, State, closed_slot, lines_of, links_of, new_link_state, outline, slot_at, with_slot}
 use Rattle.af_model.specs.Tick.{captured_samples, sound, tick}
-use Rattle.af_model.specs.Events.{hook_given, hook_refused}
-use Rattle.af_model.specs.Turn.{Parsed, after_capture, capture_by, emit_by, fits, has_line_at, hook_all, hook_at, hook_by, hook_for, hook_from, hook_wanted, in_slot, is_closed_at, is_open_at, line_phase, parse_one, parse_then, accept, ready, same_flag, and_then, tick_phase, wake_phase, writable}
+use Rattle.af_model.specs.Events.{after_hook, after_hook_failure}
+use Rattle.af_model.specs.Turn.{Parsed, after_capture, capture_by, emit_by, fits, has_line_at, hook_all, hook_at, hook_by, hook_for, hook_from, wanted_hook, in_slot, is_closed_at, is_open_at, line_phase, parse_one, parse_then, accept, mark_readable, same_flag, and_then, tick_phase, wake_phase, mark_writable}
 use Rattle.af_model.proofs.BoolTestLemmas.{cond-some, none_some, some_is}
 use Rattle.af_model.proofs.PhasePartLemmas.{then_inv}
 use Rattle.af_isolation.specs.Without.{acted_on, device_without, state_without, wake_without, without}
@@ -29,15 +29,15 @@ use Rattle.af_isolation.proofs.TickWithoutLemmas.{tick_without}
 
 hook_by_without : (k d : ℕ) (off : Bool) (device : DeviceState) (s : State) (h : Happening) → hook_by d off (device_without k device) (state_without k s) h ≡ option_map (state_without k) (hook_by d off device s h)
 hook_by_without k d off device s (Hooked e wanted done) =
-    elim (e == d && same_flag wanted off) as (λ t. cond t (Some (cond done (hook_given off d (device_without k device) (state_without k s)) (hook_refused d (state_without k s)))) None
-    ≡ option_map (state_without k) (cond t (Some (cond done (hook_given off d device s) (hook_refused d s))) None)) [
+    elim (e == d && same_flag wanted off) as (λ t. cond t (Some (cond done (after_hook off d (device_without k device) (state_without k s)) (after_hook_failure d (state_without k s)))) None
+    ≡ option_map (state_without k) (cond t (Some (cond done (after_hook off d device s) (after_hook_failure d s))) None)) [
       | true ↦ ap (λ t. Some t) (either done)
       | false ↦ refl
     ]
   where
-    either : (done : Bool) → cond done (hook_given off d (device_without k device) (state_without k s)) (hook_refused d (state_without k s)) ≡ state_without k (cond done (hook_given off d device s) (hook_refused d s))
-    either true = line_becomes_without k (hooked true) kind.Hook (flag_value off) d device s
-    either false = device_changes_without k d (λ device. record device { line = option_map (hooked false) device.line }) s (λ device. refl)
+    either : (done : Bool) → cond done (after_hook off d (device_without k device) (state_without k s)) (after_hook_failure d (state_without k s)) ≡ state_without k (cond done (after_hook off d device s) (after_hook_failure d s))
+    either true = line_becomes_without k (line_after_hook true) kind.Hook (flag_value off) d device s
+    either false = device_changes_without k d (λ device. record device { line = option_map (line_after_hook false) device.line }) s (λ device. refl)
 hook_by_without k d off device s (Woke wake) = refl
 hook_by_without k d off device s (Read j got) = refl
 hook_by_without k d off device s (Wrote j offered took) = refl
@@ -57,7 +57,7 @@ hook_kept k d off device s (Emitted e sound done) t i log = refl
 hook_at_without : (k d : ℕ) (o : Option DeviceState) (s : State) → Follows k (state_without k) (hook_at d o s) (hook_at d (option_map (device_without k) o) (state_without k s))
 hook_at_without k d None s = follows_nothing k (state_without k) s
 hook_at_without k d (Some device) s =
-    elim (hook_wanted device) as (λ o. Follows k (state_without k) (hook_for d device o s) (hook_for d (device_without k device) o (state_without k s))) [
+    elim (wanted_hook device) as (λ o. Follows k (state_without k) (hook_for d device o s) (hook_for d (device_without k device) o (state_without k s))) [
       | None ↦ follows_nothing k (state_without k) s
       | Some off ↦ follows_one k (state_without k) (hook_by d off device s) (hook_by d off (device_without k device) (state_without k s)) (hook_by_without k d off device s) (hook_kept k d off device s)
     ]
@@ -88,7 +88,7 @@ same_option : {A : Type 0} (o : Option A) → o ≡ option_map (λ x. x) o
 same_option None = refl
 same_option (Some x) = refl
 
--- the device with its frames, if link k has not acted on any behind them
+-- the device with its frames, if link k has not acted on any device after them
 module _ (k d n : ℕ) (device : DeviceState) (s : State) (there : slice_get s.devices d ≡ Some device) where
   ticked_without : (got : Option (List ℕ)) (is_dead : Bool) → acted_on k (tick d n (captured_samples device n got) is_dead s).devices ≡ false →
       tick d n (captured_samples device n got) is_dead (state_without k s) ≡ state_without k (tick d n (captured_samples device n got) is_dead s)
@@ -156,7 +156,7 @@ tick_phase_without k d n (Some device) s there log b e silent =
 line_phase_without : (k : ℕ) (change : LineChange) (d : ℕ) (o : Option DeviceState) (s : State) → Follows k (state_without k) (line_phase change d o s) (line_phase change d (option_map (device_without k) o) (state_without k s))
 line_phase_without k change d None s log b e = absurd (none_some e)
 line_phase_without k change d (Some device) s log b e =
-    ap (λ t. accept t (without k log)) (line_becomes_without k (changed change) (event_kind_of change) (value_of change) d device s) ∙ ap (λ (x : Parsed State). accept (state_without k x.state) (without k x.log)) (some_is e)
+    ap (λ t. accept t (without k log)) (line_becomes_without k (line_after_change change) (event_kind_of change) (value_of change) d device s) ∙ ap (λ (x : Parsed State). accept (state_without k x.state) (without k x.log)) (some_is e)
 
 -- Wakes
 
@@ -177,9 +177,9 @@ woken_slot k j f w v s phase log b e =
 pub wake_phase_without : (k : ℕ) (w : Wake) (s : State) (log : Log) (b : Parsed State) → wake_phase w s log ≡ Some b → acted_on k b.state.devices ≡ false →
     wake_phase (wake_without k w) (state_without k s) (without k log) ≡ accept (state_without k b.state) (without k b.log)
 unfolding wake_phase
-wake_phase_without k (wake.Opened j) s log b e silent = woken_slot k j (λ slot. record { link = Some opened; said = [] }) (wake.Opened j) (wake.Opened j) s (λ t log. refl) log b e
-wake_phase_without k (wake.Readable j) s log b e silent = woken_slot k j (in_slot ready) (wake.Readable j) (wake.Readable j) s (λ t log. refl) log b e
-wake_phase_without k (wake.Writable j) s log b e silent = woken_slot k j (in_slot writable) (wake.Writable j) (wake.Writable j) s (λ t log. refl) log b e
+wake_phase_without k (wake.Opened j) s log b e silent = woken_slot k j (λ slot. record { link = Some new_link_state; said = [] }) (wake.Opened j) (wake.Opened j) s (λ t log. refl) log b e
+wake_phase_without k (wake.Readable j) s log b e silent = woken_slot k j (in_slot mark_readable) (wake.Readable j) (wake.Readable j) s (λ t log. refl) log b e
+wake_phase_without k (wake.Writable j) s log b e silent = woken_slot k j (in_slot mark_writable) (wake.Writable j) (wake.Writable j) s (λ t log. refl) log b e
 wake_phase_without k (wake.Ticked d n) s log b e silent = ap (λ o. tick_phase d n o (state_without k s) (without k log)) (device_at_without k s.devices d) ∙ tick_phase_without k d n (slice_get s.devices d) s refl log b e silent
 wake_phase_without k (wake.Line d change) s log b e silent = ap (λ o. line_phase change d o (state_without k s) (without k log)) (device_at_without k s.devices d) ∙ line_phase_without k change d (slice_get s.devices d) s log b e
 wake_phase_without k wake.Idle s log b e silent = follows_nothing k (state_without k) s log b e

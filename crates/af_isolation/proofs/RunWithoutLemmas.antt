@@ -8,8 +8,8 @@ use Rattle.af_world.specs.declared.happening.Happening.TheVariants.{Woke, Read, 
 use Rattle.af_world.specs.declared.happening.Wake.TheVariants as wake
 use Rattle.af_world.specs.declared.script.DeviceSpec.{DeviceSpec}
 use Rattle.af_world.specs.Log.{Log}
-use Rattle.af_model.specs.State.{closed_slot, opening, opening_device, outline, State}
-use Rattle.af_model.specs.LinkHistory.{LinkHistory, no_history, noted, read_noted, write_noted}
+use Rattle.af_model.specs.State.{closed_slot, opening_state, opening_device, outline, State}
+use Rattle.af_model.specs.LinkHistory.{LinkHistory, no_history, note_happening, note_read, note_write}
 use Rattle.af_model.specs.Run.{end_by, end_state, then_end, wakes}
 use Rattle.af_model.specs.Turn.{Parsed, fits, hook_all, parse_then, accept, serve_all, serve_and_hook, turn, wake_phase}
 use Rattle.af_model.proofs.BoolTestLemmas.{cond-some, none_some, some_is}
@@ -53,7 +53,7 @@ turn_without k s (Woke w ∷ log) b e silent =
 
 -- A run
 
--- who acted goes on to have acted
+-- who acted stays an actor
 run_acted : (k n : ℕ) (s : State) (log : Log) (e : State) → end_by n s log ≡ Some e → acted_on k s.devices ≡ true → acted_on k e.devices ≡ true
 run_acted k zero s [] e r h = subst (λ (t : State). acted_on k t.devices ≡ true) (some_is r) h
 run_acted k zero s (x ∷ log) e r h = absurd (none_some r)
@@ -80,8 +80,8 @@ wakes_without k (Captured d n got ∷ log) = wakes_without k log
 wakes_without k (Emitted d sound done ∷ log) = wakes_without k log
 wakes_without k (Hooked d off done ∷ log) = wakes_without k log
 
--- no link is there at the start
-opening_without : (config : List DeviceSpec) (k : ℕ) → state_without k (opening config) ≡ opening config
+-- no link is open at the start
+opening_without : (config : List DeviceSpec) (k : ℕ) → state_without k (opening_state config) ≡ opening_state config
 opening_without config k =
     ap (λ ds. record { devices = ds; slots = slice_set (replicate most_links closed_slot) k closed_slot; waiting = [] }) (devices config)
     ∙ ap (λ slots. record { devices = map opening_device config; slots = slots; waiting = [] }) (slots most_links k)
@@ -98,41 +98,41 @@ opening_without config k =
 end_without : (config : List DeviceSpec) (log : Log) (k : ℕ) (e : State) → end_state config log ≡ Some e → acted_on k e.devices ≡ false → end_state config (without k log) ≡ Some (state_without k e)
 unfolding end_state
 end_without config log k e r silent =
-    ap (λ n. end_by n (opening config) (without k log)) (wakes_without k log)
+    ap (λ n. end_by n (opening_state config) (without k log)) (wakes_without k log)
     ∙ ap (λ s. end_by (wakes log) s (without k log)) (sym (opening_without config k))
-    ∙ run_without k (wakes log) (opening config) log e r silent
+    ∙ run_without k (wakes log) (opening_state config) log e r silent
 
 -- What is seen of others
 
 module _ (k j : ℕ) (apart : j ≢ k) where
-  -- where a number is link k's it is not the other's
+  -- a number that is link k's is not the other's
   not_other : (i : ℕ) → (i == k) ≡ true → (i == j) ≡ false
   not_other i own = elim (i == j) as (λ t. (i == j) ≡ t → t ≡ false) [ true ↦ λ e. absurd (apart (sym (eqb-true i j e) ∙ eqb-true i k own)) | false ↦ λ e. refl ] refl
 
   -- a happening of a link
-  happened : (i : ℕ) (g f : LinkHistory) (h : Happening) (log : Log) → noted j g h ≡ cond (i == j) f g → ((g : LinkHistory) → fold (noted j) g (without k log) ≡ fold (noted j) g log) →
-      fold (noted j) g (cond (i == k) (without k log) (h ∷ without k log)) ≡ fold (noted j) g (h ∷ log)
+  happened : (i : ℕ) (g f : LinkHistory) (h : Happening) (log : Log) → note_happening j g h ≡ cond (i == j) f g → ((g : LinkHistory) → fold (note_happening j) g (without k log) ≡ fold (note_happening j) g log) →
+      fold (note_happening j) g (cond (i == k) (without k log) (h ∷ without k log)) ≡ fold (note_happening j) g (h ∷ log)
   happened i g f h log is more =
-      elim (i == k) as (λ t. (i == k) ≡ t → fold (noted j) g (cond t (without k log) (h ∷ without k log)) ≡ fold (noted j) g (h ∷ log)) [
-        | true ↦ λ own. more g ∙ ap (λ g. fold (noted j) g log) (sym (is ∙ ap (λ t. cond t f g) (not_other i own)))
-        | false ↦ λ other. more (noted j g h)
+      elim (i == k) as (λ t. (i == k) ≡ t → fold (note_happening j) g (cond t (without k log) (h ∷ without k log)) ≡ fold (note_happening j) g (h ∷ log)) [
+        | true ↦ λ own. more g ∙ ap (λ g. fold (note_happening j) g log) (sym (is ∙ ap (λ t. cond t f g) (not_other i own)))
+        | false ↦ λ other. more (note_happening j g h)
       ] refl
 
-  noted_without : (g : LinkHistory) (log : Log) → fold (noted j) g (without k log) ≡ fold (noted j) g log
+  noted_without : (g : LinkHistory) (log : Log) → fold (note_happening j) g (without k log) ≡ fold (note_happening j) g log
   noted_without g [] = refl
   noted_without g (Woke (wake.Opened i) ∷ log) =
-      elim (i == k) as (λ t. (i == k) ≡ t → fold (noted j) g (Woke (cond t wake.Idle (wake.Opened i)) ∷ without k log) ≡ fold (noted j) g (Woke (wake.Opened i) ∷ log)) [
-        | true ↦ λ own. noted_without g log ∙ ap (λ g. fold (noted j) g log) (sym (ap (λ t. cond t no_history g) (not_other i own)))
+      elim (i == k) as (λ t. (i == k) ≡ t → fold (note_happening j) g (Woke (cond t wake.Idle (wake.Opened i)) ∷ without k log) ≡ fold (note_happening j) g (Woke (wake.Opened i) ∷ log)) [
+        | true ↦ λ own. noted_without g log ∙ ap (λ g. fold (note_happening j) g log) (sym (ap (λ t. cond t no_history g) (not_other i own)))
         | false ↦ λ other. noted_without (cond (i == j) no_history g) log
       ] refl
-  noted_without g (Woke (wake.Readable i) ∷ log) = elim (i == k) as (λ t. fold (noted j) g (Woke (cond t wake.Idle (wake.Readable i)) ∷ without k log) ≡ fold (noted j) g log) [ true ↦ noted_without g log | false ↦ noted_without g log ]
-  noted_without g (Woke (wake.Writable i) ∷ log) = elim (i == k) as (λ t. fold (noted j) g (Woke (cond t wake.Idle (wake.Writable i)) ∷ without k log) ≡ fold (noted j) g log) [ true ↦ noted_without g log | false ↦ noted_without g log ]
+  noted_without g (Woke (wake.Readable i) ∷ log) = elim (i == k) as (λ t. fold (note_happening j) g (Woke (cond t wake.Idle (wake.Readable i)) ∷ without k log) ≡ fold (note_happening j) g log) [ true ↦ noted_without g log | false ↦ noted_without g log ]
+  noted_without g (Woke (wake.Writable i) ∷ log) = elim (i == k) as (λ t. fold (note_happening j) g (Woke (cond t wake.Idle (wake.Writable i)) ∷ without k log) ≡ fold (note_happening j) g log) [ true ↦ noted_without g log | false ↦ noted_without g log ]
   noted_without g (Woke (wake.Ticked d n) ∷ log) = noted_without g log
   noted_without g (Woke (wake.Line d change) ∷ log) = noted_without g log
   noted_without g (Woke wake.Idle ∷ log) = noted_without g log
   noted_without g (Woke wake.Stop ∷ log) = noted_without g log
-  noted_without g (Read i got ∷ log) = happened i g (read_noted got g) (Read i got) log refl (λ g. noted_without g log)
-  noted_without g (Wrote i offered took ∷ log) = happened i g (write_noted took g) (Wrote i offered took) log refl (λ g. noted_without g log)
+  noted_without g (Read i got ∷ log) = happened i g (note_read got g) (Read i got) log refl (λ g. noted_without g log)
+  noted_without g (Wrote i offered took ∷ log) = happened i g (note_write took g) (Wrote i offered took) log refl (λ g. noted_without g log)
   noted_without g (Closed i cause ∷ log) = happened i g (record g { closed = Some cause }) (Closed i cause) log refl (λ g. noted_without g log)
   noted_without g (Captured d n got ∷ log) = noted_without g log
   noted_without g (Emitted d sound done ∷ log) = noted_without g log

@@ -32,7 +32,7 @@ serve_at_other k j other s log b e =
 
 -- Link k itself
 
--- where it is not open nothing is served
+-- if it is not open, nothing is served
 closed_served : (k : ℕ) (s : State) (log : Log) → serve_at k (state_without k s) log ≡ accept (state_without k s) log
 closed_served k s log =
     let t = state_without k s in

@@ -1,4 +1,4 @@
--- The slots of a state without link k, and events that are told there.
+-- The slots of a state without link k, and events that are queued there.
 use Rattle.std.proofs.Common.{◌≡◌, ◌≢◌, ℕ, zero, suc, ◌+◌, ◌==◌, true, false, List, [], ◌∷◌, length, map, slice_get, slice_set, option_map, refl, sym, ap, ◌∙◌, subst, eqb-true}
 use Rattle.std.proofs.lemmas.Bool.{eqb-false}
 use Rattle.std.specs.declared.option.Option.{Option}
@@ -51,7 +51,7 @@ pub other_link_at : (k j : ℕ) (s : State) → (j == k) ≡ false → slot_link
 other_link_at k j s other =
     ap (λ (x : SlotState). link_in_slot (record { devices = map (device_without k) s.devices; waiting = without_waiter k s.waiting; said = x.said }) x.link) (other_slot k j s other)
 
--- something comes of link k: nothing, without it
+-- a change of link k: nothing, without it
 pub own_put : (k : ℕ) (s : State) (d : SlotLink) → map (device_without k) d.environment.devices ≡ map (device_without k) s.devices → without_waiter k d.environment.waiting ≡ without_waiter k s.waiting →
     state_without k (with_slot_link k s d) ≡ state_without k s
 own_put k s d devices waiting =
@@ -59,7 +59,7 @@ own_put k s d devices waiting =
     ∙ ap (λ slots. record { devices = map (device_without k) s.devices; slots = slots; waiting = without_waiter k d.environment.waiting }) (set_again s.slots k (record { link = d.link; said = d.environment.said }) closed_slot)
     ∙ ap (λ ws. record { devices = map (device_without k) s.devices; slots = slice_set s.slots k closed_slot; waiting = ws }) waiting
 
--- and of another the same
+-- and of another link: the same
 pub other_put : (k j : ℕ) (s : State) (d : SlotLink) → (j == k) ≡ false → with_slot_link j (state_without k s) (slot_without k d) ≡ state_without k (with_slot_link j s d)
 other_put k j s d other =
     ap (λ slots. record { devices = map (device_without k) d.environment.devices; slots = slots; waiting = without_waiter k d.environment.waiting })

@@ -5,7 +5,7 @@ use Rattle.std.specs.declared.option.Option.TheVariants.{None, Some}
 use Rattle.af_wait.specs.Waits.{without_first}
 use Rattle.af_model.specs.State.{DeviceState, Deferral, EnvironmentState, LinkState, link_in_slot, open_link, SlotLink, State, slot_link_at, with_device, with_slot_link}
 use Rattle.af_model.specs.Waiting.{falls_due}
-use Rattle.af_model.specs.Tick.{complete, complete_at, complete_by, complete_due, complete_first, complete_for, complete_step, enter, later, tick}
+use Rattle.af_model.specs.Tick.{complete, complete_at, complete_by, complete_due, complete_first, complete_for, complete_step, enter, device_after, tick}
 use Rattle.af_model.specs.Advance.{or_else}
 use Rattle.af_model.specs.Events.{without_waiter}
 use Rattle.af_model.proofs.BoolTestLemmas.{none_some, some_is}
@@ -18,7 +18,7 @@ use Rattle.af_isolation.proofs.OtherLinkLemmas.{complete_other, device_at_withou
 use Rattle.af_isolation.proofs.OwnLinkLemmas.{Unmoved, complete_own, laters_acted}
 use Rattle.af_isolation.proofs.SlotWithoutLemmas.{device_changes_without, other_link_at, other_put, own_put}
 
--- Who never acted has not acted before
+-- Who never acted had not acted before either
 
 pub still_silent : (k : ℕ) (s t : State) → (acted_on k s.devices ≡ true → acted_on k t.devices ≡ true) → acted_on k t.devices ≡ false → acted_on k s.devices ≡ false
 still_silent k s t stays silent =
@@ -71,9 +71,9 @@ module _ (k : ℕ) (passes : Deferral → Bool) where
         | false ↦ λ e. ap (λ l. cond (not (v.link == k)) (v ∷ l) l) (own_due ws w own e)
       ] e
 
--- A request that had waited completes
+-- A deferred request completes
 
--- of link k: nothing comes of it without that
+-- a request of link k: without link k there is none
 own_completes : (k : ℕ) (w : Deferral) (s : State) → w.link ≡ k → acted_on k (complete w s).devices ≡ false → state_without k (complete w s) ≡ state_without k s
 own_completes k w s own silent =
     let v : Deferral = record { link = k; device = w.device; deferred = w.deferred } in
@@ -97,7 +97,7 @@ own_completes k w s own silent =
         ap (λ o. state_without k (with_slot_link k s (complete_at v a o))) is
         ∙ moved l (complete_own k w.device w.deferred (open_link a l)) (subst (λ o. acted_on k (with_slot_link k s (complete_at v a o)).devices ≡ false) is silent)
 
--- of another: the same
+-- a request of another link: the same
 other_completes : (k : ℕ) (w : Deferral) (s : State) → (w.link == k) ≡ false → complete w (state_without k s) ≡ state_without k (complete w s)
 other_completes k w s other =
     ap (λ (d : SlotLink). with_slot_link w.link (state_without k s) (complete_at w d.environment d.link)) (other_link_at k w.link s other)
@@ -121,7 +121,7 @@ none_count passes (w ∷ ws) few =
       | false ↦ λ few. none_count passes ws few
     ] few
 
--- what comes of a step
+-- what a step comes to
 step_is : (d : ℕ) (s : State) (x : DeviceState) (o : Option Deferral) → slice_get s.devices d ≡ Some x → find (falls_due d x) s.waiting ≡ o → complete_step d s ≡ option_map (λ w. complete w (record s { waiting = without_first (falls_due d x) s.waiting })) o
 step_is d s x o there found =
     ap (option_and_then (complete_first d s)) there ∙ ap (option_map (λ w. complete w (record s { waiting = without_first (falls_due d x) s.waiting }))) found
@@ -137,7 +137,7 @@ goes_on n d s x w there found = ap (or_else s (complete_by n d)) (step_is d s x 
 there_without : (k d : ℕ) (s : State) (x : DeviceState) → slice_get s.devices d ≡ Some x → slice_get (state_without k s).devices d ≡ Some (device_without k x)
 there_without k d s x there = device_at_without k s.devices d ∙ ap (option_map (device_without k)) there
 
--- those that are due for a device are so by any at its time, with its rate
+-- the requests that are due for a device are due also for any device at its time, with its rate
 few_due_alike : (n d : ℕ) (device x : DeviceState) (ws : List Deferral) → SameClock device x → count_due (falls_due d device) ws ≤ n → count_due (falls_due d x) ws ≤ n
 few_due_alike n d device x ws same few = subst (λ m. m ≤ n) (sym (count_alike (falls_due d device) (falls_due d x) ws (λ w. same_due d device x w same))) few
 
@@ -185,7 +185,7 @@ none_completes : (n m k d : ℕ) (s : State) (x : DeviceState) → slice_get s.d
 none_completes n m k d s x there found =
     ap (state_without k) (stops n d s x there found) ∙ sym (stops m d (state_without k s) (device_without k x) (there_without k d s x there) (none_due k (falls_due d x) s.waiting found))
 
--- What completes with link k, as long as one is due, completes without it, but for what is link k's.
+-- What completes with link k, as long as one is due, completes also without it, except its own requests.
 completes_without : (n m k d : ℕ) (device : DeviceState) (s : State) → Few n d device s.devices s.waiting → Few m d device (state_without k s).devices (state_without k s).waiting → acted_on k (complete_by n d s).devices ≡ false →
     state_without k (complete_by n d s) ≡ complete_by m d (state_without k s)
 completes_without zero m k d device s h i silent =
@@ -203,7 +203,7 @@ completes_without (suc n) m k d device s h i silent =
 pub tick_without : (k d n : ℕ) (captured : List ℤ) (is_dead : Bool) (s : State) (device : DeviceState) → slice_get s.devices d ≡ Some device → acted_on k (tick d n captured is_dead s).devices ≡ false → tick d n captured is_dead (state_without k s) ≡ state_without k (tick d n captured is_dead s)
 unfolding complete_due
 tick_without k d n captured is_dead s device there silent =
-    let f = later n captured is_dead in
+    let f = device_after n captured is_dead in
     let t : State = record s { devices = with_device d f s.devices } in
     let x = f device in
     let here = with_there d f s.devices device there in

@@ -1,4 +1,4 @@
--- That a link which never acts on a device changes nothing for all others.
+-- A link which never acts on a device changes nothing for all others.
 use Rattle.std.specs.Prelude.{◌≡◌, ◌≢◌, ℕ, false, List, IfSome}
 use Rattle.std.specs.declared.option.Option.TheVariants.{Some}
 use Rattle.af_world.specs.declared.script.DeviceSpec.{DeviceSpec}
@@ -15,9 +15,9 @@ IsSilent k end = acted_on k end.devices ≡ false
 abbrev pub Silent : ℕ → List DeviceSpec → Log → Type 0
 Silent k config log = IfSome (end_state config log) (IsSilent k)
 
--- Without link k the log is a run too, of the same configuration, and comes to the same state but for that link. In that run every
--- other link gives and takes the same bytes, ends, fails and is closed alike, and the same is said to it; and every device is asked
--- for the same, hands out the same sound, and has its hook moved alike.
+-- Without link k the log is also a run of the same configuration, and comes to the same state except for that link. In that run
+-- every other link gives and takes the same bytes, has the same bytes queued, and ends, fails and is closed alike. Every device
+-- is asked for the same, hands out the same sound, and has its hook moved alike.
 pub record ChangesNothing (config : List DeviceSpec) (log : Log) (k : ℕ) (end : State) : Type 0 where
   pub run : end_state config (without k log) ≡ Some (state_without k end)
   pub others : (j : ℕ) → j ≢ k → history j (without k log) ≡ history j log

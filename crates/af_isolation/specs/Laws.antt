@@ -10,10 +10,10 @@ use Rattle.af_model.specs.Causes.{ClosesForCauses}
 use Rattle.af_model.specs.Dead.{IsDeadWhereFailed}
 use Rattle.af_isolation.specs.Isolation.{IsolatesLinks}
 
--- In the run that this log is, what each link took begins what was said to it, no write offers more than may wait to be sent, each
--- sound is the mix of all that was ever accepted, no request that had waited lost a sample, each link was closed for the cause that
--- the log shows, devices and lines are dead exactly where a call for them failed, and each link that never acted on a device changes
--- nothing for all others.
+-- These laws hold in the run that this log is. What each link took is a prefix of what was queued for it. No write offers more
+-- than may wait to be sent. Each sound is the mix of all that was ever accepted. No deferred request lost a sample. Each link was
+-- closed for the cause that the log shows. Devices and lines are dead exactly if a call for them failed. Each link that never
+-- acted on a device changes nothing for all others.
 pub record KeepsLaws (config : List DeviceSpec) (log : Log) : Type 0 where
   pub takes_in_order : TakesInOrder config log
   pub offers_within : OffersWithin config log

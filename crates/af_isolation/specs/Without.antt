@@ -8,7 +8,7 @@ use Rattle.af_world.specs.Log.{Log}
 use Rattle.af_model.specs.State.{DeviceState, State, closed_slot, has_acted}
 use Rattle.af_model.specs.Events.{without_waiter}
 
--- a wake that names link k is one of nothing
+-- a wake that names link k becomes Idle
 abbrev pub wake_without : ℕ → Wake → Wake
 wake_without k (Opened j) = if j == k then Idle else Opened j
 wake_without k (Readable j) = if j == k then Idle else Readable j
@@ -44,8 +44,8 @@ device_calls (Hooked d off done ∷ log) = Hooked d off done ∷ device_calls lo
 abbrev pub device_without : ℕ → DeviceState → DeviceState
 device_without k device = record device { completed = filter (λ c. not (c.link == k)) device.completed }
 
--- The state as if link k had never been there: it is not open, nothing was said to it, none of its requests waits, and none that
--- had waited was completed.
+-- The state as if link k had never been there: it is not open, nothing was queued for it, it has no deferred request, and none of
+-- its requests was deferred and completed.
 abbrev pub state_without : ℕ → State → State
 state_without k s = record {
   devices = map (device_without k) s.devices;
@@ -53,6 +53,6 @@ state_without k s = record {
   waiting = without_waiter k s.waiting;
 }
 
--- whether link k ever acted on one of these devices: had a play with a frame accepted, set controls, or moved a hook
+-- whether link k ever acted on one of these devices: it had a play with a frame accepted, set controls, or moved a hook
 abbrev pub acted_on : ℕ → List DeviceState → Bool
 acted_on k devices = list_any (has_acted k) devices

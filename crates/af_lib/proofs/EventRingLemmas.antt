@@ -8,6 +8,6 @@ none_left : (es : List Event) → slice_get es 0 ≡ None → drop 1 es ≡ es
 none_left [] e = refl
 none_left (x ∷ es) e = absurd cc
 
--- taking the oldest event where there is none changes nothing
+-- taking the oldest event from an empty ring changes nothing
 pub none_taken : (r : RingState) → slice_get r.events 0 ≡ None → record r { events = drop 1 r.events } ≡ r
 none_taken r e = ap (λ es. record r { events = es }) (none_left r.events e)

@@ -14,7 +14,7 @@ use Rattle.af_lib.specs.declared.fault.ConnFault.TheVariants as fault
 use Rattle.af_lib.specs.Ring.{RingState}
 use Rattle.af_lib.specs.Incoming.{bad_reply}
 use Rattle.af_lib.specs.Answers.{and_then, answer_to, value_or_bad}
-use Rattle.af_lib.specs.Calls.{answered, as_devices, as_recorded, listed, recorded_in, stored_in, value_in, Answers, Sends}
+use Rattle.af_lib.specs.Calls.{answer_of, as_devices, as_recorded, device_list, recorded_in, stored_in, value_in, Answers, Sends}
 use Rattle.af_request.specs.declared.reply.DeviceInfo.{DeviceInfo}
 use Rattle.af_request.specs.Answer.{items_of}
 use Rattle.af_request.specs.Opcodes as opcodes
@@ -27,7 +27,7 @@ use Rattle.af_lib.proofs.LinkByteLemmas.{BothTold-map}
 pub sends_all : {X : Type 0} (result : Result X ConnFault) (before : Option (List ℕ)) (bytes : List ℕ) (after : Option (List ℕ)) → Appended before bytes after → Sends result before bytes after
 sends_all result before bytes after appended = record { whole = λ _. appended; part = record { front = bytes; rest = []; whole = sym (append-nil bytes); appended = appended } }
 
-listed_bad : (bytes : List ℕ) (value : Option (ArrayVec DeviceInfo)) → listed (value_or_bad bytes value) ≡ value_or_bad bytes (option_map items_of value)
+listed_bad : (bytes : List ℕ) (value : Option (ArrayVec DeviceInfo)) → device_list (value_or_bad bytes value) ≡ value_or_bad bytes (option_map items_of value)
 listed_bad bytes (Some devices) = refl
 listed_bad bytes None = refl
 
@@ -60,7 +60,7 @@ module _ (order : Order) where
   value_some value_of opcode bytes answer value result is stated read =
       is ∙ ap (value_or_bad bytes) (stated ∙ ap (option_and_then value_of) (read ∙ ap (answer_in order opcode) (take_rest bytes 8)))
 
-  -- a body that is that of no reply
+  -- a body that is none of a reply
   pub value_none : {X : Type 0} (value_of : Answer → Option X) (opcode : ℕ) (bytes : List ℕ) (fault : ConnFault) →
       fault ≡ bad_reply bytes → (let none : Option Answer = None in none ≡ answer_in order opcode (take (length bytes - 8) (drop 8 bytes))) → (let r : Result X ConnFault = Err fault in r ≡ value_in order value_of opcode bytes)
   value_none {X} value_of opcode bytes fault is read =
@@ -69,12 +69,12 @@ module _ (order : Order) where
   -- the devices of a reply that was read
   pub value_listed : (bytes : List ℕ) (answer : Answer) (value : Option (ArrayVec DeviceInfo)) (result : Result (ArrayVec DeviceInfo) ConnFault) →
       result ≡ value_or_bad bytes value → option_map items_of value ≡ as_devices answer → Some answer ≡ answer_in order opcodes.setup (take (length bytes - 8) (drop 8 bytes)) →
-      listed result ≡ value_in order as_devices opcodes.setup bytes
+      device_list result ≡ value_in order as_devices opcodes.setup bytes
   value_listed bytes answer value result is stated read =
-      ap listed is ∙ listed_bad bytes value ∙ ap (value_or_bad bytes) (stated ∙ ap (option_and_then as_devices) (read ∙ ap (answer_in order opcodes.setup) (take_rest bytes 8)))
+      ap device_list is ∙ listed_bad bytes value ∙ ap (value_or_bad bytes) (stated ∙ ap (option_and_then as_devices) (read ∙ ap (answer_in order opcodes.setup) (take_rest bytes 8)))
 
-  -- these are such as the reply to a setup may state
-  pub listed_stated : (bytes : List ℕ) (result : Result (ArrayVec DeviceInfo) ConnFault) → listed result ≡ value_in order as_devices opcodes.setup bytes → IfOk result (λ devices. IsReplyTo opcodes.setup (setup devices.items))
+  -- these are devices that the reply to a setup may state
+  pub listed_stated : (bytes : List ℕ) (result : Result (ArrayVec DeviceInfo) ConnFault) → device_list result ≡ value_in order as_devices opcodes.setup bytes → IfOk result (λ devices. IsReplyTo opcodes.setup (setup devices.items))
   listed_stated bytes (Ok devices) is = setup_stated order (drop 8 bytes) devices.items (only_setup bytes (answer_in order opcodes.setup (drop 8 bytes)) devices.items (sym is))
   listed_stated bytes (Err fault) is = tt
 
@@ -83,7 +83,7 @@ module _ (order : Order) where
   found_stated (Err fault) devices is = cc
 
   -- so are those of the answer to a setup
-  pub answered_stated : (found : Result (List ℕ) ConnFault) (devices : List DeviceInfo) → answered order as_devices opcodes.setup 0 found ≡ Ok devices → IsReplyTo opcodes.setup (setup devices)
+  pub answered_stated : (found : Result (List ℕ) ConnFault) (devices : List DeviceInfo) → answer_of order as_devices opcodes.setup 0 found ≡ Ok devices → IsReplyTo opcodes.setup (setup devices)
   answered_stated found devices is = found_stated (and_then (answer_to order 0 0) found) devices is
 
   -- the samples of a reply that was read

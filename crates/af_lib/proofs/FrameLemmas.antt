@@ -1,4 +1,4 @@
--- Reading one message: a head, and what is behind it.
+-- Reading one message: a header, and what comes after it.
 use Rattle.std.proofs.Common.{◌≡◌, ℕ, ◌-◌, ◌<◌, ◌≤◌, List, [], ◌++◌, length, take, sym, ap, ◌∙◌, subst, arith, append_assoc, length-append}
 use Rattle.std.proofs.lemmas.List.{take_at}
 use Rattle.std.specs.declared.option.Option.{Option}
@@ -14,15 +14,15 @@ use Rattle.af_lib.proofs.LinkByteLemmas.{BothTold-map, BothTold-Consumed, BothTo
 use Rattle.af_lib.proofs.MessageFrontLemmas.{whole-longer, cut-longer, bad-longer, head-longer, short-cut}
 
 module _ (order : Order) where
-  -- the link ended within a head
+  -- the link ended within a header
   pub no_head : (before after : Option (List ℕ)) (room : ℕ) → room ≡ 8 → BothTold before after (λ b a. (length b < room) × (a ≡ [])) → BothTold before after (λ b a. IsCut order b × (a ≡ []))
   no_head before after room eight told = BothTold-map before after _ _ told (λ b a t. (let fewer : length b < room = t.0 in short-cut order b (omega arith), t.1))
 
-  -- the front of a head that stands in a buffer
+  -- the front of a header that stands in a buffer
   front_of : (head rest : List ℕ) (front : MessageFront) → length head ≡ 8 → front ≡ message_front order (take 8 (head ++ rest)) → message_front order head ≡ front
   front_of head rest front eight is = ap (message_front order) (sym (take_at head rest 8 eight)) ∙ sym is
 
-  -- a head that is none
+  -- a bad header
   pub bad_head : (before after : Option (List ℕ)) (head rest : List ℕ) → length head ≡ 8 → Consumed before head after → BadMessage ≡ message_front order (take 8 (head ++ rest)) →
       BothTold before after (λ b a. (message_front order b ≡ BadMessage) × (b ≡ take 8 (head ++ rest) ++ a))
   bad_head before after head rest eight consumed is =
@@ -40,7 +40,7 @@ module _ (order : Order) where
       BothTold-map before after _ _ (BothTold-Consumed before after head consumed)
       (λ b a e. (let P : List ℕ → Type 0 = λ b. IsWhole order b n in subst P (sym e) (head-longer order head a k d s n eight front), e ∙ ap (λ (t : List ℕ). t ++ a) (sym (take_at head rest n same))))
 
-  -- a head and the body behind it
+  -- a header and the body after it
   pub head_and_body : (before now after : Option (List ℕ)) (head rest body past : List ℕ) (n : ℕ) → length head ≡ 8 → 8 ≤ n → length body ≡ n - 8 →
       Consumed before head now → Consumed now body after → NeedMore n ≡ message_front order (take 8 (head ++ rest)) →
       BothTold before after (λ b a. IsWhole order b n × (b ≡ take n (take 8 (head ++ rest) ++ (body ++ past)) ++ a))

@@ -8,7 +8,7 @@ use Rattle.af_wire.specs.MessageFront.{is_head, message_front}
 use Rattle.af_wire.specs.Order.{u16_of, u32_of}
 use Rattle.af_lib.specs.Receive.{IsWhole, IsCut}
 
--- the front of a good or a bad head, when more bytes are there
+-- the front of a good or a bad header, once more bytes are there
 more_by : (t : Bool) (k d s m there there' n : ℕ) → (if t then (if nat_lt there m then NeedMore m else Message k d s m) else BadMessage) ≡ NeedMore n → n ≤ there' →
     (if t then (if nat_lt there' m then NeedMore m else Message k d s m) else BadMessage) ≡ Message k d s n
 more_by true k d s m there there' n e more = grind (arith, nat_tests)
@@ -30,7 +30,7 @@ whole_by true k d s m there there' k' d' s' n e more = grind (arith, nat_tests)
 whole_by false k d s m there there' k' d' s' n e more = absurd cc
 
 module _ (order : Order) where
-  -- a message that is wholly there, however much stands behind it
+  -- a message that is wholly there, however much comes after it
   pub whole-longer : (head rest : List ℕ) (n : ℕ) → length head ≡ 8 → message_front order head ≡ NeedMore n → n ≤ length (head ++ rest) → IsWhole order (head ++ rest) n
   whole-longer (a ∷ b ∷ c ∷ d ∷ e ∷ f ∷ g ∷ h ∷ []) rest n eight front fits =
       let words = u32_of order (e ∷ f ∷ g ∷ h ∷ []) in
@@ -46,14 +46,14 @@ module _ (order : Order) where
       record { length = n; front = cut_by (is_head a b words) a b sequence (8 + 4 * words) _ _ n front short }
   cut-longer _ rest n eight front short = absurd (omega (arith, eight))
 
-  -- a bad head, whatever stands behind it
+  -- a bad header, whatever comes after it
   pub bad-longer : (head rest : List ℕ) → length head ≡ 8 → message_front order head ≡ BadMessage → message_front order (head ++ rest) ≡ BadMessage
   bad-longer (a ∷ b ∷ c ∷ d ∷ e ∷ f ∷ g ∷ h ∷ []) rest eight front =
       let words = u32_of order (e ∷ f ∷ g ∷ h ∷ []) in
       bad_by (is_head a b words) a b (u16_of order (c ∷ d ∷ [])) (8 + 4 * words) _ _ front
   bad-longer _ rest eight front = absurd (omega (arith, eight))
 
-  -- a message without a body, whatever stands behind it
+  -- a message without a body, whatever comes after it
   pub head-longer : (head rest : List ℕ) (k d s n : ℕ) → length head ≡ 8 → message_front order head ≡ Message k d s n → IsWhole order (head ++ rest) n
   head-longer (a ∷ b ∷ c ∷ d ∷ e ∷ f ∷ g ∷ h ∷ []) rest k' d' s' n eight front =
       let words = u32_of order (e ∷ f ∷ g ∷ h ∷ []) in

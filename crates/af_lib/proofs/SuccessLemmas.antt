@@ -1,4 +1,4 @@
--- Calls whose awaited reply is there.
+-- Calls that get their reply.
 use Rattle.std.proofs.Common.{ℕ, List, sym, subst}
 use Rattle.std.specs.Prelude.{Result, IsOk}
 use Rattle.std.specs.declared.option.Option.{Option}
@@ -8,7 +8,7 @@ use Rattle.af_lib.specs.declared.fault.ConnFault.{ConnFault}
 use Rattle.af_lib.specs.Calls.{Called, ConnState, Succeeds}
 use Rattle.af_lib.proofs.LinkByteLemmas.{BothTold-map}
 
--- where the count of faults did not rise, the link did not fail, and the answer is that of the messages
+-- if the count of faults did not rise, the link did not fail, and the answer is that of the messages
 pub called_succeeds : {L X : Type 0} {left sent : L → Option (List ℕ)} {faults : L → ℕ} {asked : Asked} {value_of : Answer → Option X} {old new : ConnState L} {result : Result X ConnFault} →
     Called left sent faults asked value_of old new result → Succeeds left faults asked value_of old new result
 called_succeeds {left} {old} {new} called usable still =

@@ -7,20 +7,20 @@ use Rattle.af_lib.specs.declared.fault.ConnFault.{ConnFault}
 use Rattle.af_lib.specs.declared.fault.ConnFault.TheVariants as fault
 use Rattle.af_lib.specs.Incoming.{bad_reply}
 
--- the value that an error refuses, if its body is that of an error to a request of this opcode: the value, the opcode, and
--- three zeros
+-- the value that an error refuses, if its body is that of an error to a request of this opcode: the value, the opcode, and three
+-- zeros
 abbrev pub refused_in : Order → ℕ → List ℕ → Option ℕ
 refused_in order opcode (a ∷ b ∷ c ∷ d ∷ asked ∷ x ∷ y ∷ z ∷ []) =
     if asked == opcode && x == 0 && y == 0 && z == 0 then Some (u32_of order (a ∷ b ∷ c ∷ d ∷ [])) else None
 refused_in order opcode _ = None
 
--- the fault that an error of a code is, if its body refuses a value of the request
+-- the fault for an error code, if the body refuses a value of the request
 abbrev pub refusal_fault : List ℕ → ℕ → Option ℕ → ConnFault
 refusal_fault bytes code (Some value) = fault.ServerError code value
 refusal_fault bytes code None = bad_reply bytes
 
--- a message that is no event, as the answer to a request of an opcode with a number: the message itself where it is a
--- reply to that request, the error where it is one to that request, and else it is bad
+-- The answer to a request with this opcode and number, in a message that is no event: the message itself if it is the reply, the
+-- error if it is one to that request, and else a bad reply.
 abbrev pub answer_to : Order → ℕ → ℕ → List ℕ → Result (List ℕ) ConnFault
 answer_to order opcode sequence bytes =
     if u16_at order 2 bytes == sequence && u8_at 0 bytes == 1 && u8_at 1 bytes == opcode then Ok bytes
@@ -33,7 +33,7 @@ abbrev pub value_or_bad : {X : Type 0} → List ℕ → Option X → Result X Co
 value_or_bad bytes (Some value) = Ok value
 value_or_bad bytes None = Err (bad_reply bytes)
 
--- a step that may fail, and one behind it
+-- a step that may fail, and the one after it
 abbrev pub and_then : {X Y : Type 0} → (X → Result Y ConnFault) → Result X ConnFault → Result Y ConnFault
 and_then f (Ok x) = f x
 and_then f (Err e) = Err e

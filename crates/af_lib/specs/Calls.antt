@@ -26,12 +26,12 @@ use Rattle.af_lib.specs.declared.fault.Cause.TheVariants as cause
 use Rattle.af_lib.specs.declared.fault.ConnFault.{ConnFault}
 use Rattle.af_lib.specs.declared.fault.ConnFault.TheVariants as fault
 use Rattle.af_lib.specs.Ring.{Gained, RingState}
-use Rattle.af_lib.specs.Incoming.{Incoming, event, other, awaited, bad_reply, incoming, behind_message}
+use Rattle.af_lib.specs.Incoming.{Incoming, event, other, awaited_message, bad_reply, incoming, behind_message}
 use Rattle.af_lib.specs.Answers.{and_then, answer_to, value_or_bad}
 use Rattle.af_lib.specs.Observed.{BothTold}
 
--- a connection: its link, the order of the bytes of its numbers, the devices of the reply to its setup, the number of the last
--- request that it sent, its ring of events, and the first fault behind which it can be used no more
+-- a connection: its link, its byte order, the devices of the reply to its setup, the number of the last request that it sent, its
+-- ring of events, and the first fault after which it can no longer be used
 pub record ConnState (L : Type 0) : Type 0 where
   pub link : L
   pub order : Order
@@ -41,8 +41,8 @@ pub record ConnState (L : Type 0) : Type 0 where
   pub cause : Option Cause
 
 -- the number of the next request
-abbrev pub following : ℕ → ℕ
-following sequence = (sequence + 1) % 2 ^ 16
+abbrev pub next_sequence : ℕ → ℕ
+next_sequence sequence = (sequence + 1) % 2 ^ 16
 
 -- the opcode of a request
 abbrev pub opcode_of : Asked → ℕ
@@ -59,7 +59,7 @@ opcode_of (query_controls device) = opcodes.query_controls
 opcode_of (hook_switch device off) = opcodes.hook_switch
 opcode_of (query_phone device) = opcodes.query_phone
 
--- what a reply is to a call: that the request was performed
+-- a reply read as: the request was performed
 abbrev pub as_done : Answer → Option Unit
 as_done plain = Some tt
 as_done _ = None
@@ -90,7 +90,7 @@ pub record Recorded : Type 0 where
   pub time : DevTime
   pub samples : List ℕ
 
--- recorded samples: all that were asked for where the request waits for them, and else no more
+-- recorded samples: as many as were asked for if the request blocks, and else at most as many
 abbrev pub as_recorded : Bool → ℕ → Answer → Option Recorded
 as_recorded blocking asked (recorded now samples) =
     if (if blocking then length samples == asked else nat_le (length samples) asked)
@@ -99,19 +99,19 @@ as_recorded blocking asked (recorded now samples) =
 as_recorded blocking asked _ = None
 
 -- the value that the body of a reply states
-abbrev pub stated : {X : Type 0} → Order → (Answer → Option X) → ℕ → List ℕ → Option X
-stated order value_of opcode body = option_and_then value_of (answer_in order opcode body)
+abbrev pub stated_value : {X : Type 0} → Order → (Answer → Option X) → ℕ → List ℕ → Option X
+stated_value order value_of opcode body = option_and_then value_of (answer_in order opcode body)
 
--- the value of a reply that stands in a message
+-- the value of the reply in a message
 abbrev pub value_in : {X : Type 0} → Order → (Answer → Option X) → ℕ → List ℕ → Result X ConnFault
-value_in order value_of opcode bytes = value_or_bad bytes (stated order value_of opcode (drop 8 bytes))
+value_in order value_of opcode bytes = value_or_bad bytes (stated_value order value_of opcode (drop 8 bytes))
 
--- what the message that was found answers to a request of an opcode with a number
-abbrev pub answered : {X : Type 0} → Order → (Answer → Option X) → ℕ → ℕ → Result (List ℕ) ConnFault → Result X ConnFault
-answered order value_of opcode sequence found =
+-- the answer of the message that was found to a request with this opcode and number
+abbrev pub answer_of : {X : Type 0} → Order → (Answer → Option X) → ℕ → ℕ → Result (List ℕ) ConnFault → Result X ConnFault
+answer_of order value_of opcode sequence found =
     and_then (value_in order value_of opcode) (and_then (answer_to order opcode sequence) found)
 
--- the fault, if the connection can be used no more behind it
+-- the fault, if the connection can no longer be used after it
 abbrev pub cause_of : {X : Type 0} → Result X ConnFault → Option Cause
 cause_of (Err fault.LinkFault) = Some cause.LinkFault
 cause_of (Err fault.LinkEnded) = Some cause.LinkEnded
@@ -125,7 +125,7 @@ IsFresh (Err (fault.Spent first)) = ⊥
 IsFresh (Err fault.OutOfMemory) = ⊥
 IsFresh _ = ⊤
 
--- an answer to one message that is awaited: what it is, or that the link failed or ended, or that the message is a bad one
+-- an answer to one message that is awaited: the message, a link that failed or ended, or a bad message
 abbrev pub IsOfMessage : {X : Type 0} → Result X ConnFault → Type 0
 IsOfMessage (Ok x) = ⊤
 IsOfMessage (Err fault.LinkFault) = ⊤
@@ -133,31 +133,31 @@ IsOfMessage (Err fault.LinkEnded) = ⊤
 IsOfMessage (Err (fault.BadReply header first)) = ⊤
 IsOfMessage _ = ⊥
 
--- all bytes were sent, or a part of them where the link failed
+-- all bytes were sent, or a part of them if the link failed
 pub record Sends {X : Type 0} (result : Result X ConnFault) (before : Option (List ℕ)) (bytes : List ℕ)
     (after : Option (List ℕ)) : Type 0 where
   pub whole : result ≢ Err fault.LinkFault → Appended before bytes after
   pub part : AppendedPrefix before bytes after
 
--- if the link did not fail and tells its bytes, exactly the messages up to the first that is no event were taken, the
+-- if the link did not fail and its bytes are observable, exactly the messages up to the first that is no event were taken, the
 -- events went into the ring, and the answer is what that message says
 abbrev pub Answers : {X : Type 0} → Order → (Answer → Option X) → ℕ → ℕ → Result X ConnFault → RingState → RingState →
     Option (List ℕ) → Option (List ℕ) → Type 0
 Answers order value_of opcode sequence result ring ring' before after = result ≢ Err fault.LinkFault →
-    BothTold before after (λ b a. (result ≡ answered order value_of opcode sequence (awaited order most_events ring b).found)
-    × (ring' ≡ (awaited order most_events ring b).ring) × (a ≡ (awaited order most_events ring b).rest))
+    BothTold before after (λ b a. (result ≡ answer_of order value_of opcode sequence (awaited_message order most_events ring b).found)
+    × (ring' ≡ (awaited_message order most_events ring b).ring) × (a ≡ (awaited_message order most_events ring b).rest))
 
--- the same of the message itself, which stands in a buffer then
+-- the same for the message itself, which is in a buffer then
 abbrev pub held_in : {X : Type 0} → Result X ConnFault → List ℕ → Result (List ℕ) ConnFault
 held_in (Ok x) bytes = Ok bytes
 held_in (Err fault) bytes = Err fault
 
--- recorded samples, which stand in a buffer
+-- recorded samples, which are in a buffer
 abbrev pub recorded_in : Result (DevTime × ℕ) ConnFault → List ℕ → Result Recorded ConnFault
 recorded_in (Ok r) into = Ok (record { time = r.0; samples = take r.1 into })
 recorded_in (Err fault) into = Err fault
 
--- a buffer behind what was recorded stays, and all of it where nothing was
+-- the buffer past what was recorded stays as it was, and all of it if nothing was recorded
 abbrev pub KeepsTail : Result (DevTime × ℕ) ConnFault → List ℕ → List ℕ → Type 0
 KeepsTail (Ok r) old new = drop r.1 new ≡ drop r.1 old
 KeepsTail (Err fault) old new = new ≡ old
@@ -172,11 +172,11 @@ IsStoredIn (Some r) old new = drop r.1 new ≡ drop r.1 old
 IsStoredIn None old new = new ≡ old
 
 -- devices, as the list of them
-abbrev pub listed : Result (ArrayVec DeviceInfo) ConnFault → Result (List DeviceInfo) ConnFault
-listed (Ok devices) = Ok devices.items
-listed (Err fault) = Err fault
+abbrev pub device_list : Result (ArrayVec DeviceInfo) ConnFault → Result (List DeviceInfo) ConnFault
+device_list (Ok devices) = Ok devices.items
+device_list (Err fault) = Err fault
 
--- the channels of a device with a number among those of a server, one where it is not there
+-- the channels of the device with a number among those of a server, or one if there is none
 abbrev pub channels_or_one : Option DeviceInfo → ℕ
 channels_or_one (Some device) = device.channels
 channels_or_one None = 1
@@ -198,20 +198,20 @@ abbrev pub bit_if : ℕ → Bool → ℕ
 bit_if bit there = if there then bit else 0
 
 -- the request that changes the stated settings of a context
-abbrev pub settings_changed : ℕ → Option ℤ → Option ℤ → Option Bool → Asked
-settings_changed ac play record_by preempt =
+abbrev pub settings_request : ℕ → Option ℤ → Option ℤ → Option Bool → Asked
+settings_request ac play record_by preempt =
     change_ac (bit_if 1 (is_some play) + bit_if 2 (is_some record_by) + bit_if 4 (is_some preempt)) ac
     (flag_or_zero preempt) (gain_or_zero play) (gain_or_zero record_by)
 
 -- the request that changes the stated controls of a device
-abbrev pub controls_changed : ℕ → Option ℤ → Option ℤ → Option Bool → Option Bool → Asked
-controls_changed device input_gain output_gain input_on output_on =
+abbrev pub controls_request : ℕ → Option ℤ → Option ℤ → Option Bool → Option Bool → Asked
+controls_request device input_gain output_gain input_on output_on =
     set_controls device
     (bit_if 1 (is_some input_gain) + bit_if 2 (is_some output_gain)
     + bit_if 4 (is_some input_on) + bit_if 8 (is_some output_on))
     (flag_or_zero input_on) (flag_or_zero output_on) (gain_or_zero input_gain) (gain_or_zero output_gain)
 
--- what the first message of an input is to a client that waits for an event
+-- the first message of an input, as a client that waits for an event takes it
 abbrev pub event_only : Incoming → Result Event ConnFault
 event_only (event e) = Ok e
 event_only (other bytes) = Err (bad_reply bytes)
@@ -219,11 +219,11 @@ event_only (other bytes) = Err (bad_reply bytes)
 abbrev pub event_of : Order → List ℕ → Result Event ConnFault
 event_of order input = and_then event_only (incoming order input)
 
--- A call of a connection that sends a request and takes its answer, by the bytes that the link is left to give and was
--- sent, if it tells them, and by its count of faults.
+-- A call of a connection that sends a request and takes its answer. It goes by the bytes that the link has left to give and was
+-- sent, if they are observable, and by its count of faults.
 pub record Called {L X : Type 0} (left sent : L → Option (List ℕ)) (faults : L → ℕ) (asked : Asked) (value_of : Answer → Option X)
     (old new : ConnState L) (result : Result X ConnFault) : Type 0 where
-  -- Spent exactly where an earlier call answered a fault behind which the connection can be used no more: the first one
+  -- Spent exactly if an earlier call answered a fault after which the connection can no longer be used: the first such fault
   pub spent : (first : Cause) → (result ≡ Err (fault.Spent first)) ↔ (old.cause ≡ Some first)
   -- and then nothing is read or written
   pub untouched : IsSome old.cause → new ≡ old
@@ -231,13 +231,13 @@ pub record Called {L X : Type 0} (left sent : L → Option (List ℕ)) (faults :
   pub sends : old.cause ≡ None → Sends result (sent old.link) (request_bytes old.order asked) (sent new.link)
   -- exactly its answer was taken
   pub answers : old.cause ≡ None →
-      Answers old.order value_of (opcode_of asked) (following old.sequence) result old.ring new.ring
+      Answers old.order value_of (opcode_of asked) (next_sequence old.sequence) result old.ring new.ring
       (left old.link) (left new.link)
-  -- the ring gained events and nothing else, also where the link failed
+  -- the ring gained events and nothing else, also if the link failed
   pub gained : old.cause ≡ None → Gained old.ring new.ring
   -- the answer is one of a connection that can still be used
   pub fresh : old.cause ≡ None → IsFresh result
-  -- bytes that are observed stay observed
+  -- bytes that are observable stay so
   pub tells : IsSome (left old.link) → IsSome (left new.link)
   -- the order and the devices stay, and a fault is kept
   pub keeps : old.cause ≡ None →
@@ -245,18 +245,18 @@ pub record Called {L X : Type 0} (left sent : L → Option (List ℕ)) (faults :
         link = new.link;
         order = old.order;
         devices = old.devices;
-        sequence = following old.sequence;
+        sequence = next_sequence old.sequence;
         ring = new.ring;
         cause = cause_of result;
       }
-  -- LinkFault only where the link's count of faults rose
+  -- LinkFault only if the link's count of faults rose
   pub failed : result ≡ Err fault.LinkFault → FaultCounted (faults old.link) (faults new.link)
   pub count : faults old.link ≤ faults new.link
 
--- A call that waits for an event: the oldest of the ring, or where that is empty the next message.
+-- A call that waits for an event: the oldest of the ring, or the next message if the ring is empty.
 pub record EventAwaited {L : Type 0} (left sent : L → Option (List ℕ)) (faults : L → ℕ) (old new : ConnState L)
     (result : Result Event ConnFault) : Type 0 where
-  -- Spent exactly where an earlier call answered a fault behind which the connection can be used no more: the first one
+  -- Spent exactly if an earlier call answered a fault after which the connection can no longer be used: the first such fault
   pub spent : (first : Cause) → (result ≡ Err (fault.Spent first)) ↔ (old.cause ≡ Some first)
   -- and then nothing is read
   pub untouched : IsSome old.cause → new ≡ old
@@ -266,9 +266,9 @@ pub record EventAwaited {L : Type 0} (left sent : L → Option (List ℕ)) (faul
   -- exactly one message was taken
   pub next : old.cause ≡ None → slice_get old.ring.events 0 ≡ None → result ≢ Err fault.LinkFault →
       BothTold (left old.link) (left new.link) (λ b a. (result ≡ event_of old.order b) × (a ≡ behind_message old.order b))
-  -- and but for Spent no other answer comes than an event, LinkFault, LinkEnded or BadReply
+  -- except for Spent, the answer is an event, LinkFault, LinkEnded or BadReply
   pub answer : old.cause ≡ None → IsOfMessage result
-  -- bytes that are observed stay observed
+  -- bytes that are observable stay so
   pub tells : IsSome (left old.link) → IsSome (left new.link)
   -- the ring stays empty, and a fault is kept
   pub keeps : old.cause ≡ None → slice_get old.ring.events 0 ≡ None →
@@ -282,26 +282,26 @@ pub record EventAwaited {L : Type 0} (left sent : L → Option (List ℕ)) (faul
       }
   -- nothing is sent
   pub sends : sent new.link ≡ sent old.link
-  -- LinkFault only where the link's count of faults rose
+  -- LinkFault only if the link's count of faults rose
   pub failed : result ≡ Err fault.LinkFault → FaultCounted (faults old.link) (faults new.link)
   pub count : faults old.link ≤ faults new.link
 
--- A setup of an order that was sent, and its answer.
+-- A setup was sent in a byte order, with this answer.
 pub record IsSetUp {L : Type 0} (order : Order) (left sent : L → Option (List ℕ)) (faults : L → ℕ) (old new : L)
     (ring : RingState) (result : Result (List DeviceInfo) ConnFault) : Type 0 where
   -- exactly the setup was sent
   pub sends : Sends result (sent old) (setup_bytes order) (sent new)
   -- exactly its answer was taken
   pub answers : Answers order as_devices opcodes.setup 0 result (record { events = []; lost = 0 }) ring (left old) (left new)
-  -- it is neither Spent nor want of memory
+  -- it is neither Spent nor out of memory
   pub fresh : IsFresh result
-  -- bytes that are observed stay observed
+  -- bytes that are observable stay so
   pub tells : IsSome (left old) → IsSome (left new)
-  -- LinkFault only where the link's count of faults rose
+  -- LinkFault only if the link's count of faults rose
   pub failed : result ≡ Err fault.LinkFault → FaultCounted (faults old) (faults new)
   pub count : faults old ≤ faults new
 
--- a connection that was set up; or a fault, with the link, which is as it was where memory ran out
+-- a connection that was set up; or a fault, with the link, which is as it was if memory ran out
 abbrev pub Connects : {L : Type 0} → Order → (L → Option (List ℕ)) → (L → Option (List ℕ)) → (L → ℕ) → L →
     Result (ConnState L) (ConnFault × L) → Type 0
 Connects order left sent faults link (Ok conn) =
@@ -310,13 +310,13 @@ Connects order left sent faults link (Ok conn) =
 Connects order left sent faults link (Err e) =
     ((e.0 ≡ fault.OutOfMemory) × (e.1 ≡ link)) ⊎ ((ring : RingState) × IsSetUp order left sent faults link e.1 ring (Err e.0))
 
--- a call whose link tells its bytes is Ok where these hold the awaited reply and the link's count of faults did not rise
+-- a call over an observable link is Ok if its bytes hold the awaited reply and its count of faults did not rise
 abbrev pub Succeeds : {L X : Type 0} → (L → Option (List ℕ)) → (L → ℕ) → Asked → (Answer → Option X) → ConnState L → ConnState L →
     Result X ConnFault → Type 0
 Succeeds left faults asked value_of old new result =
     old.cause ≡ None → ¬ (FaultCounted (faults old.link) (faults new.link)) → BothTold (left old.link) (left new.link) (λ b a.
-    IsOk (answered old.order value_of (opcode_of asked) (following old.sequence)
-    (awaited old.order most_events old.ring b).found) → IsOk result)
+    IsOk (answer_of old.order value_of (opcode_of asked) (next_sequence old.sequence)
+    (awaited_message old.order most_events old.ring b).found) → IsOk result)
 
 -- each call of a connection whose reply states such a value is one of these
 abbrev pub IsOkWhereAwaited : {L X : Type 0} → (left sent : L → Option (List ℕ)) → (faults : L → ℕ) → (Answer → Option X) → Type 0

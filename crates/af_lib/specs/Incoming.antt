@@ -16,7 +16,7 @@ use Rattle.af_lib.specs.Ring.{RingState, with_event}
 abbrev pub first_bytes : List ℕ → List ℕ
 first_bytes body = take 8 body ++ replicate (8 - length body) 0
 
--- a message that does not answer, or a head that is none: it is shown by its first 8 bytes and those behind them
+-- a message that does not answer, or a bad header: it is shown by its first 8 bytes and those after them
 abbrev pub bad_reply : List ℕ → ConnFault
 bad_reply bytes = fault.BadReply (take 8 bytes) (first_bytes (drop 8 bytes))
 
@@ -25,12 +25,12 @@ pub data Incoming : Type 0 where
   event : Event → Incoming
   other : (bytes : List ℕ) → Incoming
 
--- an event's message whose body states none is a bad one
+-- an event's message whose body states none is bad
 abbrev pub event_or_bad : List ℕ → Option Event → Result Incoming ConnFault
 event_or_bad bytes (Some e) = Ok (event e)
 event_or_bad bytes None = Err (bad_reply bytes)
 
--- what a whole message with a good head is; kind 2 is that of events
+-- what a complete message with a good header is; kind 2 is that of events
 abbrev pub message_in : Order → List ℕ → Result Incoming ConnFault
 message_in order bytes =
     if u8_at 0 bytes == 2 then event_or_bad bytes (event_in order (u8_at 1 bytes) (drop 8 bytes)) else Ok (other bytes)
@@ -41,7 +41,7 @@ incoming_at order (NeedMore n) input = Err fault.LinkEnded
 incoming_at order (Message kind detail sequence n) input = message_in order (take n input)
 incoming_at order BadMessage input = Err (bad_reply (take 8 input))
 
--- the input behind that message: a bad head is taken alone, and of a message that is cut off all is taken
+-- the input after that message: a bad header is taken alone; of a message that is cut off, all is taken
 abbrev pub rest_at : MessageFront → List ℕ → List ℕ
 rest_at (NeedMore n) input = []
 rest_at (Message kind detail sequence n) input = drop n input
@@ -51,7 +51,7 @@ rest_at BadMessage input = drop 8 input
 unfoldable pub incoming : Order → List ℕ → Result Incoming ConnFault
 incoming order input = incoming_at order (message_front order input) input
 
--- the input behind its first message
+-- the input after its first message
 unfoldable pub behind_message : Order → List ℕ → List ℕ
 behind_message order input = rest_at (message_front order input) input
 
@@ -61,14 +61,14 @@ pub record Awaited : Type 0 where
   pub ring : RingState
   pub rest : List ℕ
 
--- an event goes into the ring, and the next message is looked at; anything else is found
+-- an event goes into the ring, and the next message is looked at; anything else is what was found
 abbrev pub awaited_by : Result Incoming ConnFault → RingState → List ℕ → (RingState → Awaited) → Awaited
 awaited_by (Ok (event e)) ring rest more = more (with_event e ring)
 awaited_by (Ok (other bytes)) ring rest more = record { found = Ok bytes; ring = ring; rest = rest }
 awaited_by (Err fault) ring rest more = record { found = Err fault; ring = ring; rest = rest }
 
--- the first message of an input that is no event, where fewer than n events come before it
-unfoldable pub awaited : Order → ℕ → RingState → List ℕ → Awaited
-awaited order zero ring input = record { found = Err fault.EventFlood; ring = ring; rest = input }
-awaited order (suc n) ring input =
-    awaited_by (incoming order input) ring (behind_message order input) (λ r. awaited order n r (behind_message order input))
+-- the first message of an input that is no event, if fewer than n events come before it
+unfoldable pub awaited_message : Order → ℕ → RingState → List ℕ → Awaited
+awaited_message order zero ring input = record { found = Err fault.EventFlood; ring = ring; rest = input }
+awaited_message order (suc n) ring input =
+    awaited_by (incoming order input) ring (behind_message order input) (λ r. awaited_message order n r (behind_message order input))

@@ -1,4 +1,4 @@
--- What the steps of receiving a message do to the bytes of a link, if it tells them.
+-- What the steps of receiving a message do to the bytes of a link, if they are observable.
 use Rattle.std.specs.Prelude.{◌≡◌, ◌<◌, ◌≤◌, ⊤, ℕ, List, [], ◌++◌, length, take, Result, Ok, Err}
 use Rattle.std.specs.declared.option.Option.{Option}
 use Rattle.af_limits.specs.Limits.{longest_message, most_events}
@@ -14,7 +14,7 @@ use Rattle.af_lib.specs.declared.receive.Framed.TheVariants as framed
 use Rattle.af_lib.specs.declared.receive.Taken.{Taken}
 use Rattle.af_lib.specs.declared.receive.Taken.TheVariants as taken
 use Rattle.af_lib.specs.Ring.{RingState}
-use Rattle.af_lib.specs.Incoming.{Incoming, event, other, incoming, behind_message, awaited}
+use Rattle.af_lib.specs.Incoming.{Incoming, event, other, incoming, behind_message, awaited_message}
 use Rattle.af_lib.specs.Observed.{BothTold}
 
 -- a slice was filled; or fewer bytes than it has room for were left, and were all given
@@ -23,7 +23,7 @@ Fills filled.Whole into before after = Consumed before into after
 Fills filled.Ended into before after = BothTold before after (λ b a. (length b < length into) × (a ≡ []))
 Fills filled.Failed into before after = ⊤
 
--- the front of an input states a whole message of n bytes
+-- the front of an input states a complete message of n bytes
 pub record IsWhole (order : Order) (input : List ℕ) (n : ℕ) : Type 0 where
   pub kind : ℕ
   pub detail : ℕ
@@ -35,7 +35,7 @@ pub record IsCut (order : Order) (input : List ℕ) : Type 0 where
   pub length : ℕ
   pub front : message_front order input ≡ NeedMore length
 
--- one message was read, or a head that is none, or all of an input that is too short
+-- one message was read, or a bad header, or all of an input that is too short
 abbrev pub Frames : Order → Framed → List ℕ → Option (List ℕ) → Option (List ℕ) → Type 0
 Frames order (framed.Message n) into before after = BothTold before after (λ b a. IsWhole order b n × (b ≡ take n into ++ a))
 Frames order framed.BadHead into before after =
@@ -43,39 +43,39 @@ Frames order framed.BadHead into before after =
 Frames order framed.Ended into before after = BothTold before after (λ b a. IsCut order b × (a ≡ []))
 Frames order framed.Failed into before after = ⊤
 
--- a message has a head, and the buffer has room for it
+-- a message has a header, and the buffer has room for it
 abbrev pub IsFramedWithin : Framed → Type 0
 IsFramedWithin (framed.Message n) = (8 ≤ n) × (n ≤ longest_message)
 IsFramedWithin _ = ⊤
 
--- a message as it is told of, which stands in a buffer
+-- the message that was taken and is in a buffer
 abbrev pub taken_of : Taken → List ℕ → Incoming
 taken_of (taken.Event e) into = event e
 taken_of (taken.Other n) into = other (take n into)
 
--- the same where there may be none
+-- the same, if there is one
 abbrev pub taken_as : Result Taken ConnFault → List ℕ → Result Incoming ConnFault
 taken_as (Ok (taken.Event e)) into = Ok (event e)
 taken_as (Ok (taken.Other n)) into = Ok (other (take n into))
 taken_as (Err fault) into = Err fault
 
--- another message than an event has a head, and stands in n bytes
+-- a message that is no event has a header, and is n bytes long
 abbrev pub IsTakenWithin : Result Taken ConnFault → ℕ → Type 0
 IsTakenWithin (Ok (taken.Other n)) most = (8 ≤ n) × (n ≤ most)
 IsTakenWithin _ most = ⊤
 
--- the first message was taken, and nothing behind it
+-- the first message was taken, and nothing after it
 abbrev pub Takes : Order → Result Taken ConnFault → List ℕ → Option (List ℕ) → Option (List ℕ) → Type 0
 Takes order result into before after =
     BothTold before after (λ b a. (taken_as result into ≡ incoming order b) × (a ≡ behind_message order b))
 
--- the message that was found, which stands in a buffer
+-- the message that was found and is in a buffer
 abbrev pub found_as : Result ℕ ConnFault → List ℕ → Result (List ℕ) ConnFault
 found_as (Ok n) into = Ok (take n into)
 found_as (Err fault) into = Err fault
 
--- the messages up to the first that is no event were taken, at most 4096 of them, and nothing behind them
+-- the messages up to the first that is no event were taken, at most 4096 of them, and nothing after them
 abbrev pub Awaits : Order → Result ℕ ConnFault → List ℕ → RingState → RingState → Option (List ℕ) → Option (List ℕ) → Type 0
 Awaits order result into ring ring' before after =
     BothTold before after
-    (λ b a. awaited order most_events ring b ≡ record { found = found_as result into; ring = ring'; rest = a })
+    (λ b a. awaited_message order most_events ring b ≡ record { found = found_as result into; ring = ring'; rest = a })

@@ -1,4 +1,4 @@
-// Replies as the values that they state, for each kind of request.
+// Replies as the values that they state, one impl for each kind of request.
 ghost use Rattle.std.specs.Prelude.{◌≡◌, ◌≢◌, ◌≤◌, length, option_map, Err, IfOk, IfSome, IsTrue, IsSome};
 ghost use Rattle.std.specs.declared.option.Option.{Option};
 ghost use Rattle.af_limits.specs.Limits.{longest_message};
@@ -12,7 +12,7 @@ ghost use Rattle.af_request.specs.Opcodes as opcodes;
 ghost use Rattle.af_lib.specs.Answers.{value_or_bad};
 ghost use Rattle.af_lib.specs.Exchange.{HasBuffers};
 ghost use Rattle.af_lib.specs.Ring.{Gained};
-ghost use Rattle.af_lib.specs.Calls.{as_controls, as_devices, as_done, as_phone, as_recorded, as_time, listed, opcode_of, recorded_in, stored_in, value_in, Answers, IsFresh, KeepsTail, IsStoredIn, Sends};
+ghost use Rattle.af_lib.specs.Calls.{as_controls, as_devices, as_done, as_phone, as_recorded, as_time, device_list, opcode_of, recorded_in, stored_in, value_in, Answers, IsFresh, KeepsTail, IsStoredIn, Sends};
 
 use crate::exchange::{Exchange, ask, await_setup, opcode_of};
 use crate::fault::ConnFault;
@@ -23,7 +23,7 @@ use af_request::{Controls, Devices, Phone, Reply, Request, opcode, read_reply};
 use af_time::DevTime;
 use af_wire::Order;
 
-// The value of a reply, or the fault of a message that states none.
+// The value of a reply, or the fault of a message without one.
 fn or_bad<T>(value: Option<T>, bytes: &[u8]) -> Result<T, ConnFault>
     requires { 8 ≤ length bytes.now }
     ensures value { result ≡ value_or_bad bytes.now value }
@@ -91,7 +91,7 @@ impl FromReply for Phone {
     }
 }
 
-// The value of a message that is a reply, or the fault of one whose body states none.
+// The value of a message that is a reply. If its body states none, the message is bad.
 fn value_in<T: FromReply>(order: Order, opcode: u8, bytes: &[u8]) -> Result<T, ConnFault>
     requires { 8 ≤ length bytes.now }
     ensures value { result ≡ value_in order T.value_of opcode bytes.now }
@@ -129,7 +129,7 @@ pub fn ask_value<T: FromReply, L: Link + Drop>(
     }
 }
 
-// Takes recorded samples, if they are as many as were asked for, or fewer where the request does not wait for all.
+// Stores recorded samples, if they are as many as were asked for. A request that does not block may get fewer.
 fn stored(
     time: DevTime,
     samples: &[u8],
@@ -229,7 +229,7 @@ fn devices_of(reply: Reply<'_>) -> Option<Devices>
 
 fn devices_in(order: Order, bytes: &[u8]) -> Result<Devices, ConnFault>
     requires { 8 ≤ length bytes.now }
-    ensures value { listed result ≡ value_in order as_devices opcodes.setup bytes.now }
+    ensures value { device_list result ≡ value_in order as_devices opcodes.setup bytes.now }
     ensures stated { IfOk result (λ devices. IsReplyTo opcodes.setup (setup devices.items)) }
     ensures fresh { IsFresh result }
     ensures sound { result ≢ Err ConnFault.LinkFault }
@@ -248,11 +248,11 @@ pub fn set_up<L: Link>(
     input: &mut [u8],
 ) -> Result<Devices, ConnFault>
     requires { longest_message ≤ length input.old }
-    ensures answers { Answers order as_devices opcodes.setup 0 (listed result) ring.old ring.new
+    ensures answers { Answers order as_devices opcodes.setup 0 (device_list result) ring.old ring.new
         (L.left link.old) (L.left link.new) }
     ensures stated { IfOk result (λ devices. IsReplyTo opcodes.setup (setup devices.items)) }
     ensures fresh { IsFresh result }
-    ensures sends { Sends (listed result) (L.sent link.old) (setup_bytes order) (L.sent link.new) }
+    ensures sends { Sends (device_list result) (L.sent link.old) (setup_bytes order) (L.sent link.new) }
     ensures tells { IsSome (L.left link.old) → IsSome (L.left link.new) }
     ensures faults { CountsFault (result ≡ Err ConnFault.LinkFault) (L.faults link.old) (L.faults link.new) }
 {

@@ -6,7 +6,7 @@ ghost use Rattle.af_request.specs.Fields.{flag_byte};
 ghost use Rattle.af_request.specs.Asked.{request_meaning, create_ac, free_ac, get_time, hook_switch, play_run, query_controls, query_phone, record_run, select_events};
 ghost use Rattle.af_request.specs.Requests.{FitsFrame};
 ghost use Rattle.af_request.specs.Replies.{IsDeviceInfo};
-ghost use Rattle.af_lib.specs.Calls.{as_controls, as_done, as_phone, as_recorded, as_time, bit_if, controls_changed, device_channels, flag_or_zero, gain_or_zero, recorded_in, settings_changed, Called, Connects, KeepsTail, EventAwaited};
+ghost use Rattle.af_lib.specs.Calls.{as_controls, as_done, as_phone, as_recorded, as_time, bit_if, controls_request, device_channels, flag_or_zero, gain_or_zero, recorded_in, settings_request, Called, Connects, KeepsTail, EventAwaited};
 
 use crate::asks::{FromReply, ask_recorded, ask_value, set_up};
 use crate::exchange::{Exchange, cause_of};
@@ -110,8 +110,8 @@ impl<L: Link + Drop> Conn<L> {
         link
     }
 
-    /// Takes the oldest event of the ring, also of a connection that can be used no more. None exactly where the ring is
-    /// empty. It does not read.
+    /// Takes the oldest event of the ring, also from a connection that can no longer be used. None exactly if the ring is empty.
+    /// It does not read.
     pub fn next_event(&mut self) -> Option<Event>
         ensures oldest { result ≡ slice_get self.old.ring.events 0 }
         ensures rest { self.new ≡ record self.old { ring = record self.old.ring { events = drop 1 self.old.ring.events } } }
@@ -174,7 +174,7 @@ impl<L: Link + Drop> Conn<L> {
         record_by: Option<Gain>,
         preempt: Option<bool>,
     ) -> Result<(), ConnFault>
-        ensures { Called L.left L.sent L.faults (settings_changed ac play record_by preempt) as_done self.old self.new result }
+        ensures { Called L.left L.sent L.faults (settings_request ac play record_by preempt) as_done self.old self.new result }
     {
         self.ask(&Request::ChangeAc {
             mask: bit_if(1, play.is_some())
@@ -268,7 +268,7 @@ impl<L: Link + Drop> Conn<L> {
         input_on: Option<bool>,
         output_on: Option<bool>,
     ) -> Result<(), ConnFault>
-        ensures { Called L.left L.sent L.faults (controls_changed device input_gain output_gain input_on output_on)
+        ensures { Called L.left L.sent L.faults (controls_request device input_gain output_gain input_on output_on)
             as_done self.old self.new result }
     {
         self.ask(&Request::SetControls {
@@ -308,7 +308,7 @@ impl<L: Link + Drop> Conn<L> {
         self.ask(&Request::QueryPhone { device })
     }
 
-    // The channels of a device, one where it is not there.
+    // The channels of a device, or one if it does not exist.
     fn channels_of(&self, device: u8) -> u8
         ensures { result ≡ device_channels self.now.devices device }
     {

@@ -63,7 +63,7 @@ pub fn opcode_of(request: &Request<'_>) -> u8
     }
 }
 
-// The value that an error to a request of this opcode refuses.
+// The value that an error refuses, in a request of this opcode.
 fn refused_in(order: Order, opcode: u8, body: &[u8]) -> Option<u32>
     ensures { result ≡ refused_in order opcode body.now }
 {
@@ -77,7 +77,7 @@ fn refused_in(order: Order, opcode: u8, body: &[u8]) -> Option<u32>
     }
 }
 
-// Whether a message that is no event is a reply to a request of an opcode with a number, or what it is in its place.
+// Whether a message that is no event is the reply to a request with this opcode and number, or else what it is.
 fn answer_to(order: Order, opcode: u8, sequence: u16, bytes: &[u8]) -> Result<(), ConnFault>
     requires { 8 ≤ length bytes.now }
     ensures value { held_in result bytes.now ≡ answer_to order opcode sequence bytes.now }

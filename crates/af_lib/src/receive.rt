@@ -174,7 +174,7 @@ pub fn take_event<L: Link>(order: Order, link: &mut L, input: &mut [u8]) -> Resu
     }
 }
 
-// The event that was taken, or the fault of another message, which stands in the input.
+// The event that was taken, or the fault of another message. The input has its bytes.
 fn event_in(taken: Taken, input: &[u8]) -> Result<Event, ConnFault>
     requires { IsTakenWithin (Ok taken) (length input.now) }
     ensures value { Ok (taken_of taken input.now) ≡ taken_as (Ok taken) input.now }

@@ -1,4 +1,4 @@
-// The ring of events that a client has not taken yet.
+// The ring of events that a client has not taken yet. If it is full, the oldest one is lost.
 ghost use Rattle.std.specs.Prelude.{◌≡◌, [], drop, slice_get, IfOk};
 ghost use Rattle.std.specs.declared.option.Option.TheVariants.{None};
 ghost use Rattle.af_lib.specs.Ring.{with_event};

@@ -31,7 +31,7 @@ longest_capture = 4 * most_tick_samples
 
 -- ---- how long a request and its reply are, in bytes
 
--- words of four bytes that a request has, its head among them
+-- words of four bytes that a request has, with its header
 abbrev pub most_words : ℕ
 most_words = 4096
 
@@ -39,7 +39,7 @@ most_words = 4096
 abbrev pub longest_frame : ℕ
 longest_frame = 4 * most_words
 
--- the samples of a Play: a request less its first four words. No sample is shorter than a byte, so a Play has no more frames
+-- the samples of a Play: a request without its first four words. No sample is shorter than a byte, so a Play has no more frames
 abbrev pub longest_play : ℕ
 longest_play = longest_frame - 16
 
@@ -47,7 +47,7 @@ longest_play = longest_frame - 16
 abbrev pub longest_record : ℕ
 longest_record = 16000
 
--- a message, with its head: the reply to the longest Record
+-- a message, with its header: the reply to the longest Record
 abbrev pub longest_message : ℕ
 longest_message = 16 + longest_record
 
@@ -61,19 +61,19 @@ longest_read = 16384
 abbrev pub longest_send : ℕ
 longest_send = longest_read
 
--- unread input: a request that is not whole yet, and one read
+-- unread input: a request that is not complete yet, and one read
 abbrev pub most_unread : ℕ
 most_unread = longest_frame + longest_read
 
--- with no more than this to be sent, requests of the link are performed
+-- requests of a link are performed while at most this much waits to be sent
 abbrev pub perform_limit : ℕ
 perform_limit = 16384
 
--- with no more than this to be sent, an event among it, a link is told the event; beyond, it is dropped
+-- an event is queued for a link if then at most this much waits to be sent; else the link is dropped
 abbrev pub event_limit : ℕ
 event_limit = 49152
 
--- unsent output that may come to be: events up to their limit, and one reply
+-- the most output that can wait to be sent: events up to their limit, and one reply
 abbrev pub most_pending : ℕ
 most_pending = event_limit + longest_message
 
@@ -105,6 +105,6 @@ longest_source = 2 ^ 40
 abbrev pub most_events : ℕ
 most_events = 4096
 
--- events that a connection keeps: of more, the oldest are lost
+-- events that a connection keeps: if more come, the oldest are lost
 abbrev pub most_kept_events : ℕ
 most_kept_events = 64

@@ -1,4 +1,4 @@
--- The program that stands for the exchange of a line, as a world has it.
+-- The program that is the exchange of a line, as a world has it.
 use Rattle.std.specs.Prelude.{◌≡◌, ⊤, ℕ, Bool, true, false, is_some, List, [], ◌∷◌, MatchOption, IfSome}
 use Rattle.std.specs.declared.option.Option.{Option}
 use Rattle.std.specs.declared.option.Option.TheVariants.{None, Some}
@@ -12,7 +12,7 @@ use Rattle.af_exchange.specs.Told.{IsTold, IsDrained}
 use Rattle.af_exchange.specs.Dialogue.{DialogueState, new_dialogue, is_open, is_over}
 use Rattle.af_exchange.specs.Exchange.{ExchangeState, lines_of, order_at, tried_after, hook_answer}
 
--- the acts of its program, if they are observed; what lies between it and its line; and the words of each start
+-- the acts of its program, if they are observable; what stands between it and its line; and the command line of each start
 pub record ExchangeUse : Type 0 where
   pub acts : Option (List ToldAct)
   pub dialogue : DialogueState
@@ -21,16 +21,17 @@ pub record ExchangeUse : Type 0 where
 abbrev pub exchange_use : {P : Type 0} → (P → Option (List ToldAct)) → ExchangeState P → ExchangeUse
 exchange_use acts e = record { acts = acts e.program; dialogue = e.dialogue; words = e.words }
 
--- if the acts are observed, what an exchange promises holds of them: each change was given once, in order, and each hook call was told
+-- if the acts are observable, what an exchange promises holds of them: each change was given once, in order, and each hook call
+-- was handed on
 abbrev pub IsToldUse : ExchangeUse → Type 0
 IsToldUse e =
     MatchOption e.acts ⊤ (λ told. IsTold e.dialogue.starts.restarts e.dialogue.off e.dialogue.left e.dialogue.owed (is_open e.dialogue.running) told)
 
--- all changes that its program gave so far were given, and no line of it is at fault
+-- all changes that its program gave so far were given, and none of its lines is malformed
 abbrev pub IsDrainedUse : ExchangeUse → Type 0
 IsDrainedUse e = MatchOption e.acts ⊤ (λ told. IsDrained (ledger_of told).running)
 
--- how often its program may be started, and by which words, stay
+-- how often its program may be started, and its command line stay
 pub record KeepsOrders (before after : ExchangeUse) : Type 0 where
   pub restarts : after.dialogue.starts.restarts ≡ before.dialogue.starts.restarts
   pub words : after.words ≡ before.words
@@ -42,12 +43,12 @@ orders_of restarts words = record { acts = None; dialogue = new_dialogue restart
 abbrev pub exchange_orders : ExchangeUse → ExchangeUse
 exchange_orders e = orders_of e.dialogue.starts.restarts e.words
 
--- Of a program that told nothing before: this start was tried, no change was given, and no hook call came.
+-- A program without acts so far was started once. No change was given, and no hook call came.
 abbrev pub StartsOnce : ℕ → List (List ℕ) → Option (List ToldAct) → Type 0
 StartsOnce at words acts =
     (before : Option (List ToldAct)) × TellsNothing before × Notes [] [] (record { at = at; words = words } ∷ []) before acts
 
--- It was just attached: its program was started once, by these words, and runs; and the phone is on its hook.
+-- It was just attached: its program was started once, by this command line, and runs; and the phone is on its hook.
 pub record IsBegun (restarts : ℕ) (words : List (List ℕ)) (e : ExchangeUse) : Type 0 where
   pub started_anew : e.dialogue.starts.restarts ≡ restarts
   pub started_by : e.words ≡ words
@@ -58,8 +59,8 @@ pub record IsBegun (restarts : ℕ) (words : List (List ℕ)) (e : ExchangeUse) 
   pub starts_once : StartsOnce at words e.acts
   pub told : IsToldUse e
 
--- It is asked at a moment, and gives this change or none. Where it gives none, all that its program said was given, and one that gives or
--- takes nothing any more was ended. Where none runs a start is tried, if one may come.
+-- It is asked at a moment, and gives this change or none. If it gives none, all that its program said was given, and a program
+-- that gives or takes nothing any more was ended. If no program runs, a start is tried, if one may come.
 pub record AsksExchange (at : ℕ) (change : Option LineChange) (before after : ExchangeUse) : Type 0 where
   pub notes : Notes (lines_of change) [] (order_at before.dialogue before.words at) before.acts after.acts
   pub possible : IfSome change (λ c. is_change c ≡ true)

@@ -10,7 +10,7 @@ use Rattle.af_world.specs.declared.live.Ready.{Ready}
 use Rattle.af_world.specs.declared.live.Ready.TheVariants as ready
 use Rattle.af_lines.specs.ExchangeUse.{ExchangeUse, IsBegun, AsksExchange, CallsExchange, exchange_orders}
 
--- a line has no program and never rings, or a program stands for its exchange
+-- a line has no program and never rings, or a program is its exchange
 pub data LineState : Type 0 where
   quiet : LineState
   over : ExchangeUse → LineState
@@ -39,7 +39,7 @@ is_quiet None = false
 is_quiet (Some quiet) = true
 is_quiet (Some (over e)) = false
 
--- whether a program stands for its exchange
+-- whether a program is its exchange
 abbrev pub has_exchange : Option LineState → Bool
 has_exchange None = false
 has_exchange (Some quiet) = false
@@ -50,10 +50,10 @@ abbrev pub NoneFrom : ℕ → List (Option LineState) → Type 0
 NoneFrom end lines = (d : ℕ) → end ≤ d → has_exchange (line_at lines d) ≡ false
 
 -- a new round begins
-abbrev pub lines_begun : LinesState → LinesState
-lines_begun l = record l { next = 0; changed = false }
+abbrev pub lines_at_round_start : LinesState → LinesState
+lines_at_round_start l = record l { next = 0; changed = false }
 
--- which lines there are, and the orders of their programs, whatever went by
+-- which lines exist, and the orders of their programs, whatever went by
 abbrev pub line_orders : LineState → LineState
 line_orders quiet = quiet
 line_orders (over e) = over (exchange_orders e)
@@ -69,7 +69,7 @@ lines_after ready.Done d has_line l = record l { lines = slice_set l.lines d (if
 lines_after ready.Failed d has_line l = l
 lines_after ready.OutOfMemory d has_line l = l
 
--- a program was put behind the line of a device, and runs
+-- a program became the exchange of a device's line, and runs
 abbrev pub AttachesLine : Ready → ℕ → List (List ℕ) → ℕ → LinesState → LinesState → Type 0
 AttachesLine ready.Done restarts words d old new =
     (e : ExchangeUse) × IsBegun restarts words e × (new ≡ record old { lines = slice_set old.lines d (Some (over e)) })
@@ -84,13 +84,13 @@ IsAskedOf at change None l' = (change ≡ None) × (l' ≡ None)
 IsAskedOf at change (Some quiet) l' = (change ≡ None) × (l' ≡ Some quiet)
 IsAskedOf at change (Some (over e)) l' = (e' : ExchangeUse) × AsksExchange at change e e' × (l' ≡ Some (over e'))
 
--- of the lines between two each was asked, and has no change; no other is changed
+-- each line between two was asked, and has no change; no other is changed
 pub record LinesAsked (at from to : ℕ) (old new : List (Option LineState)) : Type 0 where
   pub inside : (d : ℕ) → d < to → from ≤ d → IsAskedOf at None (line_at old d) (line_at new d)
   pub below : (d : ℕ) → d < from → line_at new d ≡ line_at old d
   pub above : (d : ℕ) → to ≤ d → line_at new d ≡ line_at old d
 
--- of those before a line each was asked, and has no change; this line gives one; no other is changed
+-- each line before one was asked, and has no change; this line gives one; no other is changed
 pub record LineChanges (at from d : ℕ) (change : LineChange) (old new : List (Option LineState)) : Type 0 where
   pub on : from ≤ d
   pub passed : (k : ℕ) → k < d → from ≤ k → IsAskedOf at None (line_at old k) (line_at new k)
@@ -103,7 +103,8 @@ abbrev pub AsksUpTo : ℕ → ℕ → ℕ → List (Option LineState) → Option
 AsksUpTo at from to old None new = LinesAsked at from (max from to) old new
 AsksUpTo at from to old (Some (d, change)) new = (d < to) × LineChanges at from d change old new
 
--- The round goes on by rising number to the next line that gives a change, or past the last. Each that it comes to is asked.
+-- The round goes on, in the order of numbers, to the next line that gives a change, or past the last. Each that it comes to is
+-- asked.
 abbrev pub GoesOverLines : ℕ → LinesState → Option (ℕ × LineChange) → LinesState → Type 0
 GoesOverLines at old None new =
     LinesAsked at old.next most_devices old.lines new.lines × (new.next ≡ most_devices) × (new.changed ≡ old.changed)
@@ -112,7 +113,7 @@ GoesOverLines at old (Some (d, change)) new =
 
 -- Hook calls
 
--- A line hands a hook call to its program. One without a program takes each.
+-- A line hands a hook call to its program. A line without one accepts every call.
 abbrev pub HooksBy : Bool → Put → Option LineState → Option LineState → Type 0
 HooksBy off answer None l' = (answer ≡ put.Done) × (l' ≡ None)
 HooksBy off answer (Some quiet) l' = (answer ≡ put.Done) × (l' ≡ Some quiet)
@@ -122,6 +123,6 @@ HooksBy off answer (Some (over e)) l' = (e' : ExchangeUse) × CallsExchange off 
 abbrev pub HooksLine : ℕ → Bool → Put → List (Option LineState) → List (Option LineState) → Type 0
 HooksLine d off answer old new = (after : Option LineState) × HooksBy off answer (line_at old d) after × (new ≡ slice_set old d after)
 
--- and the round stays where it is
+-- and the round stays at its place
 abbrev pub HooksAt : ℕ → Bool → Put → LinesState → LinesState → Type 0
 HooksAt d off answer old new = HooksLine d off answer old.lines new.lines × (new.next ≡ old.next) × (new.changed ≡ old.changed)

@@ -1,4 +1,4 @@
-// The program that stands for the exchange of a line.
+// The program that is the exchange of a line.
 ghost use Rattle.std.specs.Prelude.{IfOk, IfSome};
 ghost use Rattle.af_process.specs.Acts.{words_of};
 ghost use Rattle.af_lines.specs.ExchangeUse.{AsksExchange, CallsExchange, IsBegun};
@@ -13,10 +13,10 @@ use af_world::{LineProgram, MOST_CARD_RESTARTS};
 use std::alloc::Global;
 use std::marker::Model;
 
-/// About so many bytes may lie before the standard input of the program: some hundred hook calls.
+/// About so many bytes may wait before the standard input of the program: some hundred hook calls.
 const INPUT_BYTES: u32 = 4096;
 
-/// The program that stands for the exchange of a line. It lies in a box, so that lines without one are small.
+/// The program that is the exchange of a line. It is in a box, so that lines without one are small.
 #[derive(Drop)]
 pub(crate) struct LineExchange<P: Program + Drop> {
     exchange: Box<Exchange<P>>,
@@ -32,7 +32,8 @@ impl<P: Program + Drop> Model for LineExchange<P> {
 }
 
 impl<P: Program + Drop> LineExchange<P> {
-    /// A program that is started at this moment. None says that its numbers are not in their ranges, or that it could not be started.
+    /// A program that is started at this moment. None says that its numbers are not in their ranges, or that it could not be
+    /// started.
     pub(crate) fn start<G: Programs<Made = P>>(
         alloc: Global,
         programs: &mut G,

@@ -3,7 +3,7 @@ ghost use Rattle.std.specs.Prelude.{◌≡◌, ◌≤◌, ◌<◌, true, if◌th
 ghost use Rattle.std.specs.declared.option.Option.TheVariants.{None, Some};
 ghost use Rattle.af_limits.specs.Limits.{most_devices};
 ghost use Rattle.af_process.specs.Acts.{words_of};
-ghost use Rattle.af_lines.specs.HeldLines.{no_lines, quiet, lines_after, lines_begun, line_at, is_quiet, AsksUpTo, AttachesLine, GoesOverLines, HooksAt, HooksBy, HooksLine, IsAskedOf};
+ghost use Rattle.af_lines.specs.HeldLines.{no_lines, quiet, lines_after, lines_at_round_start, line_at, is_quiet, AsksUpTo, AttachesLine, GoesOverLines, HooksAt, HooksBy, HooksLine, IsAskedOf};
 
 use crate::held_line::HeldLine;
 use crate::line_exchange::LineExchange;
@@ -103,7 +103,7 @@ impl<P: Program + Drop> Lines<P> {
         self.held.get(usize::from(device))?.as_ref()?.exchange()
     }
 
-    /// The next line of the round of which a program gave a change, and the change. Each gives one at most in a round. Moments are
+    /// The next line of the round whose program gave a change, and the change. Each gives at most one in a round. Moments are
     /// nanoseconds of a clock.
     pub fn next_change(&mut self, at: u64) -> Option<(u8, LineChange)>
         ensures over { GoesOverLines at self.old result self.new }
@@ -130,7 +130,7 @@ impl<P: Program + Drop> Lines<P> {
 
     /// A new round begins.
     pub fn begin(&mut self)
-        ensures { self.new ≡ lines_begun self.old }
+        ensures { self.new ≡ lines_at_round_start self.old }
     {
         self.next = 0;
         self.changed = false;
@@ -191,7 +191,7 @@ fn change_by<P: Program + Drop>(place: &mut Option<HeldLine<P>>, at: u64) -> Opt
     }
 }
 
-/// The first line between two of which a program gave a change, and the change.
+/// The first line between two whose program gave a change, and the change.
 fn first_change<P: Program + Drop>(
     held: &mut [Option<HeldLine<P>>; MOST_DEVICES],
     from: usize,

@@ -1,4 +1,4 @@
--- Links that are held, of which nothing is ready.
+-- Links that are held, with nothing ready.
 use Rattle.std.proofs.Common.{◌≡◌, ℕ, zero, suc, false, replicate, refl}
 use Rattle.af_live.specs.LinkTable.{free_entry, link_at, something_ready}
 

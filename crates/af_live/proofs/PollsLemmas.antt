@@ -1,4 +1,4 @@
--- What stays the same of the links over a poll, and that it takes the least free number for each new link.
+-- What a poll leaves of the links. It takes the least free number for each new link.
 use Rattle.std.proofs.Common.{◌≡◌, ◌⊎◌, ⊎_elim, ℕ, zero, suc, ◌<◌, Bool, true, false, List, [], ◌∷◌, slice_set, refl, sym, ap, ◌∙◌, subst}
 use Rattle.std.proofs.lemmas.Bool.{false≢true, cases_Bool}
 use Rattle.std.specs.declared.option.Option.{Option}
@@ -7,7 +7,7 @@ use Rattle.af_world.specs.declared.happening.Wake.{Wake}
 use Rattle.af_world.specs.declared.happening.Wake.TheVariants as wake
 use Rattle.af_live.specs.declared.link_table.LinkEntry.{LinkEntry}
 use Rattle.af_live.specs.declared.link_table.Readiness.{Readiness}
-use Rattle.af_live.specs.LinkTable.{is_free, is_open, link_at, new_link, noted, without_first_ready, TakesIn, KeepsOpen, GivesFirst}
+use Rattle.af_live.specs.LinkTable.{is_free, is_open, link_at, new_link, with_readiness, without_first_ready, TakesIn, KeepsOpen, GivesFirst}
 use Rattle.af_live.specs.Polls.{PollsTo, nothing, notes_one, takes_one, ready_of, PolledGives, LeadsLinks, TakesLeast}
 
 -- polls one after another
@@ -16,7 +16,7 @@ polls_on a b c p nothing = p
 polls_on a b c p (notes_one links new e q is) = notes_one links new e (polls_on a b links p q) is
 polls_on a b c p (takes_one links new q is) = takes_one links new (polls_on a b links p q) is
 
--- a link gives way to one that a test cannot tell from it: of each the test says what it said
+-- a link is replaced by one that a test cannot tell from it: the test gives the same for each number
 set_same : (f : Option LinkEntry → Bool) (links : List (Option LinkEntry)) (i j : ℕ) (link : Option LinkEntry) → f link ≡ f (link_at links i) → f (link_at (slice_set links i link) j) ≡ f (link_at links j)
 set_same f [] i j link e = refl
 set_same f (x ∷ xs) zero zero link e = e
@@ -38,11 +38,11 @@ set_taken (x ∷ xs) zero (suc j) link f t = absurd (false≢true (sym t ∙ f))
 set_taken (x ∷ xs) (suc i) zero link f t = absurd (false≢true (sym t ∙ f))
 set_taken (x ∷ xs) (suc i) (suc j) link f t = ap suc (set_taken xs i j link f t)
 
-noted_open : (told : Readiness) (link : Option LinkEntry) → is_open (noted told link) ≡ is_open link
+noted_open : (told : Readiness) (link : Option LinkEntry) → is_open (with_readiness told link) ≡ is_open link
 noted_open told None = refl
 noted_open told (Some link) = refl
 
-noted_free : (told : Readiness) (link : Option LinkEntry) → is_free (noted told link) ≡ is_free link
+noted_free : (told : Readiness) (link : Option LinkEntry) → is_free (with_readiness told link) ≡ is_free link
 noted_free told None = refl
 noted_free told (Some link) = refl
 
@@ -63,7 +63,7 @@ polls_keep_open old new (notes_one links _ e p is) = λ k.
     ap (λ ls. is_open (link_at ls k)) is ∙ set_same is_open links _ k _ (noted_open _ _) ∙ polls_keep_open old links p k
 polls_keep_open old new (takes_one links _ p is) = λ k. takes_in_open links new is k ∙ polls_keep_open old links p k
 
--- where the same numbers are free, no number was taken
+-- if the same numbers are free, no number was taken
 same_free : (a b c : List (Option LinkEntry)) → ((k : ℕ) → is_free (link_at c k) ≡ is_free (link_at b k)) → TakesLeast a b → TakesLeast a c
 same_free a b c same t = record {
   held = λ k h. same k ∙ t.held k h;

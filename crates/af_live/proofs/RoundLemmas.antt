@@ -1,4 +1,4 @@
--- A wait loses no frame of a device: what is due of it is given, or stays due.
+-- A wait loses no frame of a device: what is due is given, or stays due.
 use Rattle.std.proofs.Common.{◌≡◌, ◌⊎◌, ⊎_elim, ℕ, ◌+◌, ◌-◌, ◌*◌, ◌/◌, ◌<◌, ◌≤◌, min, List, slice_index_or, sym, ap, ◌∙◌, arith, Option, Some, None, Bool, if◌then◌else◌}
 use Rattle.std.proofs.lemmas.Grind.{common_steps}
 use Rattle.std.proofs.lemmas.Bool.{cases_lt, cases_eq, eq-eqb}
@@ -9,12 +9,12 @@ use Rattle.af_world.specs.declared.happening.Wake.TheVariants as wake
 use Rattle.af_clock.specs.Pacing.{PaceState, due_at, after_due}
 use Rattle.af_backend.specs.declared.source.Source.{Source}
 use Rattle.af_backend.specs.declared.source.Source.TheVariants as source
-use Rattle.af_backend.specs.Rounds.{RoundState, source_at, source_in, due_of, read_at, SourcesRead, RoundTicks, round_begun}
+use Rattle.af_backend.specs.Rounds.{RoundState, source_at, source_in, due_of, some_source_after, SourcesRead, RoundTicks, next_round}
 use Rattle.af_backend.specs.Backends.{BackendState}
 use Rattle.af_live.specs.declared.link_table.LinkEntry.{LinkEntry}
-use Rattle.af_live.specs.RealWorld.{GivesKept, PassesAll, LeadsRound, LosesNoFrame, ticked_by}
+use Rattle.af_live.specs.RealWorld.{GivesKept, PassesAll, LeadsRound, LosesNoFrame, frames_ticked_by}
 
--- what a pace gives at one reading, and what stays due of it at another
+-- what a pace gives at one reading, and what stays due at another
 given_or_due : (rate answered first nanos t : ℕ) →
     min ((t - first) * rate / 1000000000 - answered) longest_tick
     ≤ min ((nanos - first) * rate / 1000000000 - answered) longest_tick + min ((t - first) * rate / 1000000000 - (answered + min ((nanos - first) * rate / 1000000000 - answered) longest_tick)) longest_tick
@@ -28,12 +28,12 @@ pace_keeps : (rate : ℕ) (first : Option ℕ) (answered nanos t : ℕ) → let 
 pace_keeps rate None answered nanos t = omega (arith, unread rate answered t)
 pace_keeps rate (Some first) answered nanos t = given_or_due rate answered first nanos t
 
-device_keeps : (o : Option Source) (nanos t : ℕ) → due_of t o ≤ due_of nanos o + due_of t (read_at nanos o)
+device_keeps : (o : Option Source) (nanos t : ℕ) → due_of t o ≤ due_of nanos o + due_of t (some_source_after nanos o)
 device_keeps None nanos t = le_refl 0
 device_keeps (Some (source.Clock p)) nanos t = pace_keeps p.rate p.first p.answered nanos t
 device_keeps (Some source.Program) nanos t = le_refl 0
 
--- of devices that were asked, no frame is lost but those that were due at the reading
+-- devices that were asked lose only the frames that were due at the reading
 asked_keeps : (nanos from to : ℕ) (old new : List (Option Source)) → SourcesRead nanos from to old new → (d t : ℕ) → due_of t (source_in old d) ≤ due_of nanos (source_in old d) + due_of t (source_in new d)
 asked_keeps nanos from to old new asked d t =
     let stays : source_in new d ≡ source_in old d → due_of t (source_in old d) ≤ due_of nanos (source_in old d) + due_of t (source_in new d)
@@ -45,7 +45,7 @@ asked_keeps nanos from to old new asked d t =
     (cases_lt d to))
     (cases_lt d from)
 
--- nor of one of which nothing was due
+-- nor does a device with nothing due lose any
 quiet_keeps : (nanos from to : ℕ) (old new : List (Option Source)) → SourcesRead nanos from to old new → (d t : ℕ) → (d < to → from ≤ d → due_of nanos (source_in old d) ≡ 0) → due_of t (source_in old d) ≤ due_of t (source_in new d)
 quiet_keeps nanos from to old new asked d t none =
     let stays : source_in new d ≡ source_in old d → due_of t (source_in old d) ≤ due_of t (source_in new d)
@@ -62,11 +62,11 @@ passes_keeps : (old past : RoundState) (behind behind' : List (Option BackendSta
 passes_keeps old past behind behind' h d t =
     quiet_keeps h.0 old.next past.next old.sources past.sources h.2.0.read d t (h.2.0.none d)
 
-frames_of : (d n e : ℕ) → e ≡ d → ticked_by (Some (wake.Ticked d n)) e ≡ n
+frames_of : (d n e : ℕ) → e ≡ d → frames_ticked_by (Some (wake.Ticked d n)) e ≡ n
 frames_of d n e same = ap (λ (b : Bool). if b then n else 0) (eq-eqb e d same)
 
 tick_keeps : (nanos d n : ℕ) (old new : RoundState) → RoundTicks nanos d n old new → (e t : ℕ) →
-    due_of t (source_at old e) ≤ ticked_by (Some (wake.Ticked d n)) e + due_of t (source_at new e)
+    due_of t (source_at old e) ≤ frames_ticked_by (Some (wake.Ticked d n)) e + due_of t (source_at new e)
 tick_keeps nanos d n old new r e t =
     ⊎_elim
     (λ same. omega (arith, asked_keeps nanos old.next (d + 1) old.sources new.sources r.read e t, frames_of d n e same, r.all, ap (λ k. due_of nanos (source_at old k)) same))
@@ -75,7 +75,7 @@ tick_keeps nanos d n old new r e t =
 
 -- a wait that does not tick loses no frame
 begins_keeps : (w : Wake) (links links' : List (Option LinkEntry)) (old new : RoundState) (behind behind' : List (Option BackendState)) →
-    (GivesKept (Some w) links old links' new × (behind' ≡ behind)) ⊎ ((past : RoundState) × PassesAll old behind past behind' × (new ≡ round_begun past)) →
+    (GivesKept (Some w) links old links' new × (behind' ≡ behind)) ⊎ ((past : RoundState) × PassesAll old behind past behind' × (new ≡ next_round past)) →
     (d t : ℕ) → due_of t (source_at old d) ≤ due_of t (source_at new d)
 begins_keeps w links links' old new behind behind' h d t =
     ⊎_elim (λ still. omega (arith, ap (λ (r : RoundState). due_of t (source_at r d)) still.0.1))

@@ -1,4 +1,4 @@
--- What a wait gives: what was kept ready, or what a poll finds where nothing was.
+-- What a wait gives: what was kept ready, or what a poll finds if nothing was.
 use Rattle.std.proofs.Common.{◌≡◌, inl, inr, ℕ, ◌<◌, Bool, true, false, List, length, refl, sym, subst, ◌∙◌, arith, IfSome, MatchOption}
 use Rattle.std.proofs.lemmas.Bool.{false≢true}
 use Rattle.std.specs.declared.option.Option.{Option}
@@ -11,7 +11,7 @@ use Rattle.af_backend.specs.Backends.{BackendState}
 use Rattle.af_live.specs.declared.link_table.LinkEntry.{LinkEntry}
 use Rattle.af_live.specs.LinkTable.{link_at, something_ready, GivesFirst, LinkWakeFits}
 use Rattle.af_live.specs.Polls.{LeadsLinks, PolledGives}
-use Rattle.af_lines.specs.HeldLines.{LinesState, lines_begun}
+use Rattle.af_lines.specs.HeldLines.{LinesState, lines_at_round_start}
 use Rattle.af_live.specs.RealWorld.{LeadsRound, LeadsLines, PassesLines}
 
 pub kept_links : (w : Wake) (old new : List (Option LinkEntry)) → LinkWakeFits old w → GivesFirst old (Some w) new → LeadsLinks (Some w) old new
@@ -43,7 +43,7 @@ kept_lines (wake.Ticked d n) old new round lines fits h = absurd fits
 kept_lines (wake.Line d change) old new round lines fits h = absurd fits
 kept_lines wake.Stop old new round lines fits h = absurd fits
 
--- where nothing is given of what is kept, nothing is
+-- if nothing of what is kept is given, nothing is kept ready
 pub nothing_kept : (links new : List (Option LinkEntry)) → length links ≡ most_links → GivesFirst links None new →
     (k : ℕ) → k < most_links → something_ready (link_at links k) ≡ true → ⊥
 nothing_kept links new count h k below ready = false≢true (sym (h.0 k (omega (arith, count))) ∙ ready)
@@ -59,9 +59,9 @@ polled_links (Some (wake.Ticked d n)) links now new h fits polled = absurd fits
 polled_links (Some (wake.Line d change)) links now new h fits polled = absurd fits
 polled_links (Some wake.Stop) links now new h fits polled = absurd fits
 
--- a poll comes after the last line, and a new round begins behind it
+-- a poll comes after the last line, and a new round begins after it
 pub polled_lines : (o : Option Wake) (now links' : List (Option LinkEntry)) (links : List (Option LinkEntry)) (round round' : RoundState) (lines past lines' : LinesState) →
-    IfSome o (λ w. LinkWakeFits now w) → PassesLines round lines past → MatchOption o (lines' ≡ past) (λ w. lines' ≡ lines_begun past) →
+    IfSome o (λ w. LinkWakeFits now w) → PassesLines round lines past → MatchOption o (lines' ≡ past) (λ w. lines' ≡ lines_at_round_start past) →
     LeadsLines o links round lines links' round' lines'
 polled_lines None now links' links round round' lines past lines' fits passes is = inr (subst (λ l. PassesLines round lines l) (sym is) passes)
 polled_lines (Some (wake.Opened k)) now links' links round round' lines past lines' fits passes is = inr (past, passes, is)

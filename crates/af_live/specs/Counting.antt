@@ -1,12 +1,12 @@
 -- How a real world counts its faults.
 use Rattle.std.specs.Prelude.{◌≡◌, ◌≤◌, ℕ}
-use Rattle.af_io.specs.Observed.{CountsFault, counted}
+use Rattle.af_io.specs.Observed.{CountsFault, next_count}
 use Rattle.af_live.specs.RealWorld.{RealState}
 
--- a count of faults is one higher where this failed, and else the same
+-- a count of faults is one higher if this failed, and else the same
 pub record CountsOne (failed : Type 0) (before now : ℕ) : Type 0 where
   pub cause : CountsFault failed before now
-  pub fault : failed → now ≡ counted before
+  pub fault : failed → now ≡ next_count before
   pub no_fault : ¬ failed → now ≡ before
 
 -- no count of faults falls

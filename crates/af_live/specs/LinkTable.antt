@@ -1,4 +1,4 @@
--- Links that are held by number, and what is given first of what is ready of them.
+-- Links that are held by number, what is ready of each, and which of that is given first.
 use Rattle.std.specs.Prelude.{◌≡◌, ◌≢◌, ◌⊎◌, ℕ, ◌≤◌, ◌<◌, nat_lt, Bool, true, false, ◌&&◌, ◌||◌, not, List, length, slice_index_or, slice_set, if◌then◌else◌}
 use Rattle.std.specs.declared.option.Option.{Option}
 use Rattle.std.specs.declared.option.Option.TheVariants.{None, Some}
@@ -42,7 +42,7 @@ abbrev pub wake_at : Option LinkEntry → ℕ → Wake
 wake_at None k = wake.Idle
 wake_at (Some link) k = entry_wake link k
 
--- what is ready behind that
+-- what is ready after that
 abbrev pub rest_of : LinkEntry → LinkEntry
 rest_of link = if link.opened then record link { opened = false } else if link.readable then record link { readable = false } else record link { writable = false }
 
@@ -50,21 +50,21 @@ abbrev pub without_first_ready : Option LinkEntry → Option LinkEntry
 without_first_ready None = None
 without_first_ready (Some link) = Some (rest_of link)
 
--- the least number that no link has, among the first so many
+-- the least number of the table that no link has
 abbrev pub IsLeastFree : List (Option LinkEntry) → Option ℕ → Type 0
 IsLeastFree links None = (k : ℕ) → k < length links → is_free (link_at links k) ≡ false
 IsLeastFree links (Some n) = (n < length links) × (is_free (link_at links n) ≡ true) × ((k : ℕ) → k < n → is_free (link_at links k) ≡ false)
 
--- the first link of which something is ready
+-- the first link with something ready
 abbrev pub IsFirstReady : List (Option LinkEntry) → Option ℕ → Type 0
 IsFirstReady links None = (k : ℕ) → k < length links → something_ready (link_at links k) ≡ false
 IsFirstReady links (Some n) = (n < length links) × (something_ready (link_at links n) ≡ true) × ((k : ℕ) → k < n → something_ready (link_at links k) ≡ false)
 
--- nothing is ready of a link below this number
+-- no link below this number has something ready
 abbrev pub NothingReadyBelow : ℕ → List (Option LinkEntry) → Type 0
 NothingReadyBelow n links = (k : ℕ) → k < n → something_ready (link_at links k) ≡ false
 
--- nothing is ready of a link at this number or above it
+-- no link at this number or above it has something ready
 abbrev pub NothingReadyFrom : ℕ → List (Option LinkEntry) → Type 0
 NothingReadyFrom n links = (k : ℕ) → n ≤ k → k < length links → something_ready (link_at links k) ≡ false
 
@@ -78,7 +78,7 @@ link_of_wake (wake.Line d change) = 0
 link_of_wake wake.Idle = 0
 link_of_wake wake.Stop = 0
 
--- Of the first link of which something is ready, the first of that is given, and nothing else changes.
+-- The first link with something ready gives the first part of that, and nothing else changes.
 abbrev pub GivesOf : List (Option LinkEntry) → ℕ → Wake → List (Option LinkEntry) → Type 0
 GivesOf old n w new = IsFirstReady old (Some n) × (w ≡ wake_at (link_at old n) n) × (new ≡ slice_set old n (without_first_ready (link_at old n)))
 
@@ -94,11 +94,11 @@ new_link key = record { key = key; opened = true; readable = false; writable = f
 abbrev pub TakesIn : List (Option LinkEntry) → List (Option LinkEntry) → Type 0
 TakesIn old new = (new ≡ old) ⊎ ((n : ℕ) × (key : ℕ) × IsLeastFree old (Some n) × (new ≡ slice_set old n (Some (new_link key))))
 
--- What an event tells of a link is noted: it may be read or written from now on, or may hide more. It is drained no longer if it may
--- be read. Whether its opening was given stays.
-abbrev pub noted : Readiness → Option LinkEntry → Option LinkEntry
-noted told None = None
-noted told (Some link) = Some (record link {
+-- What an event says of a link is noted: it may be read or written from now on, or may hide more. If it may be read, it is no
+-- longer drained. Whether its opening was given stays.
+abbrev pub with_readiness : Readiness → Option LinkEntry → Option LinkEntry
+with_readiness told None = None
+with_readiness told (Some link) = Some (record link {
   readable = link.readable || told.may_read;
   writable = link.writable || told.may_write;
   drained = link.drained && not told.may_read;
@@ -119,7 +119,7 @@ LinkWakeFits links wake.Stop = ⊥
 abbrev pub KeepsOpen : List (Option LinkEntry) → List (Option LinkEntry) → Type 0
 KeepsOpen old new = (k : ℕ) → is_open (link_at new k) ≡ is_open (link_at old k)
 
--- a link is open then, and of all others it stays
+-- a link is open then, and no other link is opened or closed
 abbrev pub OpensOne : ℕ → List (Option LinkEntry) → List (Option LinkEntry) → Type 0
 OpensOne n old new = (is_open (link_at new n) ≡ true) × ((k : ℕ) → k ≢ n → is_open (link_at new k) ≡ is_open (link_at old k))
 
@@ -132,7 +132,7 @@ Opens _ old new = KeepsOpen old new
 abbrev pub ClosesOne : ℕ → List (Option LinkEntry) → List (Option LinkEntry) → Type 0
 ClosesOne k old new = new ≡ slice_set old k free_entry
 
--- Behind a read that gave nothing so far a link may be ready for another at once; nothing else changes.
+-- After a read that gave nothing so far, a link may be ready for another at once. Nothing else changes.
 abbrev pub to_read : Option LinkEntry → Option LinkEntry
 to_read None = None
 to_read (Some link) = Some (record link { readable = true })
@@ -142,12 +142,12 @@ abbrev pub to_drain : Option LinkEntry → Option LinkEntry
 to_drain None = None
 to_drain (Some link) = Some (record link { drained = true })
 
--- all that had come by the link was read, and no event has told of more
+-- all that had come by the link was read, and no event has reported more
 abbrev pub is_drained : Option LinkEntry → Bool
 is_drained None = false
 is_drained (Some link) = link.drained
 
--- a read that gives little may hide more of the link, as its end
+-- a read that gives little may leave more on the link unseen, such as its end
 abbrev pub may_hide : Option LinkEntry → Bool
 may_hide None = false
 may_hide (Some link) = link.hides
@@ -163,7 +163,7 @@ AfterRead k room (got.Bytes n) old new =
 AfterRead k room got.NotYet old new = (new ≡ old) ⊎ (new ≡ slice_set old k (to_read (link_at old k)))
 AfterRead k room _ old new = new ≡ old
 
--- Behind a write that took nothing a link may be ready for another at once; nothing else changes.
+-- After a write that took nothing, a link may be ready for another at once. Nothing else changes.
 abbrev pub to_write : Option LinkEntry → Option LinkEntry
 to_write None = None
 to_write (Some link) = Some (record link { writable = true })

@@ -1,4 +1,4 @@
--- A real world, which tells nothing of what happened.
+-- A real world, whose calls are not observable.
 use Rattle.std.specs.Prelude.{◌≡◌, ◌==◌, ◌⊎◌, ◌≤◌, ℕ, ◌+◌, Bool, true, false, List, replicate, if◌then◌else◌}
 use Rattle.std.proofs.Common.{refl, ◌∙◌}
 use Rattle.std.proofs.Math.Nat.{le_refl, le_trans}
@@ -17,13 +17,13 @@ use Rattle.af_live.specs.LinkTable.{free_entry, LinkWakeFits, GivesFirst}
 use Rattle.af_backend.specs.Backends.{BackendState, none_attached, all_without_bytes}
 use Rattle.af_backend.specs.CodecUse.{CodecUse, begun_codec}
 use Rattle.af_phone.specs.Lines.{is_change}
-use Rattle.af_lines.specs.HeldLines.{LinesState, no_lines, line_at, has_exchange, lines_begun, all_line_orders, GoesOverLines}
+use Rattle.af_lines.specs.HeldLines.{LinesState, no_lines, line_at, has_exchange, lines_at_round_start, all_line_orders, GoesOverLines}
 use Rattle.af_live.specs.Readings.{IsReadingBy}
-use Rattle.af_backend.specs.Rounds.{RoundState, new_round, source_at, is_attached, round_begun, due_of, GoesOn}
+use Rattle.af_backend.specs.Rounds.{RoundState, new_round, source_at, is_attached, next_round, due_of, GoesOn}
 use Rattle.af_backend.specs.Asked.{GoesOver}
 
--- Whether it listens; the links that it holds; what stands behind each device that is attached; its codec; its round over the
--- devices; their telephone lines; and how often each kind of call has failed.
+-- Whether it listens; the links that it holds; the backend of each attached device; its codec; its round over the devices; their
+-- telephone lines; and how often each kind of call has failed.
 pub record RealState : Type 0 where
   pub listens : Bool
   pub links : List (Option LinkEntry)
@@ -68,14 +68,14 @@ RealLeadsTo-trans a b c p q = record {
   wait_faults = q.wait_faults ∙ p.wait_faults;
 }
 
--- A wake opens a link that is not open, names one that is, ticks a device that is attached by 1 to 4096 frames, or changes a line for whose
--- exchange a program stands.
+-- A wake opens a link that is not open, names one that is, ticks a device that is attached by 1 to 4096 frames, or changes a line
+-- that has a program.
 abbrev pub WakeFits : List (Option LinkEntry) → RoundState → LinesState → Wake → Type 0
 WakeFits links round lines (wake.Ticked d n) = (is_attached round d ≡ true) × (1 ≤ n) × (n ≤ longest_tick)
 WakeFits links round lines (wake.Line d change) = (has_exchange (line_at lines.lines d) ≡ true) × (is_change change ≡ true)
 WakeFits links round lines w = LinkWakeFits links w
 
--- What is ready first is given, and the round stays where it is.
+-- What is ready first is given, and the round stays at its place.
 abbrev pub GivesKept : Option Wake → List (Option LinkEntry) → RoundState → List (Option LinkEntry) → RoundState → Type 0
 GivesKept None links round links' round' = ⊥
 GivesKept (Some w) links round links' round' = GivesFirst links (Some w) links' × (round' ≡ round)
@@ -85,9 +85,10 @@ abbrev pub PassesAll : RoundState → List (Option BackendState) → RoundState 
 PassesAll old behind past behind' =
     (nanos : ℕ) × IsReadingBy old.reading old.last nanos × GoesOn nanos old None past × GoesOver nanos old None past behind behind'
 
--- A tick is that of the next device of the round of which frames are due, at the one reading of the round: by the system's clock, or by
--- its program. A line changes once the round has left the last device. Any other wake was kept ready, and the round and the devices stay where they are; or it comes after the last of the
--- devices, of which none has a frame due then, and a new round begins. A wait that failed begins none.
+-- A tick is that of the next device of the round with frames due, at the one reading of the round: by the system's clock, or by
+-- its program. A line changes once the round has left the last device. Any other wake was kept ready, and the round and the
+-- devices stay as they are; or it comes after the last device, when none has a frame due, and a new round begins. A wait that
+-- failed begins none.
 abbrev pub LeadsRound : Option Wake → List (Option LinkEntry) → RoundState → List (Option BackendState) → List (Option LinkEntry) → RoundState → List (Option BackendState) → Type 0
 LeadsRound None links old behind links' new behind' = ((new ≡ old) × (behind' ≡ behind)) ⊎ PassesAll old behind new behind'
 LeadsRound (Some (wake.Ticked d n)) links old behind links' new behind' =
@@ -95,15 +96,15 @@ LeadsRound (Some (wake.Ticked d n)) links old behind links' new behind' =
 LeadsRound (Some (wake.Line d change)) links old behind links' new behind' = PassesAll old behind new behind'
 LeadsRound (Some w) links old behind links' new behind' =
     (GivesKept (Some w) links old links' new × (behind' ≡ behind))
-    ⊎ ((past : RoundState) × PassesAll old behind past behind' × (new ≡ round_begun past))
+    ⊎ ((past : RoundState) × PassesAll old behind past behind' × (new ≡ next_round past))
 
 -- Each line that the round has left is asked at its one reading, and none changes.
 abbrev pub PassesLines : RoundState → LinesState → LinesState → Type 0
 PassesLines old lines lines' = (nanos : ℕ) × IsReadingBy old.reading old.last nanos × GoesOverLines nanos lines None lines'
 
--- A change is that of the next line of the round whose program gave one, at the one reading of the round. A tick leaves the lines as they
--- are. Any other wake was kept ready, and they stay as they are; or each line that the round has left is asked, none changes, and a new
--- round begins. A wait that failed begins none.
+-- A change is that of the next line of the round whose program gave one, at the one reading of the round. A tick leaves the lines
+-- as they are. Any other wake was kept ready, and they stay as they are; or each line that the round has left is asked, none
+-- changes, and a new round begins. A wait that failed begins none.
 abbrev pub LeadsLines : Option Wake → List (Option LinkEntry) → RoundState → LinesState → List (Option LinkEntry) → RoundState → LinesState → Type 0
 LeadsLines None links old lines links' new lines' = (lines' ≡ lines) ⊎ PassesLines old lines lines'
 LeadsLines (Some (wake.Ticked d n)) links old lines links' new lines' = lines' ≡ lines
@@ -111,23 +112,23 @@ LeadsLines (Some (wake.Line d change)) links old lines links' new lines' =
     (nanos : ℕ) × IsReadingBy old.reading old.last nanos × GoesOverLines nanos lines (Some (d, change)) lines'
 LeadsLines (Some w) links old lines links' new lines' =
     (GivesKept (Some w) links old links' new × (lines' ≡ lines))
-    ⊎ ((past : LinesState) × PassesLines old lines past × (lines' ≡ lines_begun past))
+    ⊎ ((past : LinesState) × PassesLines old lines past × (lines' ≡ lines_at_round_start past))
 
--- how many frames of a device a wait gave
-abbrev pub ticked_by : Option Wake → ℕ → ℕ
-ticked_by (Some (wake.Ticked d n)) e = if e == d then n else 0
-ticked_by _ e = 0
+-- how many frames a wait gave for a device
+abbrev pub frames_ticked_by : Option Wake → ℕ → ℕ
+frames_ticked_by (Some (wake.Ticked d n)) e = if e == d then n else 0
+frames_ticked_by _ e = 0
 
--- No frame is lost: what is due of a device at any reading of the system's clock is given, or stays due.
+-- No frame is lost: what is due for a device at any reading of the system's clock is given, or stays due.
 abbrev pub LosesNoFrame : Option Wake → RoundState → RoundState → Type 0
-LosesNoFrame w old new = (d nanos : ℕ) → due_of nanos (source_at old d) ≤ ticked_by w d + due_of nanos (source_at new d)
+LosesNoFrame w old new = (d nanos : ℕ) → due_of nanos (source_at old d) ≤ frames_ticked_by w d + due_of nanos (source_at new d)
 
--- whether it listens behind a listen
+-- whether it listens after a listen
 abbrev pub listens_behind : Ready → Bool → Bool
 listens_behind ready.Done before = true
 listens_behind _ before = before
 
--- what a wait answered, as a wake that it gave
-abbrev pub given : Waited → Option Wake
-given (answer.Woke w) = Some w
-given answer.Failed = None
+-- the wake that the answer of a wait gives
+abbrev pub given_wake : Waited → Option Wake
+given_wake (answer.Woke w) = Some w
+given_wake answer.Failed = None

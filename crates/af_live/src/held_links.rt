@@ -1,5 +1,6 @@
-// The links that a world holds, by number, with bounds on the numbers of which something may be ready: a search for what is ready
-// goes from the one to the other, and there is none where nothing is ready.
+// The links that a world holds, by number.
+// Layout: a table with a place for each number, and bounds on the numbers of links with something ready. A search looks only
+// between the bounds, and nowhere if nothing is ready.
 ghost use Rattle.std.specs.Prelude.{◌≡◌, ◌<◌, ◌+◌, min, max, length, replicate, slice_set, IfSome};
 ghost use Rattle.std.specs.declared.option.Option.TheVariants.{Some};
 ghost use Rattle.af_limits.specs.Limits.{most_links};
@@ -13,7 +14,7 @@ use af_limits::MOST_LINKS;
 use af_world::Wake;
 use std::marker::Model;
 
-/// The numbers between which all links are of which something may be ready.
+/// The numbers between which all links with something ready are.
 #[derive(Clone, Copy)]
 struct ReadySpan {
     from: usize,

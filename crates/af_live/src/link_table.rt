@@ -1,12 +1,12 @@
 // The links that a world holds, by number, and what is ready of each and was not given yet.
 ghost use Rattle.std.specs.Prelude.{◌≡◌, ◌≤◌, length, slice_set, slice_index_or, true, false};
-ghost use Rattle.af_live.specs.LinkTable.{free_entry, new_link, noted, something_ready, wake_at, without_first_ready, IsLeastFree, IsFirstReady, NothingReadyBelow, NothingReadyFrom};
+ghost use Rattle.af_live.specs.LinkTable.{free_entry, new_link, with_readiness, something_ready, wake_at, without_first_ready, IsLeastFree, IsFirstReady, NothingReadyBelow, NothingReadyFrom};
 
 use af_world::Wake;
 
 /// A link that is held: the key of its stream; what was not given yet: that it is new, that it may have something to read, and
-/// that it may take something; whether all that had come was read, so that an event tells when there is more; and whether a read that
-/// gives little may hide more, as the end, which no event tells again.
+/// that it may take something; whether all that had come was read, so that an event tells when there is more; and whether a read
+/// that gives little may hide more, as the end, which no event tells again.
 #[derive(Clone, Copy)]
 pub(crate) struct LinkEntry {
     pub key: usize,
@@ -75,7 +75,7 @@ fn is_ready(link: &Option<LinkEntry>) -> bool
     }
 }
 
-/// The number of the first link of which something is ready, where that is between two numbers.
+/// The number of the first link with something ready, if it lies between two numbers.
 pub(crate) fn first_ready(links: &[Option<LinkEntry>], from: usize, below: usize) -> Option<usize>
     requires bound { below ≤ length links.now }
     requires nothing_below { NothingReadyBelow from links.now }
@@ -112,8 +112,8 @@ pub(crate) fn take_first(link: &mut Option<LinkEntry>, number: u8) -> Wake
     }
 }
 
-/// What an event tells of a link: that it may have something to read, that it may take something, and that a read that gives little
-/// may hide more from now on.
+/// What an event tells of a link: that it may have something to read, that it may take something, and that a read that gives
+/// little may hide more from now on.
 #[derive(Clone, Copy)]
 pub(crate) struct Readiness {
     pub may_read: bool,
@@ -123,7 +123,7 @@ pub(crate) struct Readiness {
 
 /// Notes what an event tells of a link that is held.
 pub(crate) fn note_told(link: &mut Option<LinkEntry>, told: Readiness)
-    ensures { link.new ≡ noted told link.old }
+    ensures { link.new ≡ with_readiness told link.old }
 {
     if let Some(held) = link {
         held.readable |= told.may_read;

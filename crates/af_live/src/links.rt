@@ -8,9 +8,9 @@ use crate::sockets::Sockets;
 use af_world::{LinkGot, LinkTook};
 use std::io::ErrorKind;
 
-/// Reads what has come by a link. A read that gave less than there was room for gave all, unless it may hide more, and the system is
-/// not asked again before it tells of more. A read that was interrupted gave nothing so far, and is to be made again: the link stays
-/// ready.
+/// Reads what has come by a link. A read that gave less than there was room for gave all, unless it may hide more, and the system
+/// is not asked again before it tells of more. A read that was interrupted gave nothing so far, and is to be made again: the link
+/// stays ready.
 pub(crate) fn read_link(
     sockets: &mut Option<Sockets>,
     links: &mut HeldLinks,

@@ -1,10 +1,10 @@
-// The real outside of a server: sockets, the clock of the system, and devices that are silent or stand over files, a codec or a program
-// of their own.
-// How it lies: `links` has a place for each of 32 numbers: the key of the link's stream, and what is ready of it and was not
-// given yet. The streams lie under these keys in the slab of `sockets`, beside the poll and the listener. Of each of 8 devices
-// `devices` has the clock and what stands behind it, and beside them the codec, which may stand behind one. `lines` has their telephone
-// lines. Faults of links, devices,
-// listens and waits are counted apart. Contracts see these tables and counts; of the sockets only whether there are any.
+// The real outside of a server: sockets, the clock of the system, and devices that are silent or have files, a codec or a program
+// of their own as backend.
+// Layout: `links` has a place for each of 32 numbers, with the key of the link's stream, and what is ready of it and was not
+// given yet. The streams are under these keys in the slab of `sockets`, beside the poll and the listener. `devices` has the clock
+// and the backend of each of 8 devices, and the one codec, which may be the backend of one. `lines` has their telephone lines.
+// Faults of links, devices, listens and waits are counted apart. Contracts see these tables and counts. Of the sockets they see
+// only whether there are any.
 ghost use Rattle.std.specs.Prelude.{◌≡◌, ◌≤◌, ◌<◌, [], ℕ, length, not, true, false, is_some, IfSome, MatchOption};
 ghost use Rattle.std.specs.declared.option.Option.TheVariants.{None};
 ghost use Rattle.af_limits.specs.Limits.{most_links, most_devices, longest_read, output_room};
@@ -19,7 +19,7 @@ ghost use Rattle.af_backend.specs.Rounds.{is_attached};
 ghost use Rattle.af_process.specs.Acts.{words_of};
 ghost use Rattle.af_lines.specs.HeldLines.{is_quiet, line_at, lines_after, AttachesLine, HooksAt};
 ghost use Rattle.af_live.specs.Polls.{LeadsLinks, TakesLeast};
-ghost use Rattle.af_live.specs.RealWorld.{RealLeadsTo, begun_world, given, listens_behind, GivesKept, LeadsLines, LeadsRound, LosesNoFrame, WakeFits};
+ghost use Rattle.af_live.specs.RealWorld.{RealLeadsTo, begun_world, given_wake, listens_behind, GivesKept, LeadsLines, LeadsRound, LosesNoFrame, WakeFits};
 
 use crate::counting::{count_got, count_put, count_ready, count_took, count_waited};
 use crate::held_links::HeldLinks;
@@ -48,8 +48,8 @@ use std::time::Clock;
 /// accepted and ended at once. Up to 8 devices go on by the clock of the system, or by that of their program.
 ///
 /// A server's `main` makes one with `MioWorld::with_programs(rt.clone()?, rt.alloc(), spawner, programs)` and hands it, with its
-/// arguments and its configuration, to the server: `listen` comes first, then an `attach` of each device, then a `wait` before each
-/// turn.
+/// arguments and its configuration, to the server: `listen` comes first, then an `attach` of each device, then a `wait` before
+/// each turn.
 ///
 /// It tells nothing of what happened. The counts of its faults stand still at 2^64 - 1.
 #[derive(Drop)]
@@ -89,8 +89,8 @@ impl<R: Net + Clock + Files + Drop, S: Spawner + Drop, G: Programs + Drop> Model
 }
 
 impl<R: Net + Clock + Files + Drop, S: Spawner + Drop> MioWorld<R, S, NoPrograms> {
-    /// A world over the sockets, the files and the clock of this runtime, and over a spawner that tells of no act. No device has a program
-    /// whose time it goes by. It takes no memory and asks nothing of the system.
+    /// A world over the sockets, the files and the clock of this runtime, and over a spawner that tells of no act. No device has
+    /// a program whose time it goes by. It takes no memory and asks nothing of the system.
     pub fn new(rt: R, alloc: Global, spawner: S) -> MioWorld<R, S, NoPrograms>
         requires { TellsThese [] (S.acts spawner) }
         ensures { result ≡ begun_world (S.acts spawner) }
@@ -100,8 +100,8 @@ impl<R: Net + Clock + Files + Drop, S: Spawner + Drop> MioWorld<R, S, NoPrograms
 }
 
 impl<R: Net + Clock + Files + Drop, S: Spawner + Drop, G: Programs + Drop> MioWorld<R, S, G> {
-    /// A world over the sockets, the files and the clock of this runtime, over a spawner that tells of no act, and over these programs. It
-    /// takes no memory and asks nothing of the system.
+    /// A world over the sockets, the files and the clock of this runtime, over a spawner that tells of no act, and over these
+    /// programs. It takes no memory and asks nothing of the system.
     pub fn with_programs(rt: R, alloc: Global, spawner: S, programs: G) -> MioWorld<R, S, G>
         requires { TellsThese [] (S.acts spawner) }
         ensures { result ≡ begun_world (S.acts spawner) }
@@ -130,7 +130,7 @@ impl<R: Net + Clock + Files + Drop, S: Spawner + Drop, G: Programs + Drop> MioWo
         self.devices.codec.codec()
     }
 
-    /// The device of a program whose time is that of the device, if this is one.
+    /// The device with its program, if this device goes by one.
     pub fn card(&self, device: u8) -> Option<&Card<G::Made>> {
         self.devices.card(device)
     }
@@ -257,13 +257,13 @@ impl<R: Net + Clock + Files + Drop, S: Spawner + Drop, G: Programs + Drop> Live
 
     ghost wait_faults = { λ world. world.wait_faults };
 
-    ghost outer = { λ _. None };
+    ghost lifecycle = { λ _. None };
 
     ghost listen_faults_apart = { λ _ _ leads. leads.listen_faults };
 
     ghost wait_faults_apart = { λ _ _ leads. leads.wait_faults };
 
-    ghost outer_apart = { λ _ _ _. tt };
+    ghost lifecycle_apart = { λ _ _ _. tt };
 
     ghost tells_both = { λ _ told. told };
 
@@ -325,15 +325,15 @@ impl<R: Net + Clock + Files + Drop, S: Spawner + Drop, G: Programs + Drop> Live
         ensures faults { CountsOne (result ≡ Waited.Failed) self.old.wait_faults self.new.wait_faults }
         ensures unlistened { self.old.listens ≡ false → result ≡ Waited.Failed }
         ensures kept { (k : ℕ) → self.old.listens ≡ true → k < most_links → something_ready (link_at self.old.links k) ≡ true →
-            GivesKept (given result) self.old.links self.old.round self.new.links self.new.round }
-        ensures fits { IfSome (given result) (λ wake. WakeFits self.old.links self.old.round self.old.lines wake) }
-        ensures opens { MatchOption (given result) (KeepsOpen self.old.links self.new.links)
+            GivesKept (given_wake result) self.old.links self.old.round self.new.links self.new.round }
+        ensures fits { IfSome (given_wake result) (λ wake. WakeFits self.old.links self.old.round self.old.lines wake) }
+        ensures opens { MatchOption (given_wake result) (KeepsOpen self.old.links self.new.links)
             (λ wake. Opens wake self.old.links self.new.links) }
-        ensures links { LeadsLinks (given result) self.old.links self.new.links }
+        ensures links { LeadsLinks (given_wake result) self.old.links self.new.links }
         ensures least { TakesLeast self.old.links self.new.links }
-        ensures round { LeadsRound (given result) self.old.links self.old.round self.old.behind self.new.links self.new.round self.new.behind }
-        ensures frames { LosesNoFrame (given result) self.old.round self.new.round }
-        ensures lines { LeadsLines (given result) self.old.links self.old.round self.old.lines self.new.links self.new.round self.new.lines }
+        ensures round { LeadsRound (given_wake result) self.old.links self.old.round self.old.behind self.new.links self.new.round self.new.behind }
+        ensures frames { LosesNoFrame (given_wake result) self.old.round self.new.round }
+        ensures lines { LeadsLines (given_wake result) self.old.links self.old.round self.old.lines self.new.links self.new.round self.new.lines }
         ensures rest { self.new ≡ record self.old
             { links = self.new.links; behind = self.new.behind; round = self.new.round; lines = self.new.lines; wait_faults = self.new.wait_faults } }
         ensures counts { CountsStand self.old self.new }

@@ -1,8 +1,8 @@
-// A listener and the links that came in by it, none of which makes a call wait.
+// A listener, and the links that came in by it. Nothing here blocks.
 ghost use Rattle.std.specs.Prelude.{◌≡◌, ◌≤◌, false};
 ghost use Rattle.std.specs.Io.{ReadsAtMost, WritesAtMost};
 ghost use Rattle.af_live.specs.LinkTable.{TakesIn};
-ghost use Rattle.af_live.specs.Polls.{told_by, PollsTo};
+ghost use Rattle.af_live.specs.Polls.{readiness_of, PollsTo};
 
 use crate::held_links::HeldLinks;
 use crate::link_table::Readiness;
@@ -74,8 +74,8 @@ impl Sockets {
         self.streams.len() > 0
     }
 
-    /// Has the poll look at the sockets of the program of a device too, once for each of its starts. They leave the poll as they are
-    /// closed. Where the system refuses, the device is asked as often as a poll waits at most.
+    /// Has the poll look at the sockets of the program of a device too, once for each of its starts. They leave the poll as they
+    /// are closed. Where the system refuses, the device is asked as often as a poll waits at most.
     pub(crate) fn watch(&mut self, device: usize, starts: u32, ends: ProgramSockets) {
         if self.watched.get(device) == Some(&starts) {
             return;
@@ -92,8 +92,8 @@ impl Sockets {
         }
     }
 
-    /// Waits for at most so long until something is ready, and notes it. New links are accepted, at this reading of the clock. The
-    /// answer is whether the system could be asked; a signal is no refusal.
+    /// Waits for at most so long until something is ready, and notes it. New links are accepted, at this reading of the clock.
+    /// The answer is whether the system could be asked; a signal is no refusal.
     pub(crate) fn poll(&mut self, pause: Duration, now: u64, links: &mut HeldLinks) -> bool
         ensures polls { PollsTo links.old links.new }
         ensures refused { result ≡ false → links.new ≡ links.old }
@@ -132,8 +132,8 @@ impl Sockets {
         }
     }
 
-    /// Holds a new link under the least number that is free. If none is, it is turned away; if the system does not watch it, it is
-    /// closed.
+    /// Holds a new link under the least number that is free. If none is, it is turned away; if the system does not watch it, it
+    /// is closed.
     fn take_in(&mut self, mut stream: TcpStream, now: u64, links: &mut HeldLinks)
         ensures { TakesIn links.old links.new }
     {
@@ -146,7 +146,7 @@ impl Sockets {
         if self.streams.len() >= self.streams.capacity() {
             return;
         }
-        // An answer is to leave at once. Where the system refuses that, it leaves later.
+        // An answer is to leave at once. If the system refuses that, it leaves later.
         let _ = stream.set_nodelay(true);
         keep_alive(&stream);
         let all = Interest::READABLE | Interest::WRITABLE | Interest::PRIORITY;
@@ -185,7 +185,7 @@ impl Sockets {
     /// Closes a link.
     pub fn close(&mut self, key: usize) {
         if let Some(mut stream) = self.streams.try_remove(key) {
-            // it leaves the poll by being closed, in any case
+            // closing it takes it out of the poll in any case
             let _ = self.poll.registry().deregister(&mut stream);
         }
     }
@@ -205,13 +205,13 @@ fn bind<R: Net>(rt: &R, address: &str) -> io::Result<TcpListener> {
 
 /// What an event tells of its link.
 fn told_by(event: &Event) -> Readiness
-    ensures { result ≡ told_by event.now }
+    ensures { result ≡ readiness_of event.now }
 {
     let ends = event.is_read_closed() || event.is_error();
     Readiness {
         may_read: event.is_readable() || ends,
         may_write: event.is_writable() || event.is_write_closed() || event.is_error(),
-        // the end and a fault come behind the last bytes, and a read stops at an urgent byte
+        // the end and a fault come after the last bytes, and a read stops at an urgent byte
         hides: ends || event.is_priority(),
     }
 }

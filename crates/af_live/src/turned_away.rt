@@ -1,5 +1,5 @@
-// Connections that came while every number had a link. Each is told its end at once, and stays open for a while: a connection that is
-// closed with bytes unread, or on their way, is reset, and a reset may overtake the end.
+// Connections that came while every number had a link. Each gets its end of stream at once, and stays open for a while: if it
+// were closed with bytes unread or on their way, it would be reset, and a reset may overtake the end.
 use mio::net::TcpStream;
 use std::array;
 use std::net::Shutdown;
@@ -30,7 +30,7 @@ impl TurnedAway {
 
     /// Ends a connection at this reading of the clock, and keeps it open.
     pub fn turn_away(&mut self, stream: TcpStream, now: u64) {
-        // where the system refuses that, it is ended as it is closed
+        // if the system refuses that, its close ends it
         let _ = stream.shutdown(Shutdown::Write);
         let place = self.next % MOST_KEPT;
         self.streams[place] = Some(stream);

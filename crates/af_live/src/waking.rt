@@ -1,15 +1,15 @@
-// How a wait finds its wake: what is kept ready of a link, then the next device of the round, then the next telephone line, then what a
-// poll finds.
+// How a wait finds its wake: it looks at what is kept ready of a link, then at the next device of the round, then at the next
+// telephone line, and then at what a poll finds.
 ghost use Rattle.std.specs.Prelude.{◌≡◌, ◌≤◌, ◌<◌, ◌^◌, ℕ, true, false, is_some, IfSome, MatchOption};
 ghost use Rattle.std.specs.declared.option.Option.TheVariants.{None};
 ghost use Rattle.std.specs.Duration.{as_nanos};
 ghost use Rattle.af_limits.specs.Limits.{most_links};
-ghost use Rattle.af_backend.specs.Rounds.{round_begun};
-ghost use Rattle.af_lines.specs.HeldLines.{lines_begun};
+ghost use Rattle.af_backend.specs.Rounds.{next_round};
+ghost use Rattle.af_lines.specs.HeldLines.{lines_at_round_start};
 ghost use Rattle.af_live.specs.LinkTable.{link_at, something_ready, KeepsOpen, LinkWakeFits, Opens};
 ghost use Rattle.af_live.specs.Polls.{LeadsLinks, PolledGives};
 ghost use Rattle.af_live.specs.Readings.{whole_millis, pause_of, IsReadingBy};
-ghost use Rattle.af_live.specs.RealWorld.{given, GivesKept, LeadsLines, LeadsRound, WakeFits};
+ghost use Rattle.af_live.specs.RealWorld.{given_wake, GivesKept, LeadsLines, LeadsRound, WakeFits};
 
 use crate::held_links::HeldLinks;
 use crate::sockets::Sockets;
@@ -25,14 +25,14 @@ use std::time::{Clock, Duration};
 /// How many milliseconds a wait with nothing to do waits at most, and so the longest that a device may be late.
 const LONGEST_PAUSE_MILLIS: u64 = 10;
 
-/// For how many nanoseconds a server that catches up serves its clients between two steps. Without this a fast server passes what they
-/// have sent.
+/// For how many nanoseconds a server that catches up serves its clients between two steps. Without this a fast server passes what
+/// they have sent.
 const CATCHING_UP_PAUSE_NANOS: u64 = 500_000;
 
 const NANOS_A_MILLISECOND: u64 = 1_000_000;
 
-/// The last step of the readings: what the clock showed then, the reading itself, and whether the clock was ahead of it by a whole step
-/// of a server that catches up, or more.
+/// The last step of the readings: what the clock showed then, the reading itself, and whether the clock was ahead of it by a
+/// whole step of a server that catches up, or more.
 #[derive(Clone, Copy, Default)]
 pub(crate) struct Step {
     shown: u64,
@@ -40,21 +40,22 @@ pub(crate) struct Step {
     is_behind: bool,
 }
 
-/// What a clock shows, in nanoseconds and rounded down to whole milliseconds: no frame ticks before its time, and a round that
-/// follows another within the millisecond finds nothing due, and sleeps.
-fn whole_millis(shown: Duration) -> Option<u64>
-    ensures { MatchOption result (2 ^ 64 ≤ as_nanos shown) (λ nanos. nanos ≡ whole_millis (as_nanos shown)) }
+/// What a clock shows, rounded down to whole milliseconds: no frame ticks before its time, and a round that follows another
+/// within the millisecond finds nothing due, and sleeps.
+fn whole_millis(nanos: u64) -> u64
+    ensures { result ≡ whole_millis nanos }
 {
-    let nanos = u64::try_from(shown.as_nanos()).ok()?;
-    Some(nanos - nanos % NANOS_A_MILLISECOND)
+    nanos - nanos % NANOS_A_MILLISECOND
+}
+
+/// What the clock shows, in nanoseconds. None if it cannot be read, or shows five centuries.
+fn shown_by<R: Clock>(rt: &R) -> Option<u64> {
+    u64::try_from(rt.monotonic().ok()?.as_nanos()).ok()
 }
 
 /// The time as a reading of the clock is, in nanoseconds, or zero if it cannot be read.
 pub(crate) fn time_of<R: Clock>(rt: &R) -> u64 {
-    match rt.monotonic() {
-        Ok(shown) => whole_millis(shown).unwrap_or(0),
-        Err(_) => 0,
-    }
+    shown_by(rt).map_or(0, whole_millis)
 }
 
 /// The reading of the clock that a round goes by: its own, or one that is taken now. After the server stood still that lags what
@@ -66,13 +67,12 @@ fn reading<R: Clock>(rt: &R, round: &Round, has_links: bool, step: &mut Step) ->
     if let Some(taken) = round.reading() {
         return Some(taken);
     }
-    let shown = rt.monotonic().ok()?;
-    let next = round.reading_after(whole_millis(shown)?);
-    let shown = u64::try_from(shown.as_nanos()).ok()?;
+    let shown = shown_by(rt)?;
+    let next = round.reading_after(whole_millis(shown));
     let is_behind = shown.saturating_sub(next) >= LONGEST_STEP_NANOS;
     let is_served = shown.saturating_sub(step.shown) >= CATCHING_UP_PAUSE_NANOS;
     if is_behind && has_links && !is_served {
-        return Some(round.reading_after(whole_millis(Duration::from_nanos(step.reading))?));
+        return Some(round.reading_after(whole_millis(step.reading)));
     }
     *step = Step {
         shown,
@@ -94,8 +94,8 @@ fn poll_once<P: Program + Drop>(
     ensures fits { IfSome result (λ wake. LinkWakeFits links.old wake) }
     ensures opens { MatchOption result (KeepsOpen links.old links.new) (λ wake. Opens wake links.old links.new) }
     ensures links { MatchOption result (links.new ≡ links.old) (λ wake. PolledGives wake links.old links.new) }
-    ensures round { MatchOption result (round.new ≡ round.old) (λ wake. round.new ≡ round_begun round.old) }
-    ensures lines { MatchOption result (lines.new ≡ lines.old) (λ wake. lines.new ≡ lines_begun lines.old) }
+    ensures round { MatchOption result (round.new ≡ round.old) (λ wake. round.new ≡ next_round round.old) }
+    ensures lines { MatchOption result (lines.new ≡ lines.old) (λ wake. lines.new ≡ lines_at_round_start lines.old) }
 {
     if !sockets.poll(pause, nanos, links) {
         return None;
@@ -108,7 +108,7 @@ fn poll_once<P: Program + Drop>(
     }
 }
 
-/// The next wake: what is kept ready, or the next device of the round of which frames are due, or the next line that changes, or what the
+/// The next wake: what is kept ready, or the next device of the round with frames due, or the next line that changes, or what the
 /// next poll finds. None if the system was not to be asked.
 pub(crate) fn next_wake<R: Clock, F: Read + Write + Drop, S: Spawner + Drop, P: Program + Drop>(
     rt: &R,
@@ -149,11 +149,14 @@ pub(crate) fn next_wake<R: Clock, F: Read + Write + Drop, S: Spawner + Drop, P: 
     poll_once(sockets, pause, nanos, links, &mut devices.round, lines)
 }
 
-/// Has the poll look at the programs whose time is that of their device.
+/// Has the poll look at the programs that devices go by.
 fn watch_programs<F: Read + Write + Drop, S: Spawner + Drop, P: Program + Drop>(
     sockets: &mut Sockets,
     devices: &Devices<F, S, P>,
 ) {
+    if !devices.round.has_programs() {
+        return;
+    }
     for device in 0..MOST_DEVICES {
         if let Some(card) = devices.card(device as u8) {
             sockets.watch(device, card.tried(), card.program().sockets());
@@ -163,7 +166,7 @@ fn watch_programs<F: Read + Write + Drop, S: Spawner + Drop, P: Program + Drop>(
 
 /// What a wait answers that found this wake, or none.
 pub(crate) fn answer(next: Option<Wake>) -> Waited
-    ensures given { given result ≡ next }
+    ensures given { given_wake result ≡ next }
     ensures failed { next ≡ None → result ≡ Waited.Failed }
 {
     match next {

@@ -12,10 +12,10 @@ use Rattle.af_model.specs.State.{OpenLink, open_link}
 use Rattle.af_request.specs.Asked.{Asked}
 use Rattle.af_request.specs.Requests.{asked_in}
 use Rattle.af_model.specs.Waiting.{has_deferral}
-use Rattle.af_model.specs.Perform.{perform, request_counted}
+use Rattle.af_model.specs.Perform.{perform, count_request}
 use Rattle.af_model.proofs.DueLemmas.{most_asked}
 use Rattle.af_model.proofs.RequestLemmas.{done_both}
-use Rattle.af_model.specs.Advance.{advance, advance_by, advance_step, after_frame, after_setup, after_front, takes_more, requested, without_front, or_else}
+use Rattle.af_model.specs.Advance.{advance, advance_by, advance_step, after_frame, after_setup, after_front, takes_more, make_request, without_front, or_else}
 
 pub frame_within : (order : Order) (xs : List ℕ) → IsFrameWithin (frame_front order xs) (length xs)
 frame_within order [] = tt
@@ -29,13 +29,13 @@ setup_within xs = grind arith
 
 pub perform_rest : (k : ℕ) (request : Asked) (p : OpenLink) → (perform k request p).link.rest ≡ p.link.rest
 perform_rest k request p =
-    done_both k (open_link p.environment (request_counted p.link)) p.link.rest (most_asked request) (λ u v. u.link.rest ≡ p.link.rest) refl (λ contexts selections bytes short. refl) (λ d device f there l. refl) (λ d device f bytes short there l. refl) (λ d device deferred there w. refl) request (omega arith)
+    done_both k (open_link p.environment (count_request p.link)) p.link.rest (most_asked request) (λ u v. u.link.rest ≡ p.link.rest) refl (λ contexts selections bytes short. refl) (λ d device f there l. refl) (λ d device f bytes short there l. refl) (λ d device deferred there w. refl) request (omega arith)
 
 pub perform_closing : (k : ℕ) (request : Asked) (p : OpenLink) → (perform k request p).link.closing ≡ p.link.closing
 perform_closing k request p =
-    done_both k (open_link p.environment (request_counted p.link)) p.link.rest (most_asked request) (λ u v. u.link.closing ≡ p.link.closing) refl (λ contexts selections bytes short. refl) (λ d device f there l. refl) (λ d device f bytes short there l. refl) (λ d device deferred there w. refl) request (omega arith)
+    done_both k (open_link p.environment (count_request p.link)) p.link.rest (most_asked request) (λ u v. u.link.closing ≡ p.link.closing) refl (λ contexts selections bytes short. refl) (λ d device f there l. refl) (λ d device f bytes short there l. refl) (λ d device deferred there w. refl) request (omega arith)
 
-requested_rest : (k : ℕ) (o : Option Asked) (p : OpenLink) → length (requested k o p).link.rest ≤ length p.link.rest
+requested_rest : (k : ℕ) (o : Option Asked) (p : OpenLink) → length (make_request k o p).link.rest ≤ length p.link.rest
 requested_rest k None p = omega arith
 requested_rest k (Some request) p = let e = ap length (perform_rest k request p) in omega (arith, e)
 
@@ -85,7 +85,7 @@ by_none : (n k : ℕ) (p : OpenLink) → advance_step k p ≡ None → advance_b
 by_none zero k p e = refl
 by_none (suc n) k p e = ap (λ o. or_else p (advance_by n k) o) e
 
--- behind an advance there is none to take
+-- after an advance there is none to take
 by_ends : (n k : ℕ) (p : OpenLink) → length p.link.rest ≤ n → advance_step k (advance_by n k p) ≡ None
 by_ends zero k p h =
     elim (advance_step k p) as (λ o. IsShorter (length p.link.rest) o → o ≡ None) [ None ↦ λ s. refl | Some q ↦ λ s. absurd (omega (arith, s, h)) ] (step_shorter k p)
@@ -99,7 +99,7 @@ pub advance_ends : (k : ℕ) (p : OpenLink) → advance_step k (advance k p) ≡
 unfolding advance
 advance_ends k p = by_ends (length p.link.rest) k p (omega arith)
 
--- if there is one to take, advancing goes on behind it
+-- if there is one to take, advancing goes on after it
 pub advance-some : (k : ℕ) (p q : OpenLink) → advance_step k p ≡ Some q → advance k p ≡ advance k q
 unfolding advance
 advance-some k p q e =

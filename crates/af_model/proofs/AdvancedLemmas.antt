@@ -1,4 +1,4 @@
--- That all was taken off a link's input that can be.
+-- All was taken off a link's input that can be.
 use Rattle.std.proofs.Common.{◌≡◌, ℕ, ◌+◌, Bool, true, false, not, cond, ◌&&◌, nat_le, inl, inr, List, length, is_none, refl, sym, ap, ◌∙◌, subst, arith, length-append}
 use Rattle.std.specs.declared.option.Option.{Option}
 use Rattle.std.specs.declared.option.Option.TheVariants.{None, Some}
@@ -12,7 +12,7 @@ use Rattle.af_wire.specs.Front.{setup_front, frame_front}
 use Rattle.af_model.specs.State.{Deferral, DeviceState, LinkState, OpenLink, say}
 use Rattle.af_model.specs.Waiting.{has_deferral}
 use Rattle.af_model.specs.Advance.{advance, advance_step, after_frame, after_front, after_setup, takes_more}
-use Rattle.af_model.specs.Tick.{answer_deferred, complete_for, completing}
+use Rattle.af_model.specs.Tick.{answer_deferred, complete_for, complete_deferred}
 use Rattle.af_model.specs.Play.{in_devices}
 use Rattle.af_model.specs.Causes.{AreServed}
 use Rattle.af_limits.specs.Limits.{perform_limit}
@@ -21,12 +21,12 @@ use Rattle.af_model.proofs.BoolTestLemmas.{both-true, none_some}
 use Rattle.af_model.proofs.InputLemmas.{IsInput}
 use Rattle.af_model.proofs.LinkInvariantLemmas.{takes_more_open}
 
--- no setup, or no frame, stands whole at the front
+-- no complete setup, or no complete frame, is at the front
 abbrev pub NoneAtFront : Bool → Order → List ℕ → Type 0
 NoneAtFront false order rest = setup_front rest ≡ front.NeedMore
 NoneAtFront true order rest = frame_front order rest ≡ NeedMore
 
--- where something may be taken off a link's input, nothing stands whole at its front
+-- if something may be taken off a link's input, nothing complete is at its front
 abbrev pub IsAdvanced : ℕ → LinkState → List Deferral → Type 0
 IsAdvanced k l waiting = takes_more (has_deferral waiting k) l ≡ true → NoneAtFront l.is_set_up l.order l.rest
 
@@ -51,16 +51,16 @@ step_none k p e more = front_none p.link.is_set_up k p (sym (ap (λ t. cond t (a
 pub advanced_behind : (k : ℕ) (p : OpenLink) → IsAdvanced k (advance k p).link (advance k p).environment.waiting
 advanced_behind k p = step_none k (advance k p) (advance_ends k p)
 
--- a link whose request completes is
+-- so is a link whose request completes
 pub advanced_complete : (w : Deferral) (o : Option DeviceState) (device : DeviceState) (p : OpenLink) → o ≡ Some device → IsAdvanced w.link (complete_for w o p).link (complete_for w o p).environment.waiting
 advanced_complete w None device p e = absurd (none_some e)
-advanced_complete w (Some device) x p e = advanced_behind w.link (answer_deferred w.deferred device (in_devices w.device (completing w.link w.deferred) p))
+advanced_complete w (Some device) x p e = advanced_behind w.link (answer_deferred w.deferred device (in_devices w.device (complete_deferred w.link w.deferred) p))
 
 -- nothing may be taken off a link that is closing
 pub advanced_closing : (k : ℕ) (l : LinkState) (waiting : List Deferral) (cause : Why) → l.closing ≡ Some cause → IsAdvanced k l waiting
 advanced_closing k l waiting cause closes more = absurd (none_some (sym (takes_more_open (has_deferral waiting k) l more) ∙ closes))
 
--- nor more of one to which more is said
+-- nor off one for which more is queued
 less_room : (m n : ℕ) → nat_le (m + n) perform_limit ≡ true → nat_le m perform_limit ≡ true
 less_room m n e = grind arith
 

@@ -1,5 +1,5 @@
--- Two logs that go through a phase from one state, and are answered by one outside, go through it alike: their happenings
--- and the states behind them are the same.
+-- Two logs that go through a phase from one state, and are answered by one outside, go through it alike: their happenings and the
+-- states after them are the same.
 use Rattle.std.proofs.Common.{◌≡◌, Bool, true, false, List, [], ◌∷◌, refl, sym, ap, ◌∙◌, subst, IsSomeAnd}
 use Rattle.std.specs.declared.option.Option.{Option}
 use Rattle.std.specs.declared.option.Option.TheVariants.{None, Some}
@@ -7,7 +7,7 @@ use Rattle.af_world.specs.declared.happening.Happening.{Happening}
 use Rattle.af_world.specs.declared.happening.Happening.TheVariants.{Woke, Read, Wrote, Closed, Captured, Emitted, Hooked}
 use Rattle.af_world.specs.declared.script.Step.{Step}
 use Rattle.af_world.specs.Log.{Log}
-use Rattle.af_world.specs.Outside.{Outside, answered_as_stated}
+use Rattle.af_world.specs.Outside.{Outside, outside_after_happening}
 use Rattle.af_model.specs.Turn.{Parsed, accept, parse_then, and_then, parse_one}
 use Rattle.af_model.specs.Script.{AnswersTo}
 use Rattle.af_model.proofs.BoolTestLemmas.{none_some}
@@ -22,7 +22,7 @@ pub record Agreed {T : Type 0} (steps : List Step) (Q : T → Outside → Type 0
   pub second : AnswersTo outside b2.log steps e2
   pub same : b1.log ≡ b2.log → log1 ≡ log2
 
--- a phase that goes from what holds of a state and an outside to what holds of the next
+-- a phase that goes from a property of a state and an outside to a property of the next
 abbrev pub GoesAlike : {S T : Type 0} → (S → Log → Option (Parsed T)) → (S → Outside → Type 0) → (T → Outside → Type 0) → Type 0
 GoesAlike {S} {T} f P Q = (steps : List Step) (s : S) (o : Outside) (log1 log2 : Log) (b1 b2 : Parsed T) (e1 e2 : Outside) →
     P s o → f s log1 ≡ Some b1 → f s log2 ≡ Some b2 → AnswersTo o log1 steps e1 → AnswersTo o log2 steps e2 → Agreed steps Q log1 log2 e1 e2 b1 b2
@@ -67,30 +67,30 @@ some_and : (x : Option Outside) (P : Outside → Type 0) → IsSomeAnd x P → (
 some_and None P h = absurd h
 some_and (Some o) P h = (o, refl, h)
 
--- what a happening is answered with, and what is answered behind it
+-- what a happening is answered with, and what is answered after it
 pub answered_first : (o : Outside) (h : Happening) (log : Log) (steps : List Step) (e : Outside) → is_quiet h ≡ true → AnswersTo o (h ∷ log) steps e →
-    (o' : Outside) × (answered_as_stated o h ≡ Some o') × AnswersTo o' log steps e
+    (o' : Outside) × (outside_after_happening o h ≡ Some o') × AnswersTo o' log steps e
 answered_first o (Woke wake) log steps e q a = absurd cc
-answered_first o (Read k got) log steps e q a = some_and (answered_as_stated o (Read k got)) (λ o. AnswersTo o log steps e) a
-answered_first o (Wrote k offered took) log steps e q a = some_and (answered_as_stated o (Wrote k offered took)) (λ o. AnswersTo o log steps e) a
-answered_first o (Closed k why) log steps e q a = some_and (answered_as_stated o (Closed k why)) (λ o. AnswersTo o log steps e) a
-answered_first o (Captured d n got) log steps e q a = some_and (answered_as_stated o (Captured d n got)) (λ o. AnswersTo o log steps e) a
-answered_first o (Emitted d sound done) log steps e q a = some_and (answered_as_stated o (Emitted d sound done)) (λ o. AnswersTo o log steps e) a
-answered_first o (Hooked d off done) log steps e q a = some_and (answered_as_stated o (Hooked d off done)) (λ o. AnswersTo o log steps e) a
+answered_first o (Read k got) log steps e q a = some_and (outside_after_happening o (Read k got)) (λ o. AnswersTo o log steps e) a
+answered_first o (Wrote k offered took) log steps e q a = some_and (outside_after_happening o (Wrote k offered took)) (λ o. AnswersTo o log steps e) a
+answered_first o (Closed k why) log steps e q a = some_and (outside_after_happening o (Closed k why)) (λ o. AnswersTo o log steps e) a
+answered_first o (Captured d n got) log steps e q a = some_and (outside_after_happening o (Captured d n got)) (λ o. AnswersTo o log steps e) a
+answered_first o (Emitted d sound done) log steps e q a = some_and (outside_after_happening o (Emitted d sound done)) (λ o. AnswersTo o log steps e) a
+answered_first o (Hooked d off done) log steps e q a = some_and (outside_after_happening o (Hooked d off done)) (λ o. AnswersTo o log steps e) a
 
--- The one happening that may come, of a state and the outside: where a happening is taken and answered, it is that one, and
--- what is to hold holds behind it.
+-- The one happening that may come, by the state and the outside: if a happening is taken and answered, it is that one, and what
+-- has to hold after it holds.
 pub record TakesOne {S T : Type 0} (f : S → Happening → Option T) (P : S → Outside → Type 0) (Q : T → Outside → Type 0) (s : S) (o : Outside) (h : Happening) (want : Happening) : Type 0 where
   pub quiet : is_quiet h ≡ true
-  pub is : (o' : Outside) → answered_as_stated o h ≡ Some o' → h ≡ want
-  pub stands : (t : T) (o' : Outside) → P s o → f s h ≡ Some t → answered_as_stated o h ≡ Some o' → Q t o'
+  pub is : (o' : Outside) → outside_after_happening o h ≡ Some o' → h ≡ want
+  pub stands : (t : T) (o' : Outside) → P s o → f s h ≡ Some t → outside_after_happening o h ≡ Some o' → Q t o'
 
 module _ {S T : Type 0} where
   pub go_inv : (x : Option S) (g : S → Option T) (b : T) → and_then x g ≡ Some b → (c : S) × (x ≡ Some c) × (g c ≡ Some b)
   go_inv None g b e = absurd cc
   go_inv (Some c) g b e = (c, refl, e)
 
--- one happening at the head of both
+-- both logs begin with one happening
 pub record Headed {T : Type 0} (steps : List Step) (Q : T → Outside → Type 0) (o : Outside) (h1 h2 : Happening) (rest1 rest2 : Log) (e1 e2 : Outside) (t1 t2 : T) : Type 0 where
   pub outside : Outside
   pub stands : Q t1 outside
@@ -110,7 +110,7 @@ module _ {S T : Type 0} where
       let a1 = answered_first o h1 rest1 steps e1 w1.quiet r1 in
       let a2 = answered_first o h2 rest2 steps e2 w2.quiet r2 in
       let h : h1 ≡ h2 = w1.is a1.0 a1.1 ∙ sym (w2.is a2.0 a2.1) in
-      let both : Some a1.0 ≡ Some a2.0 = sym a1.1 ∙ ap (answered_as_stated o) h ∙ a2.1 in
+      let both : Some a1.0 ≡ Some a2.0 = sym a1.1 ∙ ap (outside_after_happening o) h ∙ a2.1 in
       let same : a2.0 ≡ a1.0 = cc in
       let states : Some t1 ≡ Some t2 = sym f1 ∙ ap (f s) h ∙ f2 in
       record {

@@ -1,4 +1,4 @@
--- What a link's history shows of a link that is open: nothing of an end if it is not closing, and its cause if it is.
+-- What the history of an open link shows: nothing of an end if it is not closing, and its cause if it is.
 use Rattle.std.proofs.Common.{◌≡◌, ℕ, ◌+◌, ◌<◌, Bool, true, false, cond, List, [], ◌++◌, length, nat_le, refl, sym, ◌∙◌, subst, arith}
 use Rattle.std.specs.declared.option.Option.{Option}
 use Rattle.std.specs.declared.option.Option.TheVariants.{None, Some}
@@ -20,7 +20,7 @@ pub record IsUnended (h : LinkHistory) (is_set_up : Bool) (order : Order) (rest 
   pub ended : h.has_ended ≡ false
   pub input : IsInput is_set_up order h.gave rest
 
--- what is owed to a link at its close: to one that was dropped what was never sent to it, and to another nothing
+-- what is owed to a link at its close: what was never sent, if it was dropped, and else nothing
 abbrev pub owed_at_close : Bool → List ℕ → ℕ
 owed_at_close dropped owed = cond dropped (length owed) 0
 
@@ -42,12 +42,12 @@ cause_alike why.BadSetup h g n gave ended failed c =
 cause_alike why.Malformed h g n gave ended failed c =
     (record { failed = failed ∙ c.0.failed; ended = ended ∙ c.0.ended; all_taken = c.0.all_taken }, c.1, c.2, subst (λ l. IsServedTo c.1 l c.2) (sym gave) c.3, c.4)
 
--- what is owed to a link that was not dropped does not count
+-- what is owed to a link counts only if it was dropped
 pub shows_owed : (h : LinkHistory) (owed other : List ℕ) (is_set_up : Bool) (order : Order) (rest : List ℕ) (closing : Option Why) → is_dropped closing ≡ false → ShowsBy h owed is_set_up order rest closing → ShowsBy h other is_set_up order rest closing
 shows_owed h owed other is_set_up order rest None stays s = s
 shows_owed h owed other is_set_up order rest (Some cause) stays s = subst (λ t. IsCause cause h (owed_at_close t other)) (sym stays) (subst (λ t. IsCause cause h (owed_at_close t owed)) stays s)
 
--- more was taken of what a link that was not dropped is owed
+-- more was taken of what is owed to a link that was not dropped
 pub shows_taken : (h : LinkHistory) (bytes owed other : List ℕ) (is_set_up : Bool) (order : Order) (rest : List ℕ) (closing : Option Why) → is_dropped closing ≡ false → ShowsBy h owed is_set_up order rest closing →
     ShowsBy (record h { took = h.took ++ bytes }) other is_set_up order rest closing
 shows_taken h bytes owed other is_set_up order rest None stays s = record { failed = s.failed; ended = s.ended; input = s.input }
@@ -67,7 +67,7 @@ shows_bad h owed why.Ended l bad s = absurd bad
 shows_bad h owed why.LinkFault l bad s = absurd bad
 shows_bad h owed why.Overrun l bad s = absurd bad
 
--- no event finds room that is not below the bound
+-- an event that finds no room would exceed the bound
 pub no_room : (n : ℕ) → nat_le (n + 20) event_limit ≡ false → event_limit < n + 20
 no_room n e = grind arith
 

@@ -1,4 +1,4 @@
--- The completions of a tick: nothing is lost by them, and behind them no request is due.
+-- The completions of a tick lose nothing, and after them no request is due.
 use Rattle.std.proofs.Common.{◌≡◌, ℕ, zero, suc, ◌+◌, ◌==◌, ◌&&◌, ◌<◌, ◌≤◌, Bool, true, false, cond, ℤ, List, [], ◌∷◌, ◌++◌, length, find, nat_le, option_map, option_and_then, slice_get, refl, sym, ap, ◌∙◌, subst, arith, eqb-true}
 use Rattle.std.specs.List.{All}
 use Rattle.std.proofs.lemmas.List.Elements.{All-cons, All-head, All-nil, All-tail, All-weaker}
@@ -7,9 +7,9 @@ use Rattle.af_limits.specs.Limits.{longest_tick, longest_frame}
 use Rattle.af_wait.specs.Waits.{without_first}
 use Rattle.af_model.specs.State.{DeviceState, Deferral, Deferred, State, open_link, slot_link_at, with_device, with_slot_link}
 use Rattle.af_model.specs.Reply.{horizon_of}
-use Rattle.af_model.specs.Waiting.{due, falls_due}
+use Rattle.af_model.specs.Waiting.{due_time, falls_due}
 use Rattle.af_model.specs.Advance.{or_else}
-use Rattle.af_model.specs.Tick.{complete, complete_at, complete_by, complete_due, complete_first, completing, later, tick}
+use Rattle.af_model.specs.Tick.{complete, complete_at, complete_by, complete_due, complete_first, complete_deferred, device_after, tick}
 use Rattle.af_model.proofs.BoolTestLemmas.{none_some, same_number, some_is}
 use Rattle.af_model.proofs.DeviceHistoryLemmas.{AllLive, Lives, all_live_get, all_live_with, lives_completing, with_other, with_same, with_there}
 use Rattle.af_model.proofs.DueLemmas.{IsToWait}
@@ -25,9 +25,9 @@ found_all passes (v ∷ ws) w P e h =
       | false ↦ λ e. found_all passes ws w P e (All-tail P v ws h)
     ] e
 
--- a completion keeps of devices and of those that wait what all moves of its link keep
+-- a completion keeps of devices and of deferred requests what all moves of its link keep
 completed_keeps : (E : List DeviceState → List Deferral → Type 0) (w : Deferral) (s : State) → Keeps w.link (λ closing. Unit {0}) (λ p. E p.environment.devices p.environment.waiting) →
-    (E s.devices s.waiting → E (with_device w.device (completing w.link w.deferred) s.devices) s.waiting) → E s.devices s.waiting → E (complete w s).devices (complete w s).waiting
+    (E s.devices s.waiting → E (with_device w.device (complete_deferred w.link w.deferred) s.devices) s.waiting) → E s.devices s.waiting → E (complete w s).devices (complete w s).waiting
 completed_keeps E w s kept completes h =
     let a = (slot_link_at w.link s).environment in
     elim (slot_link_at w.link s).link as (λ o. E (with_slot_link w.link s (complete_at w a o)).devices (with_slot_link w.link s (complete_at w a o)).waiting) [
@@ -80,7 +80,7 @@ pub count_alike : (passes other : Deferral → Bool) (ws : List Deferral) → ((
 count_alike passes other [] same = refl
 count_alike passes other (w ∷ ws) same = ap (λ n. cond (other w) (suc n) n) (count_alike passes other ws same) ∙ ap (λ t. cond t (suc (count_due passes ws)) (count_due passes ws)) (same w)
 
--- At most n of those that wait are due for device d, whose time, rate and channels are those of this one.
+-- At most n of the deferred requests are due for device d, whose time, rate and channels are those of this one.
 pub record Few (n d : ℕ) (device : DeviceState) (ds : List DeviceState) (ws : List Deferral) : Type 0 where
   pub is : DeviceState
   pub there : slice_get ds d ≡ Some is
@@ -89,7 +89,7 @@ pub record Few (n d : ℕ) (device : DeviceState) (ds : List DeviceState) (ws : 
 
 pub same_due : (d : ℕ) (a b : DeviceState) (w : Deferral) → SameClock a b → falls_due d b w ≡ falls_due d a w
 same_due d a b w same =
-    ap (λ n. w.device == d && nat_le n b.now) (due_alike a b w.deferred same.1 same.2) ∙ ap (λ n. w.device == d && nat_le (due a.channels (horizon_of a) w.deferred) n) same.0
+    ap (λ n. w.device == d && nat_le n b.now) (due_alike a b w.deferred same.1 same.2) ∙ ap (λ n. w.device == d && nat_le (due_time a.channels (horizon_of a) w.deferred) n) same.0
 
 not_due : (a b : ℕ) → a < b → nat_le b a ≡ false
 not_due a b lt = grind arith
@@ -97,17 +97,17 @@ not_due a b lt = grind arith
 pub few_lives : (n d : ℕ) (device : DeviceState) (ds es : List DeviceState) (ws : List Deferral) → AllLive ds es → Few n d device ds ws → Few n d device es ws
 few_lives n d device ds es ws l h = let got = all_live_get ds es d h.is l h.there in record { is = got.0; there = got.1; clock = (got.2.now ∙ h.clock.0, got.2.rate ∙ h.clock.1, got.2.channels ∙ h.clock.2); few = h.few }
 
--- one that begins to wait is not due
+-- a request that is deferred now is not due
 not_due_yet : (d : ℕ) (device is x : DeviceState) (ds : List DeviceState) (k e : ℕ) (deferred : Deferred) → slice_get ds d ≡ Some is → SameClock device is → slice_get ds e ≡ Some x → IsToWait longest_frame x deferred →
     falls_due d device (record { link = k; device = e; deferred = deferred }) ≡ false
 not_due_yet d device is x ds k e deferred there same_clock is_there w =
-    elim (e == d) as (λ t. (e == d) ≡ t → (t && nat_le (due device.channels (horizon_of device) deferred) device.now) ≡ false) [
+    elim (e == d) as (λ t. (e == d) ≡ t → (t && nat_le (due_time device.channels (horizon_of device) deferred) device.now) ≡ false) [
       | true ↦ λ same.
           let one : is ≡ x = some_is (sym there ∙ ap (slice_get ds) (sym (eqb-true e d same)) ∙ is_there) in
-          let later : device.now < due device.channels (horizon_of device) deferred =
-          subst (λ n. n < due device.channels (horizon_of device) deferred) same_clock.0
-          (subst (λ n. is.now < n) (due_alike device is deferred same_clock.1 same_clock.2) (subst (λ y. y.now < due y.channels (horizon_of y) deferred) (sym one) w.later)) in
-          not_due device.now (due device.channels (horizon_of device) deferred) later
+          let later : device.now < due_time device.channels (horizon_of device) deferred =
+          subst (λ n. n < due_time device.channels (horizon_of device) deferred) same_clock.0
+          (subst (λ n. is.now < n) (due_alike device is deferred same_clock.1 same_clock.2) (subst (λ y. y.now < due_time y.channels (horizon_of y) deferred) (sym one) w.later)) in
+          not_due device.now (due_time device.channels (horizon_of device) deferred) later
       | false ↦ λ same. refl
     ] refl
 
@@ -129,7 +129,7 @@ few_keeps k n d device = record {
   };
 }
 
--- one fewer is due behind a completion
+-- one fewer is due after a completion
 pub few_completed : (n d : ℕ) (device x : DeviceState) (s : State) (w : Deferral) → SameClock device x → find (falls_due d x) s.waiting ≡ Some w → Few (suc n) d device s.devices s.waiting →
     Few n d device (complete w (record s { waiting = without_first (falls_due d x) s.waiting })).devices (complete w (record s { waiting = without_first (falls_due d x) s.waiting })).waiting
 few_completed n d device x s w same found h =
@@ -140,7 +140,7 @@ few_completed n d device x s w same found h =
     let left = count_left passes s.waiting w found in
     let one : count_due (falls_due d device) fewer.waiting ≤ n = let all = h.few in omega (arith, alike, alike', left, all) in
     completed_keeps (Few n d device) w fewer (few_keeps w.link n d device)
-    (λ g. few_lives n d device s.devices (with_device w.device (completing w.link w.deferred) s.devices) fewer.waiting (all_live_with w.device (completing w.link w.deferred) s.devices (λ y is. lives_completing w.link y w.deferred)) g)
+    (λ g. few_lives n d device s.devices (with_device w.device (complete_deferred w.link w.deferred) s.devices) fewer.waiting (all_live_with w.device (complete_deferred w.link w.deferred) s.devices (λ y is. lives_completing w.link y w.deferred)) g)
     (record { is = h.is; there = h.there; clock = h.clock; few = one })
 
 -- as long as one is due
@@ -164,11 +164,11 @@ completes_by (suc n) slack d device s few safe h =
     subst (λ o. Completed slack d device (or_else s (complete_by n d) (option_and_then (complete_first d s) o))) (sym h.there)
     (completes_first n slack d device h.is s few h.clock safe h (λ t safe h. completes_by n slack d device t few safe h))
 
--- behind them each is due later
+-- after them each is due later
 no_slack : (slack d : ℕ) (device : DeviceState) (ds : List DeviceState) (w : Deferral) → (x : DeviceState) → slice_get ds d ≡ Some x → SameClock device x → falls_due d device w ≡ false → AwaitedIn slack d ds w → AwaitedIn 0 0 ds w
 no_slack slack d device ds w x there same_clock late one y is =
     let h = one y is in
-    record { soon = subst (λ n. y.now < due y.channels (horizon_of y) w.deferred + n) (sym (nothing (w.device == 0) 0)) (soon (w.device == d) refl late h.soon); ever = h.ever; short = h.short }
+    record { soon = subst (λ n. y.now < due_time y.channels (horizon_of y) w.deferred + n) (sym (nothing (w.device == 0) 0)) (soon (w.device == d) refl late h.soon); ever = h.ever; short = h.short }
   where
     nothing : (b : Bool) (n : ℕ) → cond b n n ≡ n
     nothing true n = refl
@@ -177,13 +177,13 @@ no_slack slack d device ds w x there same_clock late one y is =
     due_later : (a b : ℕ) → nat_le b a ≡ false → a < b + 0
     due_later a b e = grind arith
 
-    soon : (b : Bool) → (w.device == d) ≡ b → (b && nat_le (due device.channels (horizon_of device) w.deferred) device.now) ≡ false →
-        y.now < due y.channels (horizon_of y) w.deferred + cond b slack 0 → y.now < due y.channels (horizon_of y) w.deferred + 0
+    soon : (b : Bool) → (w.device == d) ≡ b → (b && nat_le (due_time device.channels (horizon_of device) w.deferred) device.now) ≡ false →
+        y.now < due_time y.channels (horizon_of y) w.deferred + cond b slack 0 → y.now < due_time y.channels (horizon_of y) w.deferred + 0
     soon true same late h =
         let one : x ≡ y = some_is (sym there ∙ ap (slice_get ds) (sym (eqb-true w.device d same)) ∙ is) in
-        subst (λ z. z.now < due z.channels (horizon_of z) w.deferred + 0) one
-        (subst (λ n. n < due x.channels (horizon_of x) w.deferred + 0) (sym same_clock.0)
-        (subst (λ n. device.now < n + 0) (sym (due_alike device x w.deferred same_clock.1 same_clock.2)) (due_later device.now (due device.channels (horizon_of device) w.deferred) late)))
+        subst (λ z. z.now < due_time z.channels (horizon_of z) w.deferred + 0) one
+        (subst (λ n. n < due_time x.channels (horizon_of x) w.deferred + 0) (sym same_clock.0)
+        (subst (λ n. device.now < n + 0) (sym (due_alike device x w.deferred same_clock.1 same_clock.2)) (due_later device.now (due_time device.channels (horizon_of device) w.deferred) late)))
     soon false same late h = h
 
 all_later : (slack d : ℕ) (device : DeviceState) (ds : List DeviceState) (ws : List Deferral) → (x : DeviceState) → slice_get ds d ≡ Some x → SameClock device x → count_due (falls_due d device) ws ≤ 0 →
@@ -199,18 +199,18 @@ all_later slack d device ds (w ∷ ws) x there same none h =
 
 -- A tick of at most 4096 frames leaves nothing due, and loses nothing
 
--- what waits for a device is due for as many frames as went by
+-- after a tick, a request for its device has been due for less than the longest tick
 passed_awaited : (d n : ℕ) (captured : List ℤ) (is_dead : Bool) (ds : List DeviceState) (device : DeviceState) (w : Deferral) → n ≤ longest_tick → slice_get ds d ≡ Some device → AwaitedIn 0 0 ds w →
-    AwaitedIn longest_tick d (with_device d (later n captured is_dead) ds) w
+    AwaitedIn longest_tick d (with_device d (device_after n captured is_dead) ds) w
 passed_awaited d n captured is_dead ds device w few there one x is =
     elim (d == w.device) as (λ t. (d == w.device) ≡ t → IsAwaited (slack_for longest_tick d w) x w.deferred) [
       | true ↦ λ same.
-          let here = with_same d (later n captured is_dead) ds x (subst (λ m. slice_get (with_device d (later n captured is_dead) ds) m ≡ Some x) (sym (eqb-true d w.device same)) is) in
+          let here = with_same d (device_after n captured is_dead) ds x (subst (λ m. slice_get (with_device d (device_after n captured is_dead) ds) m ≡ Some x) (sym (eqb-true d w.device same)) is) in
           let h = one here.0 (subst (λ n. slice_get ds n ≡ Some here.0) (eqb-true d w.device same) here.1) in
           let own : slack_for longest_tick d w ≡ longest_tick = ap (λ n. cond (n == d) longest_tick 0) (sym (eqb-true d w.device same)) ∙ ap (λ t. cond t longest_tick 0) (same_number d) in
           subst (λ n. IsAwaited n x w.deferred) (sym own) (subst (λ y. IsAwaited longest_tick y w.deferred) here.2 (record { soon = rises here.0 h.soon; ever = h.ever; short = h.short }))
       | false ↦ λ other.
-          let h = one x (sym (with_other d (later n captured is_dead) ds w.device other) ∙ is) in
+          let h = one x (sym (with_other d (device_after n captured is_dead) ds w.device other) ∙ is) in
           record { soon = stays h.soon; ever = h.ever; short = h.short }
     ] refl
   where
@@ -218,16 +218,16 @@ passed_awaited d n captured is_dead ds device w few there one x is =
     nothing true n = refl
     nothing false n = refl
 
-    rises : (y : DeviceState) → y.now < due y.channels (horizon_of y) w.deferred + slack_for 0 0 w → y.now + n < due y.channels (horizon_of y) w.deferred + longest_tick
+    rises : (y : DeviceState) → y.now < due_time y.channels (horizon_of y) w.deferred + slack_for 0 0 w → y.now + n < due_time y.channels (horizon_of y) w.deferred + longest_tick
     rises y h = let z : slack_for 0 0 w ≡ 0 = nothing (w.device == 0) 0 in omega (arith, h, z, few)
 
-    stays : x.now < due x.channels (horizon_of x) w.deferred + slack_for 0 0 w → x.now < due x.channels (horizon_of x) w.deferred + slack_for longest_tick d w
+    stays : x.now < due_time x.channels (horizon_of x) w.deferred + slack_for 0 0 w → x.now < due_time x.channels (horizon_of x) w.deferred + slack_for longest_tick d w
     stays h = let z : slack_for 0 0 w ≡ 0 = nothing (w.device == 0) 0 in omega (arith, h, z)
 
 pub ticks_safe : (d n : ℕ) (captured : List ℤ) (is_dead : Bool) (s : State) (device : DeviceState) → n ≤ longest_tick → slice_get s.devices d ≡ Some device → SafeState 0 0 s → SafeState 0 0 (tick d n captured is_dead s)
 unfolding complete_due
 ticks_safe d n captured is_dead s device few there h =
-    let f = later n captured is_dead in
+    let f = device_after n captured is_dead in
     let t : State = record s { devices = with_device d f s.devices } in
     let safe : SafeState longest_tick d t = record {
       devices = safe_with d f s.devices (λ x is safe. loses_alike x (f x) refl refl safe) h.devices;

@@ -19,14 +19,14 @@ use Rattle.af_request.specs.Opcodes as opcodes
 use Rattle.af_model.specs.State.{OpenLink, open_link, say}
 use Rattle.af_model.specs.Waiting.{has_deferral}
 use Rattle.af_model.specs.Reply.{infos_of, reply_message}
-use Rattle.af_model.specs.Perform.{perform, request_counted}
-use Rattle.af_model.specs.Advance.{absorb, advance, advance_step, after_frame, after_front, after_setup, requested, takes_more, without_front}
+use Rattle.af_model.specs.Perform.{perform, count_request}
+use Rattle.af_model.specs.Advance.{absorb, advance, advance_step, after_frame, after_front, after_setup, make_request, takes_more, without_front}
 use Rattle.af_model.specs.Cutting.{CutsAlike}
 use Rattle.af_model.proofs.AdvanceLemmas.{IsShorter, advance-none, advance-some, frame_within, perform_closing, setup_within, step_shorter}
 use Rattle.af_model.proofs.DueLemmas.{most_asked}
 use Rattle.af_model.proofs.RequestLemmas.{done_both, with_rest}
 
--- Fronts and more bytes: what is decided stays so
+-- Fronts and more bytes: a decided front stays
 
 abbrev pub Unchanged : Front → Front → Type 0
 Unchanged NeedMore g = Unit {0}
@@ -86,16 +86,16 @@ open_bytes p b e = ap (λ t. cond t (more_bytes p b) p) e
 
 perform_more : (k : ℕ) (request : Asked) (p : OpenLink) (b : List ℕ) → is_none p.link.closing ≡ true → perform k request (more_bytes p b) ≡ then_bytes (perform k request p) b
 perform_more k request p b e =
-    let q = open_link p.environment (request_counted p.link) in
+    let q = open_link p.environment (count_request p.link) in
     let both : perform k request (more_bytes p b) ≡ more_bytes (perform k request p) b =
     done_both k q (p.link.rest ++ b) (most_asked request) (λ (u v : OpenLink). v ≡ more_bytes u b) refl (λ contexts selections bytes short. refl) (λ d device f there l. refl) (λ d device f bytes short there l. refl) (λ d device deferred there w. refl) request (omega arith) in
     both ∙ sym (open_bytes (perform k request p) b (ap is_none (perform_closing k request p) ∙ e))
 
-requested_more : (k : ℕ) (o : Option Asked) (p : OpenLink) (b : List ℕ) → is_none p.link.closing ≡ true → requested k o (more_bytes p b) ≡ then_bytes (requested k o p) b
+requested_more : (k : ℕ) (o : Option Asked) (p : OpenLink) (b : List ℕ) → is_none p.link.closing ≡ true → make_request k o (more_bytes p b) ≡ then_bytes (make_request k o p) b
 requested_more k None p b e = refl
 requested_more k (Some request) p b e = perform_more k request p b e
 
--- a step that is taken is taken with more bytes too
+-- a step that is taken is taken also with more bytes
 abbrev SameStep : List ℕ → Option OpenLink → Option OpenLink → Type 0
 SameStep b None o = Unit {0}
 SameStep b (Some q) o = o ≡ Some (then_bytes q b)
@@ -108,7 +108,7 @@ frame_more k p b (Frame n) g e w s =
     let t : take n (p.link.rest ++ b) ≡ take n p.link.rest = take-append-le n p.link.rest b within in
     let d : drop n (p.link.rest ++ b) ≡ drop n p.link.rest ++ b = drop-append-le n p.link.rest b within in
     ap (λ x. after_frame k x (more_bytes p b)) s
-    ∙ ap (λ x. Some x) (ap (λ r. requested k (asked_in p.link.order (take n (p.link.rest ++ b))) (with_rest r p)) d ∙ ap (λ x. requested k (asked_in p.link.order x) (with_rest (drop n p.link.rest ++ b) p)) t
+    ∙ ap (λ x. Some x) (ap (λ r. make_request k (asked_in p.link.order (take n (p.link.rest ++ b))) (with_rest r p)) d ∙ ap (λ x. make_request k (asked_in p.link.order x) (with_rest (drop n p.link.rest ++ b) p)) t
     ∙ requested_more k (asked_in p.link.order (take n p.link.rest)) (open_link p.environment (without_front n p.link)) b e)
 
 setup_more : (p : OpenLink) (b : List ℕ) (f g : SetupFront) → is_none p.link.closing ≡ true → IsSetupWithin f (length p.link.rest) → UnchangedSetup f g → SameStep b (after_setup f p) (after_setup g (more_bytes p b))

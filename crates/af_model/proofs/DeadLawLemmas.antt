@@ -1,4 +1,4 @@
--- Devices and lines are dead exactly where a call for them failed.
+-- Devices and lines are dead exactly if a call for them failed.
 use Rattle.std.proofs.Common.{◌≡◌, ℕ, zero, suc, Bool, true, false, List, [], ◌∷◌, ◌++◌, map, slice_get, refl, sym, ◌∙◌, subst, IfSome}
 use Rattle.std.proofs.lemmas.List.Sums.{fold-append}
 use Rattle.std.specs.List.{list_any}
@@ -6,7 +6,7 @@ use Rattle.std.specs.declared.option.Option.{Option}
 use Rattle.std.specs.declared.option.Option.TheVariants.{None, Some}
 use Rattle.af_world.specs.declared.script.DeviceSpec.{DeviceSpec}
 use Rattle.af_world.specs.Log.{Log}
-use Rattle.af_model.specs.State.{DeviceState, State, opening, opening_device, opening_line}
+use Rattle.af_model.specs.State.{DeviceState, State, opening_state, opening_device, opening_line}
 use Rattle.af_model.specs.Turn.{turn}
 use Rattle.af_model.specs.Run.{end_by, end_state, wakes}
 use Rattle.af_model.specs.Dead.{IsDeadWhereFailed, fails_device, fails_line}
@@ -46,8 +46,8 @@ shown d log (Some device) h =
 pub is_dead_where_failed : (config : List DeviceSpec) (log : Log) → IsDeadWhereFailed config log
 unfolding end_state
 is_dead_where_failed config log =
-    elim (end_by (wakes log) (opening config) log) as (λ o. end_by (wakes log) (opening config) log ≡ o → IfSome o (λ s. (d : ℕ) → IfSome (slice_get s.devices d) (λ device.
+    elim (end_by (wakes log) (opening_state config) log) as (λ o. end_by (wakes log) (opening_state config) log ≡ o → IfSome o (λ s. (d : ℕ) → IfSome (slice_get s.devices d) (λ device.
     (device.is_dead ≡ list_any (fails_device d) log) × IfSome device.line (λ line. line.dead ≡ list_any (fails_line d) log)))) [
       | None ↦ λ r. tt
-      | Some e ↦ λ r d. shown d log (slice_get e.devices d) (run_dead (wakes log) d false false (opening config) log e (opening_alive config d) r)
+      | Some e ↦ λ r d. shown d log (slice_get e.devices d) (run_dead (wakes log) d false false (opening_state config) log e (opening_alive config d) r)
     ] refl

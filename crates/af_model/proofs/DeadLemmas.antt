@@ -1,4 +1,4 @@
--- What a log shows of the devices and lines that are dead, and what of it stays.
+-- What a log shows of dead devices and lines, and what of it stays.
 use Rattle.std.proofs.Common.{◌≡◌, ℕ, ◌==◌, ◌||◌, Bool, true, false, List, [], ◌∷◌, ◌++◌, option_map, slice_get, refl, sym, ap, ◌∙◌, subst, eqb-true, IfSome}
 use Rattle.std.proofs.lemmas.List.Sums.{fold-append}
 use Rattle.std.specs.List.{fold, list_any}
@@ -12,7 +12,7 @@ use Rattle.af_model.specs.Dead.{fails_device, fails_line}
 use Rattle.af_model.proofs.BoolTestLemmas.{some_is}
 use Rattle.af_model.proofs.DeviceHistoryLemmas.{AllLive, all_live_back, with_other, with_same}
 
--- whether a happening, or one before it, fails
+-- whether a happening fails, or an earlier one did
 abbrev pub died : (Happening → Bool) → Bool → Happening → Bool
 died fails sofar h = fails h || sofar
 
@@ -49,7 +49,7 @@ none_fails-append p q a b d sofar = (
   fold-append (died (fails_line d)) sofar p q ∙ ap (λ x. died_line d x q) (a d sofar).1 ∙ (b d sofar).1,
 )
 
--- the device at a number is as dead as this, and so is its line
+-- the device at a number is dead or alive like this one, and so is its line
 abbrev pub IsAsDead : Bool → Bool → DeviceState → Type 0
 IsAsDead x y device = (device.is_dead ≡ x) × IfSome device.line (λ line. line.dead ≡ y)
 
@@ -59,7 +59,7 @@ DeadIn d x y devices = (device : DeviceState) → slice_get devices d ≡ Some d
 abbrev pub DeadAs : ℕ → Bool → Bool → State → Type 0
 DeadAs d x y s = DeadIn d x y s.devices
 
--- a line that is as dead as another
+-- a line is dead or alive like another
 line_alike : (a b : Option Phone) (y : Bool) → option_map (λ line. line.dead) b ≡ option_map (λ line. line.dead) a → IfSome a (λ line. line.dead ≡ y) → IfSome b (λ line. line.dead ≡ y)
 line_alike None None y e h = tt
 line_alike None (Some l) y e h = absurd cc

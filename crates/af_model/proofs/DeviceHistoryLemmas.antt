@@ -1,5 +1,5 @@
--- What becomes of devices: what is accepted stays, what is accepted later has a later time, no time falls, a line stays, and nothing dies
--- but where a call failed.
+-- How devices change: what is accepted stays, what is accepted later has a later time, no time falls, a line stays, and nothing
+-- dies unless a call failed.
 use Rattle.std.proofs.Common.{◌≡◌, ℕ, zero, suc, ◌≤◌, ◌==◌, ◌||◌, ◌⊎◌, inl, inr, Bool, true, false, cond, ℤ, List, [], ◌∷◌, ◌++◌, length, is_some, option_map, slice_get, slice_set, refl, sym, ap, ◌∙◌, subst, arith, append_assoc, append-nil}
 use Rattle.std.proofs.lemmas.Bool.{eqb-false}
 use Rattle.std.specs.List.{All, AllZip, list_any}
@@ -9,14 +9,14 @@ use Rattle.std.specs.declared.option.Option.TheVariants.{None, Some}
 use Rattle.af_sample.specs.Heard.{AcceptedPlay}
 use Rattle.af_request.specs.declared.reply.Phone.{Phone}
 use Rattle.af_model.specs.State.{DeviceState, Deferred, deferred_play, deferred_record, with_device, device_set, has_acted, lines_of}
-use Rattle.af_phone.specs.Lines.{wanting}
-use Rattle.af_model.specs.DeviceRequests.{wanting_hook}
-use Rattle.af_model.specs.Play.{accepting}
-use Rattle.af_model.specs.Tick.{completing, later}
+use Rattle.af_phone.specs.Lines.{with_wanted_hook}
+use Rattle.af_model.specs.DeviceRequests.{with_device_hook}
+use Rattle.af_model.specs.Play.{accept_play}
+use Rattle.af_model.specs.Tick.{complete_deferred, device_after}
 use Rattle.af_model.proofs.BoolTestLemmas.{none_some, same_number, some_is}
 use Rattle.af_model.proofs.ListLemmas.{get-set_other, get-set_same}
 
--- each of these was accepted at a time or later
+-- each of these was accepted at this time or later
 abbrev pub AtLeast : ℕ → List AcceptedPlay → Type 0
 AtLeast t entries = All (λ e. t ≤ e.at) entries
 
@@ -32,7 +32,7 @@ pub record Later (d e : DeviceState) : Type 0 where
 none_more : (t : ℕ) → AtLeast t []
 none_more t = All-nil (λ (e : AcceptedPlay). t ≤ e.at)
 
--- who acted on a device goes on to have done so, and so has who does now
+-- who acted on a device stays one of its actors, and so does who acts now
 pub still_acted : (j k : ℕ) (actors : List ℕ) → list_any (λ i. i == j) actors ≡ true → list_any (λ i. i == j) (actors ++ k ∷ []) ≡ true
 still_acted j k [] h = absurd cc
 still_acted j k (i ∷ actors) h =
@@ -56,7 +56,7 @@ line_there : (f : Phone → Phone) (o : Option Phone) → is_some (option_map f 
 line_there f None = refl
 line_there f (Some line) = refl
 
--- a line that becomes another is there where it was
+-- a line that becomes another exists if it did
 pub later_line : (f : Phone → Phone) (d : DeviceState) → Later d (record d { line = option_map f d.line })
 later_line f d = later_same d (record d { line = option_map f d.line }) refl refl (line_there f d.line) (λ j h. h)
 
@@ -71,25 +71,25 @@ later_trans d e f l m = record {
 }
 
 -- a play that is accepted now
-pub later_accepting : (k : ℕ) (d : DeviceState) (entry : AcceptedPlay) → entry.at ≡ d.now → Later d (accepting k entry d)
+pub later_accepting : (k : ℕ) (d : DeviceState) (entry : AcceptedPlay) → entry.at ≡ d.now → Later d (accept_play k entry d)
 later_accepting k d entry at =
     elim (length entry.samples == 0) as (λ b. Later d (record d { accepted = cond b d.accepted (d.accepted ++ entry ∷ []); actors = cond b d.actors (d.actors ++ k ∷ []) })) [
       | true ↦ later_refl d
       | false ↦ record { more = entry ∷ []; accepted = refl; ats = All-cons (λ (x : AcceptedPlay). d.now ≤ x.at) entry [] (omega (arith, at)) (none_more d.now); now = omega arith; line = refl; acted = λ j h. still_acted j k d.actors h }
     ]
 
--- a request that had waited completes
-pub later_completing : (k : ℕ) (d : DeviceState) (deferred : Deferred) → Later d (completing k deferred d)
+-- a deferred request completes
+pub later_completing : (k : ℕ) (d : DeviceState) (deferred : Deferred) → Later d (complete_deferred k deferred d)
 later_completing k d (deferred_play quiet start sound preempt) =
     let l = later_accepting k d (record { start = start; samples = sound; preempt = preempt; at = d.now }) refl in
     record { more = l.more; accepted = l.accepted; ats = l.ats; now = l.now; line = l.line; acted = l.acted }
-later_completing k d (deferred_record c start frames) = later_same d (completing k (deferred_record c start frames) d) refl refl refl (λ j h. h)
+later_completing k d (deferred_record c start frames) = later_same d (complete_deferred k (deferred_record c start frames) d) refl refl refl (λ j h. h)
 
 -- sample periods go by
-pub later_passed : (d : DeviceState) (n : ℕ) (captured : List ℤ) (is_dead : Bool) → Later d (later n captured is_dead d)
+pub later_passed : (d : DeviceState) (n : ℕ) (captured : List ℤ) (is_dead : Bool) → Later d (device_after n captured is_dead d)
 later_passed d n captured is_dead = record { more = []; accepted = sym (append-nil d.accepted); ats = none_more d.now; now = omega arith; line = refl; acted = λ j h. h }
 
--- A device that became later at the same time, with the same rate and channels, and is as dead as it was, as its line is
+-- A device that became later at the same time, with the same rate and channels; it and its line are dead or alive as before
 
 -- whether its line is dead, if it has one
 abbrev pub dead_line : DeviceState → Option Bool
@@ -109,7 +109,7 @@ lives_refl d = record { later = later_refl d; dead = refl; line_dead = refl; now
 lives_trans : (d e f : DeviceState) → Lives d e → Lives e f → Lives d f
 lives_trans d e f l m = record { later = later_trans d e f l.later m.later; dead = m.dead ∙ l.dead; line_dead = m.line_dead ∙ l.line_dead; now = m.now ∙ l.now; rate = m.rate ∙ l.rate; channels = m.channels ∙ l.channels }
 
--- a line that becomes another, as dead as it was
+-- a line that becomes another, dead or alive as before
 pub lives_line : (f : Phone → Phone) (d : DeviceState) → ((line : Phone) → (f line).dead ≡ line.dead) → Lives d (record d { line = option_map f d.line })
 lives_line f d alike = record { later = later_line f d; dead = refl; line_dead = mapped d.line; now = refl; rate = refl; channels = refl }
   where
@@ -118,23 +118,23 @@ lives_line f d alike = record { later = later_line f d; dead = refl; line_dead =
     mapped (Some line) = ap (λ b. Some b) (alike line)
 
 -- a hook is wanted
-pub lives_wanting : (k : ℕ) (off : Bool) (d : DeviceState) → Lives d (wanting_hook k off d)
+pub lives_wanting : (k : ℕ) (off : Bool) (d : DeviceState) → Lives d (with_device_hook k off d)
 lives_wanting k off d =
-    let line = lives_line (wanting off) d (λ line. refl) in
-    record { later = later_same d (wanting_hook k off d) refl refl (line_there (wanting off) d.line) (λ j h. still_acted j k d.actors h); dead = refl; line_dead = line.line_dead; now = refl; rate = refl; channels = refl }
+    let line = lives_line (with_wanted_hook off) d (λ line. refl) in
+    record { later = later_same d (with_device_hook k off d) refl refl (line_there (with_wanted_hook off) d.line) (λ j h. still_acted j k d.actors h); dead = refl; line_dead = line.line_dead; now = refl; rate = refl; channels = refl }
 
-pub lives_accepting : (k : ℕ) (d : DeviceState) (entry : AcceptedPlay) → entry.at ≡ d.now → Lives d (accepting k entry d)
+pub lives_accepting : (k : ℕ) (d : DeviceState) (entry : AcceptedPlay) → entry.at ≡ d.now → Lives d (accept_play k entry d)
 lives_accepting k d entry at = record { later = later_accepting k d entry at; dead = refl; line_dead = refl; now = refl; rate = refl; channels = refl }
 
-pub lives_completing : (k : ℕ) (d : DeviceState) (deferred : Deferred) → Lives d (completing k deferred d)
+pub lives_completing : (k : ℕ) (d : DeviceState) (deferred : Deferred) → Lives d (complete_deferred k deferred d)
 lives_completing k d deferred = record { later = later_completing k d deferred; dead = refl; line_dead = refl; now = refl; rate = refl; channels = refl }
 
--- what a request makes of a device
+-- a change by a request
 -- link k leaves a device as it is, or acts on it
 abbrev pub Acts : ℕ → DeviceState → DeviceState → Type 0
 Acts k d e = (e ≡ d) ⊎ (has_acted k e ≡ true)
 
-pub acts_accepting : (k : ℕ) (d : DeviceState) (entry : AcceptedPlay) → Acts k d (accepting k entry d)
+pub acts_accepting : (k : ℕ) (d : DeviceState) (entry : AcceptedPlay) → Acts k d (accept_play k entry d)
 acts_accepting k d entry =
     elim (length entry.samples == 0) as (λ b. Acts k d (record d { accepted = cond b d.accepted (d.accepted ++ entry ∷ []); actors = cond b d.actors (d.actors ++ k ∷ []) })) [
       | true ↦ inl refl
@@ -149,14 +149,14 @@ pub record Requested (k : ℕ) (d e : DeviceState) : Type 0 where
 -- All devices
 
 module _ (R : DeviceState → DeviceState → Type 0) where
-  -- what became of a device that was there
+  -- what became of an earlier device
   zip_get : (ds es : List DeviceState) (i : ℕ) (d : DeviceState) → AllZip R ds es → slice_get ds i ≡ Some d → (e : DeviceState) × (slice_get es i ≡ Some e) × R d e
   zip_get [] es i d l there = absurd cc
   zip_get (x ∷ ds) [] i d l there = absurd l
   zip_get (x ∷ ds) (y ∷ es) zero d l there = let same : x ≡ d = cc in (y, refl, subst (λ u. R u y) same l.0)
   zip_get (x ∷ ds) (y ∷ es) (suc i) d l there = zip_get ds es i d l.1 there
 
-  -- a device was there before
+  -- a device existed before
   pub zip_back : (ds es : List DeviceState) (i : ℕ) (e : DeviceState) → AllZip R ds es → slice_get es i ≡ Some e → (d : DeviceState) × (slice_get ds i ≡ Some d) × R d e
   zip_back [] [] i e l there = absurd cc
   zip_back [] (y ∷ es) i e l there = absurd l

@@ -1,4 +1,4 @@
--- What a request is like that begins to wait: it is due later than its device's time, and it has not more samples than it may.
+-- A request that is deferred now: it is due later than its device's time, and it has at most the samples that it may have.
 use Rattle.std.proofs.Common.{◌≡◌, ℕ, ◌+◌, ◌*◌, ◌-◌, ◌/◌, ◌<◌, ◌≤◌, Bool, true, false, not, List, [], ◌∷◌, length, nat_le, nat_lt, refl, sym, ap, ◌∙◌, arith}
 use Rattle.std.proofs.lemmas.List.{length-map}
 use Rattle.std.proofs.Math.Nat.{div-le_self, div-mul-le_self, div-div-eq-div-mul}
@@ -16,17 +16,17 @@ use Rattle.af_model.specs.declared.refusal.RefusalCause.TheVariants.{BadValue}
 use Rattle.af_model.specs.State.{DeviceState, Deferred, deferred_play, deferred_record}
 use Rattle.af_model.specs.Reply.{horizon_of}
 use Rattle.af_model.specs.Checks.{check, first_refusal}
-use Rattle.af_model.specs.Waiting.{due}
+use Rattle.af_model.specs.Waiting.{due_time}
 use Rattle.af_model.specs.Play.{are_frames, frames_of, frames_within_horizon, sent_sound}
 use Rattle.af_model.specs.Record.{frames_before_now, is_to_wait, record_refusal}
 use Rattle.af_model.proofs.BoolTestLemmas.{both-true, none_some}
 
--- how many samples a play has that waits, and how many frames a record
+-- how many samples a deferred play has, and how many frames a deferred record
 abbrev pub frames_deferred : Deferred → ℕ
 frames_deferred (deferred_play quiet start sound preempt) = length sound
 frames_deferred (deferred_record c start frames) = frames
 
--- how many it may have, of those that can wait: a play no more than its bytes, a record no more than the bytes of its reply
+-- how many it may have, for each request that can be deferred: a play at most its bytes, a record at most the bytes of its reply
 abbrev pub most_asked : Asked → ℕ
 most_asked (play_run quiet ac start bytes) = length bytes
 most_asked (record_run blocking ac start bytes) = longest_record
@@ -38,7 +38,7 @@ answer_size channels (deferred_play quiet start sound preempt) = 0
 answer_size channels (deferred_record c start frames) = frames * frame_bytes c.ty channels
 
 pub record IsToWait (most : ℕ) (device : DeviceState) (deferred : Deferred) : Type 0 where
-  pub later : device.now < due device.channels (horizon_of device) deferred
+  pub later : device.now < due_time device.channels (horizon_of device) deferred
   pub short : frames_deferred deferred ≤ most
   pub answered : answer_size device.channels deferred ≤ longest_record
 
@@ -54,7 +54,7 @@ sent_frames channels c bytes =
     ap (λ n. n / channels) (length-map (samples c.ty bytes) (λ x. gained x c.play_gain) ∙ length-map-range_with_len (λ i. decoded c.ty (piece c.ty bytes i)) 0 (length bytes / width_of c.ty))
     ∙ div-div-eq-div-mul (length bytes) (width_of c.ty) channels
 
--- no more samples than bytes
+-- at most as many samples as bytes
 sent_few : (c : Context) (bytes : List ℕ) → length (sent_sound c bytes) ≤ length bytes
 unfolding samples
 sent_few c bytes =

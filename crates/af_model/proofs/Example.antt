@@ -1,10 +1,11 @@
--- Small runs, computed: link 0 sets up and switches the output off, and then a tick hands silence out, or the link is slow and fails.
+-- Small runs, computed: link 0 sets up and switches the output off, and then a tick hands silence out, or the link is slow and
+-- fails.
 use Rattle.std.proofs.Common.{◌≡◌, ℕ, true, false, List, [], ◌∷◌, ◌++◌, is_some, refl, pos}
 use Rattle.std.specs.List.{list_any}
 use Rattle.std.specs.declared.option.Option.{Option}
 use Rattle.std.specs.declared.option.Option.TheVariants.{None, Some}
 use Rattle.af_sample.specs.declared.sample_type.SampleType.TheVariants.{Lin16}
-use Rattle.af_sample.specs.Heard.{AcceptedPlay, heard}
+use Rattle.af_sample.specs.Heard.{AcceptedPlay, heard_sample}
 use Rattle.af_wire.specs.Message.{head}
 use Rattle.af_world.specs.declared.happening.Happening.TheVariants.{Woke, Read, Wrote, Closed, Captured, Emitted}
 use Rattle.af_world.specs.declared.happening.ReadGot.TheVariants.{Given, NotYet}
@@ -13,7 +14,7 @@ use Rattle.af_world.specs.declared.happening.Why.{Why}
 use Rattle.af_world.specs.declared.happening.Why.TheVariants as why
 use Rattle.af_world.specs.declared.script.DeviceSpec.{DeviceSpec}
 use Rattle.af_world.specs.Log.{Log}
-use Rattle.af_model.specs.State.{OpenLink, State, opened, open_link, slot_at}
+use Rattle.af_model.specs.State.{OpenLink, State, new_link_state, open_link, slot_at}
 use Rattle.af_wire.specs.declared.order.Order.TheVariants.{Big}
 use Rattle.af_model.specs.Reply.{reply_message}
 use Rattle.af_model.specs.DeviceRequests.{controls_refusal}
@@ -40,7 +41,7 @@ setup_reply = 1 ∷ 0 ∷ 0 ∷ 0 ∷ 0 ∷ 0 ∷ 0 ∷ 5 ∷ 0 ∷ 1 ∷ 0 ∷ 
 abbrev reply : List ℕ
 reply = 1 ∷ 9 ∷ 0 ∷ 1 ∷ 0 ∷ 0 ∷ 0 ∷ 0 ∷ []
 
--- behind the setup and the request, the link takes all that is offered
+-- after the setup and the request, the link takes all that is offered
 abbrev asked : Log
 asked = Woke (Opened 0) ∷ Woke (Readable 0) ∷ Read 0 (Given sent) ∷ []
 
@@ -60,7 +61,7 @@ no_run : is_some (end_state config (small (0 ∷ 0 ∷ 0 ∷ 1 ∷ []))) ≡ fal
 unfolding end_state turn wake_phase serve_from serve_link read_phase close_phase hook_from advance complete_due reply_message head controls_refusal
 no_run = refl
 
--- what was taken is all that was said
+-- what was taken is all that was queued
 took : taken 0 begin ≡ setup_reply ++ reply
 took = refl
 
@@ -77,7 +78,7 @@ begun_anew : taken 0 (begin ++ Woke (Opened 0) ∷ []) ≡ []
 begun_anew = refl
 
 -- A slow link takes the first bytes, and is offered the rest once it may take some again. Then a write fails, and it is closed:
--- what was said stays, and what it took begins it.
+-- what was queued stays on record, and what it took is a prefix of it.
 abbrev slow : List ℕ → List ℕ → Log
 slow first left = asked ++ Wrote 0 36 (Some first) ∷ Woke Idle ∷ Read 0 NotYet ∷ Woke (Writable 0) ∷ Wrote 0 8 (Some left) ∷ Woke (Writable 0) ∷ Wrote 0 6 None ∷ Closed 0 why.LinkFault ∷ []
 
@@ -101,7 +102,7 @@ slow_other = refl
 slow_cause : ((history 0 (slow setup_reply (1 ∷ 9 ∷ []))).closed ≡ Some why.LinkFault) × IsCause why.LinkFault (history 0 (slow setup_reply (1 ∷ 9 ∷ []))) 6
 slow_cause = (refl, refl)
 
--- behind its setup and its request a link sends a length of 0
+-- after its setup and its request a link sends a length of 0
 abbrev malformed : Why → Log
 malformed cause = Woke (Opened 0) ∷ Woke (Readable 0) ∷ Read 0 (Given (sent ++ 9 ∷ 0 ∷ 0 ∷ 0 ∷ [])) ∷ Wrote 0 36 (Some (setup_reply ++ reply)) ∷ Closed 0 cause ∷ []
 
@@ -117,7 +118,7 @@ malformed_other = refl
 malformed_cause : IsCause why.Malformed (history 0 (malformed why.Malformed)) 0
 malformed_cause = (record { failed = refl; ended = refl; all_taken = refl }, Big, 9 ∷ 0 ∷ 0 ∷ 0 ∷ [], record { setup = refl; sizes = 12 ∷ []; requests = (refl, refl, refl) }, refl)
 
--- a device is dead behind an emit that failed, and makes no call in the next tick
+-- a device is dead after an emit that failed, and makes no call in the next tick
 abbrev failing : Log
 failing = begin ++ Woke (Ticked 0 2) ∷ Captured 0 2 (Some (0 ∷ 9 ∷ 0 ∷ 9 ∷ [])) ∷ Emitted 0 (0 ∷ 0 ∷ 0 ∷ 0 ∷ []) false ∷ Read 0 NotYet ∷ Woke (Ticked 0 1) ∷ []
 
@@ -128,12 +129,13 @@ failing_run = refl
 failing_dead : list_any (fails_device 0) failing ≡ true
 failing_dead = refl
 
--- Without the case of a closing link, cutting would change what is unread: a malformed front closes, and a byte comes behind it.
+-- If the case of a closing link were missing, cutting would change what is unread: a malformed front closes, and a byte comes
+-- after it.
 abbrev comes : List ℕ → OpenLink → OpenLink
 comes bytes p = advance 0 (open_link p.environment (record p.link { rest = p.link.rest ++ bytes }))
 
 abbrev set_up : OpenLink
-set_up = open_link (record { devices = []; waiting = []; said = [] }) (record opened { is_set_up = true })
+set_up = open_link (record { devices = []; waiting = []; said = [] }) (record new_link_state { is_set_up = true })
 
 cut_leaves : (comes (5 ∷ []) (comes (9 ∷ 0 ∷ 0 ∷ 0 ∷ []) set_up)).link.rest ≡ 5 ∷ []
 unfolding advance
@@ -147,14 +149,14 @@ cut_absorbs : (absorb 0 (5 ∷ []) (absorb 0 (9 ∷ 0 ∷ 0 ∷ 0 ∷ []) set_up
 unfolding advance
 cut_absorbs = refl
 
--- a play that is accepted behind a time changes nothing of it, and one that is accepted by then is mixed in
+-- a play that is accepted after a time changes nothing of it, and one that is accepted by then is mixed in
 abbrev plays : ℕ → AcceptedPlay
 plays at = record { start = 0; samples = pos 7 ∷ pos 7 ∷ []; preempt = false; at = at }
 
-later_unheard : heard 1 (plays 0 ∷ plays 2 ∷ []) 1 0 ≡ pos 7
-unfolding heard
+later_unheard : heard_sample 1 (plays 0 ∷ plays 2 ∷ []) 1 0 ≡ pos 7
+unfolding heard_sample
 later_unheard = refl
 
-earlier_heard : heard 1 (plays 0 ∷ plays 1 ∷ []) 1 0 ≡ pos 14
-unfolding heard
+earlier_heard : heard_sample 1 (plays 0 ∷ plays 1 ∷ []) 1 0 ≡ pos 14
+unfolding heard_sample
 earlier_heard = refl

@@ -1,18 +1,18 @@
--- What is accepted after a sound was handed out changes nothing of it.
+-- What is accepted after a sound was handed out does not change it.
 use Rattle.std.proofs.Common.{◌≡◌, ℕ, zero, suc, ◌+◌, ◌*◌, ◌/◌, ◌%◌, ◌≤◌, ◌<◌, ◌⊎◌, inl, inr, Bool, true, false, List, [], ◌∷◌, ◌++◌, slice_get, refl, sym, ap, ◌∙◌, subst, arith, append_assoc, IfSome, IsSomeAnd}
 use Rattle.std.proofs.lemmas.List.Elements.{All-weaker}
 use Rattle.std.proofs.Math.Nat.{div-lt_iff_lt-mul, mul_comm}
 use Rattle.std.specs.declared.option.Option.TheVariants.{None, Some}
-use Rattle.af_sample.specs.Heard.{AcceptedPlay, heard, heard_from}
+use Rattle.af_sample.specs.Heard.{AcceptedPlay, heard_sample, heard_from}
 use Rattle.af_sample.specs.Samples.{bytes_of}
-use Rattle.af_sample.proofs.HeardLemmas.{heard-append}
+use Rattle.af_sample.proofs.HeardLemmas.{heard_sample-append}
 use Rattle.af_world.specs.declared.happening.Happening.{Happening}
 use Rattle.af_world.specs.declared.happening.Happening.TheVariants.{Woke, Read, Wrote, Closed, Captured, Emitted, Hooked}
 use Rattle.af_world.specs.declared.happening.Wake.{Wake}
 use Rattle.af_world.specs.declared.happening.Wake.TheVariants.{Ticked}
 use Rattle.af_world.specs.declared.script.DeviceSpec.{DeviceSpec}
 use Rattle.af_world.specs.Log.{Log}
-use Rattle.af_model.specs.State.{State, opening}
+use Rattle.af_model.specs.State.{State, opening_state}
 use Rattle.af_model.specs.Controls.{through_output_control}
 use Rattle.af_model.specs.Turn.{turn}
 use Rattle.af_model.specs.Run.{end_by, end_state, then_end, wakes}
@@ -33,10 +33,10 @@ frame_within (suc more) n j low = (div-lt_iff_lt-mul {k = suc more} {x = j} {y =
 
 heard_range : (channels : ℕ) (accepted more : List AcceptedPlay) (u t n : ℕ) → t + n ≤ u → AtLeast u more → heard_from channels (accepted ++ more) t n ≡ heard_from channels accepted t n
 heard_range channels accepted more u t n le ats =
-    map-range_alike (λ j. heard channels (accepted ++ more) (t + j / channels) (j % channels)) (λ j. heard channels accepted (t + j / channels) (j % channels)) 0 (channels * n)
+    map-range_alike (λ j. heard_sample channels (accepted ++ more) (t + j / channels) (j % channels)) (λ j. heard_sample channels accepted (t + j / channels) (j % channels)) 0 (channels * n)
     (λ j from to.
     let frame : j / channels < n = frame_within channels n j (omega (arith, to)) in
-    heard-append channels accepted more (t + j / channels) (j % channels)
+    heard_sample-append channels accepted more (t + j / channels) (j % channels)
     (All-weaker (λ (e : AcceptedPlay). u ≤ e.at) (λ (e : AcceptedPlay). t + j / channels < e.at) (λ e h. omega (arith, h, le, frame)) more ats))
 
 -- what was handed out is the mix of all that was accepted since
@@ -62,7 +62,7 @@ run_later (suc n) s log e r =
     let a = turned s log i.0 i.1 in
     laters_trans s.devices i.0.state.devices e.devices a.holds.goes.devices (run_later n i.0.state i.0.log e i.2)
 
--- Where an emit stands
+-- The place of an emit
 
 inner_wakes : (log : Log) → inner log ≡ true → wakes log ≡ 0
 inner_wakes [] e = refl
@@ -74,7 +74,7 @@ inner_wakes (Captured d n got ∷ log) e = inner_wakes log e
 inner_wakes (Emitted d out done ∷ log) e = absurd cc
 inner_wakes (Hooked d off done ∷ log) e = inner_wakes log e
 
--- an emit stands behind a part
+-- an emit comes after a part
 record Past (part log front : Log) (emit : Happening) (rest : Log) : Type 0 where
   behind : Log
   is : front ≡ part ++ behind
@@ -107,7 +107,7 @@ module _ (s t : State) (log rest : Log) (d : ℕ) (sent : List ℕ) (done : Bool
   abbrev emit : Happening
   emit = Emitted d sent done
 
-  -- behind what was handed out
+  -- after what was handed out
   past_hands : (w : Wake) (first second front : Log) → Hands s w first t → inner second ≡ true → (first ++ second) ++ log ≡ front ++ emit ∷ rest → Past (Woke w ∷ (first ++ second)) log (Woke w ∷ front) emit rest ⊎ InTurn s t (Woke w ∷ front) d sent
   past_hands w first second [] h inside e = absurd (no_capture (sym (ap (λ l. (l ++ second) ++ log) h.is) ∙ e))
     where
@@ -149,7 +149,7 @@ module _ (s t : State) (log rest : Log) (d : ℕ) (sent : List ℕ) (done : Bool
       let tails : (first ++ second) ++ log ≡ front ++ emit ∷ rest = cc in
       subst (λ z. Past (Woke w ∷ (first ++ second)) log (z ∷ front) emit rest ⊎ InTurn s t (z ∷ front) d sent) (sym wake) (past_hands w first second front h inside tails)
 
--- Where an emit stands in a run
+-- The place of an emit in a run
 record Found (s e : State) (front : Log) (d : ℕ) (sent : List ℕ) : Type 0 where
   before : Log
   mid : State
@@ -204,10 +204,10 @@ found_by (suc n) s e log front rest d sent done r is =
 pub mixes_all : (config : List DeviceSpec) (log : Log) → MixesAll config log
 unfolding end_state
 mixes_all config log =
-    elim (end_by (wakes log) (opening config) log) as (λ o. end_by (wakes log) (opening config) log ≡ o → IfSome o (λ end. (front rest : Log) (d : ℕ) (sent : List ℕ) (done : Bool) → log ≡ front ++ Emitted d sent done ∷ rest → IsMixOfAll config front d sent end)) [
+    elim (end_by (wakes log) (opening_state config) log) as (λ o. end_by (wakes log) (opening_state config) log ≡ o → IfSome o (λ end. (front rest : Log) (d : ℕ) (sent : List ℕ) (done : Bool) → log ≡ front ++ Emitted d sent done ∷ rest → IsMixOfAll config front d sent end)) [
       | None ↦ λ r. tt
       | Some e ↦ λ r front rest d sent done is.
-          let f = found_by (wakes log) (opening config) e log front rest d sent done r is in
+          let f = found_by (wakes log) (opening_state config) e log front rest d sent done r is in
           record {
             before = f.before;
             frames = f.frames;

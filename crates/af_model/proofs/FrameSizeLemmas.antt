@@ -1,4 +1,4 @@
--- How long a frame is at most, and so what it asks.
+-- How long a frame is at most, and so what it asks for.
 use Rattle.std.proofs.Common.{◌≡◌, ℕ, ◌+◌, ◌-◌, ◌*◌, ◌≤◌, ◌==◌, Bool, true, false, cond, List, [], ◌∷◌, length, take, drop, slice_range, option_and_then, subst, arith}
 use Rattle.std.proofs.lemmas.List.{length-drop, length-take}
 use Rattle.std.specs.declared.option.Option.{Option}
@@ -27,7 +27,7 @@ frame_at_most order (a ∷ b ∷ []) = tt
 frame_at_most order (a ∷ b ∷ c ∷ []) = tt
 frame_at_most order (a ∷ b ∷ c ∷ d ∷ xs) = grind arith
 
--- what the row of an opcode asks
+-- what the row of an opcode asks for
 abbrev AsksFew : Option Row → Type 0
 AsksFew None = Unit {0}
 AsksFew (Some r) = most_asked r.asked ≤ longest_frame

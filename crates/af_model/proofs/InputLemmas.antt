@@ -13,13 +13,13 @@ use Rattle.af_model.specs.Causes.{AreRequests, IsServedTo, is_malformed}
 use Rattle.af_model.proofs.AdvanceLemmas.{frame_within, setup_within}
 use Rattle.af_model.proofs.CuttingLawLemmas.{Unchanged, UnchangedSetup, frame_stays, setup_stays}
 
--- Of the bytes that a link gave the rest is unread: all of them until it is set up, and then those behind its setup of an order and its
--- requests in it.
+-- The rest of the bytes that a link gave is unread: all of them until it is set up, and then those after its setup and its
+-- requests in that byte order.
 abbrev pub IsInput : Bool → Order → List ℕ → List ℕ → Type 0
 IsInput false order gave rest = rest ≡ gave
 IsInput true order gave rest = IsServedTo order gave rest
 
--- what stands at the front of a link's input, for which it is closed
+-- what is at the front of a link's input, and closes it
 abbrev pub IsBadInput : Why → LinkState → Type 0
 IsBadInput why.BadSetup l = (l.is_set_up ≡ false) × (order : Order) × (value : ℕ) × (setup_front l.rest ≡ front.BadSetup order value)
 IsBadInput why.Malformed l = (l.is_set_up ≡ true) × (is_malformed l.order (frame_front l.order l.rest) l.rest ≡ true)

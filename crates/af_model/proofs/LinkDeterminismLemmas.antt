@@ -1,4 +1,4 @@
--- Links are served alike: what is read of a link, written to it and closed of it is determined by what the outside states.
+-- Links are served alike: what the outside states determines the reads, the writes and the close of a link.
 use Rattle.std.proofs.Common.{◌≡◌, ℕ, zero, suc, ◌+◌, Bool, true, false, not, cond, ◌&&◌, ◌==◌, List, [], ◌∷◌, length, take, drop, option_map, slice_set, is_some, refl, sym, ap, ◌∙◌, subst, eqb-true}
 use Rattle.std.specs.declared.option.Option.{Option}
 use Rattle.std.specs.declared.option.Option.TheVariants.{None, Some}
@@ -10,10 +10,10 @@ use Rattle.af_world.specs.declared.happening.ReadGot.TheVariants.{Given, NotYet,
 use Rattle.af_world.specs.declared.happening.Why.{Why}
 use Rattle.af_world.specs.declared.script.Step.{Step}
 use Rattle.af_world.specs.Log.{Log}
-use Rattle.af_world.specs.Outside.{Outside, ScriptedClient, answered_as_stated, client_answered, read_from, given_from, failed_from, written_to, room_taken_of, fresh_client, client_at, with_client, same_bytes}
+use Rattle.af_world.specs.Outside.{Outside, ScriptedClient, outside_after_happening, client_after_call, client_after_read, client_after_give, client_after_fault, client_after_write, room_taken_of, fresh_client, client_at, with_client, same_bytes}
 use Rattle.af_model.specs.State.{State, EnvironmentState, OpenLink, SlotLink, LinkState, link_in_slot, slot_link_at, with_slot_link, open_link}
 use Rattle.af_model.specs.Waiting.{has_deferral}
-use Rattle.af_model.specs.Turn.{Parsed, accept, parse_then, and_then, parse_one, wants_read, is_read, read_by, read_phase, after_read, wants_write, write_by, write_offered, write_taken, write_phase, after_write, same_why, close_due, close_by, close_for, close_phase, serve_link, serve_open, serve_slot_link, serve_at, serve_from, serve_all}
+use Rattle.af_model.specs.Turn.{Parsed, accept, parse_then, and_then, parse_one, wants_read, is_read, read_by, read_phase, after_read, wants_write, write_by, after_bytes_offered, after_bytes_taken, write_phase, after_write, same_why, close_due, close_by, close_for, close_phase, serve_link, serve_open, serve_slot_link, serve_at, serve_from, serve_all}
 use Rattle.af_model.specs.Script.{AnswersTo}
 use Rattle.af_model.proofs.BoolTestLemmas.{cond-some, cond-true, both-true, not_true, none_some, same_bytes-true, same_why-true}
 use Rattle.af_model.proofs.AlikeLemmas.{GoesAlike, Agreed, TakesOne, headed, go_inv, alike_then, alike_one, alike_nothing}
@@ -21,12 +21,12 @@ use Rattle.af_model.proofs.OpenLinkLemmas.{opens, open_links, Agree, AtPlace, St
 
 -- Calls on a link
 
--- the client that a call is answered by
+-- the client that answers a call
 abbrev client_or : Option ScriptedClient → ScriptedClient
 client_or None = fresh_client
 client_or (Some client) = client
 
--- a call that was answered: by the client, and the links stay as open as they are
+-- an answered call: the client answered, and the links stay as open as they are
 record Called (o o' : Outside) (k : ℕ) (call : ScriptedClient → Option ScriptedClient) : Type 0 where
   after : ScriptedClient
   is : call (client_or (client_at o k)) ≡ Some after
@@ -37,7 +37,7 @@ record CalledBy (call : ScriptedClient → Option ScriptedClient) (client client
   is : call (client_or client) ≡ Some after
   stays : is_some client' ≡ is_some client
 
-called_by : (call : ScriptedClient → Option ScriptedClient) (client client' : Option ScriptedClient) → client_answered call client ≡ Some client' → CalledBy call client client'
+called_by : (call : ScriptedClient → Option ScriptedClient) (client client' : Option ScriptedClient) → client_after_call call client ≡ Some client' → CalledBy call client client'
 called_by call None client' e =
     elim (call fresh_client) as (λ x. call fresh_client ≡ x → option_map (λ (q : ScriptedClient). (let none : Option ScriptedClient = None in none)) x ≡ Some client' → CalledBy call None client') [
       | None ↦ λ i e. absurd (none_some e)
@@ -49,9 +49,9 @@ called_by call (Some client) client' e =
       | Some q ↦ λ i e. let same : Some q ≡ client' = cc in record { after = q; is = i; stays = ap is_some (sym same) }
     ] refl e
 
-called : (o o' : Outside) (k : ℕ) (call : ScriptedClient → Option ScriptedClient) → option_map (with_client o k) (client_answered call (client_at o k)) ≡ Some o' → Called o o' k call
+called : (o o' : Outside) (k : ℕ) (call : ScriptedClient → Option ScriptedClient) → option_map (with_client o k) (client_after_call call (client_at o k)) ≡ Some o' → Called o o' k call
 called o o' k call e =
-    elim (client_answered call (client_at o k)) as (λ x. client_answered call (client_at o k) ≡ x → option_map (with_client o k) x ≡ Some o' → Called o o' k call) [
+    elim (client_after_call call (client_at o k)) as (λ x. client_after_call call (client_at o k) ≡ x → option_map (with_client o k) x ≡ Some o' → Called o o' k call) [
       | None ↦ λ i e. absurd (none_some e)
       | Some client' ↦ λ i e.
           let c = called_by call (client_at o k) client' i in
@@ -70,13 +70,13 @@ expected_given (x ∷ xs) client = Given (take longest_read (x ∷ xs))
 expected : ScriptedClient → ReadGot
 expected client = cond client.fails_read Failed (expected_given client.gives client)
 
-failed_is : (got : ReadGot) (client q : ScriptedClient) → failed_from got client ≡ Some q → got ≡ Failed
+failed_is : (got : ReadGot) (client q : ScriptedClient) → client_after_fault got client ≡ Some q → got ≡ Failed
 failed_is (Given bytes) client q e = absurd (none_some e)
 failed_is NotYet client q e = absurd (none_some e)
 failed_is Ended client q e = absurd (none_some e)
 failed_is Failed client q e = refl
 
-given_is : (got : ReadGot) (xs : List ℕ) (client q : ScriptedClient) → given_from got xs client ≡ Some q → got ≡ expected_given xs client
+given_is : (got : ReadGot) (xs : List ℕ) (client q : ScriptedClient) → client_after_give got xs client ≡ Some q → got ≡ expected_given xs client
 unfolding expected_given
 given_is (Given bytes) [] client q e = absurd (none_some e)
 given_is (Given bytes) (x ∷ xs) client q e = ap Given (same_bytes-true bytes (take longest_read (x ∷ xs)) (cond-some (same_bytes bytes (take longest_read (x ∷ xs))) (Some (record client { gives = drop longest_read (x ∷ xs) })) q e).0)
@@ -86,10 +86,10 @@ given_is Ended [] client q e = elim client.ends as (λ b. cond b (Some client) N
 given_is Ended (x ∷ xs) client q e = absurd (none_some e)
 given_is Failed xs client q e = absurd (none_some e)
 
-read_is : (got : ReadGot) (client q : ScriptedClient) → read_from got client ≡ Some q → got ≡ expected client
+read_is : (got : ReadGot) (client q : ScriptedClient) → client_after_read got client ≡ Some q → got ≡ expected client
 unfolding expected
 read_is got client q e =
-    elim client.fails_read as (λ b. cond b (failed_from got client) (given_from got client.gives client) ≡ Some q → got ≡ cond b Failed (expected_given client.gives client)) [
+    elim client.fails_read as (λ b. cond b (client_after_fault got client) (client_after_give got client.gives client) ≡ Some q → got ≡ cond b Failed (expected_given client.gives client)) [
       | true ↦ λ e. failed_is got client q e
       | false ↦ λ e. given_is got client.gives client q e
     ] e
@@ -105,8 +105,8 @@ read_one w k p o (Emitted d sound done) t e = absurd (none_some e)
 read_one w k p o (Read j got) t e =
     let i = cond-some (j == k && is_read got) (Some (after_read k got p)) t e in
     let n : j ≡ k = eqb-true j k (both-true (j == k) (is_read got) i.0).0 in
-    let here : (o' : Outside) → answered_as_stated o (Read j got) ≡ Some o' → Called o o' k (read_from got) =
-    λ o' a. called o o' k (read_from got) (subst (λ m. option_map (with_client o m) (client_answered (read_from got) (client_at o m)) ≡ Some o') n a) in
+    let here : (o' : Outside) → outside_after_happening o (Read j got) ≡ Some o' → Called o o' k (client_after_read got) =
+    λ o' a. called o o' k (client_after_read got) (subst (λ m. option_map (with_client o m) (client_after_call (client_after_read got) (client_at o m)) ≡ Some o') n a) in
     record {
       quiet = refl;
       is = λ o' a. ap (λ m. Read m got) n ∙ ap (Read k) (read_is got (client_or (client_at o k)) (here o' a).after (here o' a).is);
@@ -127,12 +127,12 @@ read_alike w k steps p o log1 log2 b1 b2 e1 e2 at f1 f2 r1 r2 =
 expected_write : ScriptedClient → List ℕ → Option (List ℕ)
 expected_write client pending = cond client.fails_write None (Some (take (room_taken_of (length pending) client.takes) pending))
 
--- what was taken are the first bytes
+-- the first bytes were taken
 abbrev AreFirst : Option (List ℕ) → List ℕ → Type 0
 AreFirst None pending = Unit {0}
 AreFirst (Some bytes) pending = bytes ≡ take (length bytes) pending
 
-write_is : (took : Option (List ℕ)) (pending : List ℕ) (client q : ScriptedClient) → written_to (length pending) took client ≡ Some q → AreFirst took pending → took ≡ expected_write client pending
+write_is : (took : Option (List ℕ)) (pending : List ℕ) (client q : ScriptedClient) → client_after_write (length pending) took client ≡ Some q → AreFirst took pending → took ≡ expected_write client pending
 unfolding expected_write
 write_is None pending client q e first =
     ap (λ b. cond b None (Some (take (room_taken_of (length pending) client.takes) pending))) (sym (cond-some client.fails_write (Some (record client { fails_write = false })) q e).0)
@@ -142,7 +142,7 @@ write_is (Some bytes) pending client q e first =
     ap (λ x. Some x) (first ∙ ap (λ n. take n pending) (eqb-true (length bytes) room v.1))
     ∙ ap (λ b. cond b None (Some (take room pending))) (sym (not_true client.fails_write v.0))
 
-taken_first : (k : ℕ) (took : Option (List ℕ)) (p t : OpenLink) → write_taken k took p ≡ Some t → AreFirst took p.link.pending
+taken_first : (k : ℕ) (took : Option (List ℕ)) (p t : OpenLink) → after_bytes_taken k took p ≡ Some t → AreFirst took p.link.pending
 taken_first k None p t e = tt
 taken_first k (Some bytes) p t e =
     same_bytes-true bytes (take (length bytes) p.link.pending) (cond-some (same_bytes bytes (take (length bytes) p.link.pending)) (Some (after_write k bytes p)) t e).0
@@ -157,14 +157,14 @@ write_one w k p o (Captured d n got) t e = absurd (none_some e)
 write_one w k p o (Emitted d sound done) t e = absurd (none_some e)
 write_one w k p o (Wrote j offered took) t e =
     let pending = p.link.pending in
-    let i = cond-some (j == k) (write_offered k offered took p) t e in
+    let i = cond-some (j == k) (after_bytes_offered k offered took p) t e in
     let n : j ≡ k = eqb-true j k i.0 in
-    let v = cond-some (offered == length pending) (write_taken k took p) t i.1 in
+    let v = cond-some (offered == length pending) (after_bytes_taken k took p) t i.1 in
     let all : offered ≡ length pending = eqb-true offered (length pending) v.0 in
-    let here : (o' : Outside) → answered_as_stated o (Wrote j offered took) ≡ Some o' → Called o o' k (written_to (length pending) took) =
-    λ o' a. called o o' k (written_to (length pending) took)
-    (subst (λ m. option_map (with_client o k) (client_answered (written_to m took) (client_at o k)) ≡ Some o') all
-    (subst (λ m. option_map (with_client o m) (client_answered (written_to offered took) (client_at o m)) ≡ Some o') n a)) in
+    let here : (o' : Outside) → outside_after_happening o (Wrote j offered took) ≡ Some o' → Called o o' k (client_after_write (length pending) took) =
+    λ o' a. called o o' k (client_after_write (length pending) took)
+    (subst (λ m. option_map (with_client o k) (client_after_call (client_after_write m took) (client_at o k)) ≡ Some o') all
+    (subst (λ m. option_map (with_client o m) (client_after_call (client_after_write offered took) (client_at o m)) ≡ Some o') n a)) in
     record {
       quiet = refl;
       is = λ o' a. ap (λ m. Wrote m offered took) n ∙ ap (λ m. Wrote k m took) all

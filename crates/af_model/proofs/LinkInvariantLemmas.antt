@@ -16,13 +16,13 @@ use Rattle.af_request.specs.Asked.{Asked}
 use Rattle.af_request.specs.Requests.{asked_in}
 use Rattle.af_request.specs.Answer.{setup}
 use Rattle.af_request.specs.Opcodes as opcodes
-use Rattle.af_model.specs.State.{DeviceState, Deferred, deferred_play, deferred_record, LinkState, OpenLink, open_link, say, stopped}
+use Rattle.af_model.specs.State.{DeviceState, Deferred, deferred_play, deferred_record, LinkState, OpenLink, open_link, say, closing_link}
 use Rattle.af_model.specs.Waiting.{has_deferral, wait}
 use Rattle.af_model.specs.Reply.{infos_of, reply_message}
 use Rattle.af_model.specs.Play.{in_devices, tell_played}
-use Rattle.af_model.specs.Perform.{perform, request_counted}
-use Rattle.af_model.specs.Advance.{advance, advance_by, advance_step, after_frame, after_front, after_setup, or_else, requested, takes_more, without_front}
-use Rattle.af_model.specs.Tick.{answer_deferred, complete_for, completing}
+use Rattle.af_model.specs.Perform.{perform, count_request}
+use Rattle.af_model.specs.Advance.{advance, advance_by, advance_step, after_frame, after_front, after_setup, or_else, make_request, takes_more, without_front}
+use Rattle.af_model.specs.Tick.{answer_deferred, complete_for, complete_deferred}
 use Rattle.af_model.specs.Prefix.{is_dropped}
 use Rattle.af_model.specs.Causes.{is_malformed}
 use Rattle.af_model.proofs.BoolTestLemmas.{both-true, none-true}
@@ -30,17 +30,17 @@ use Rattle.af_model.proofs.DeviceHistoryLemmas.{Requested}
 use Rattle.af_model.proofs.DueLemmas.{IsToWait, most_asked}
 use Rattle.af_model.proofs.FrameSizeLemmas.{frame_asks}
 use Rattle.af_model.proofs.InputLemmas.{IsBadInput}
-use Rattle.af_model.proofs.RequestLemmas.{chosen, done_both}
+use Rattle.af_model.proofs.RequestLemmas.{with_choices, done_both}
 
--- What goes on to hold at each move of link k: something of it changes but its input and its output, and it is not closing before
--- and behind; a request, or a setup, is taken off its input; it is to be closed for what its input begins with; something is said to
--- it, if it may be; a device becomes later; it begins to wait.
+-- What goes on to hold at each move of link k: it changes, but its input and its output stay, and it is not closing before or
+-- after; a request, or a setup, is taken off its input; it is to be closed for what its input begins with; something is queued
+-- for it, if it may be; a device becomes later; or its request is deferred.
 pub record Keeps (k : ℕ) (May : Option Why → Type 0) (I : OpenLink → Type 0) : Type 0 where
   pub may : (closing : Option Why) → is_dropped closing ≡ false → May closing
   pub link : (p : OpenLink) (l : LinkState) → p.link.closing ≡ None → l.closing ≡ None → l.pending ≡ p.link.pending → l.rest ≡ p.link.rest → l.is_set_up ≡ p.link.is_set_up → l.order ≡ p.link.order → I p → I (open_link p.environment l)
   pub takes : (p : OpenLink) (n : ℕ) → p.link.closing ≡ None → p.link.is_set_up ≡ true → frame_front p.link.order p.link.rest ≡ Frame n → is_some (asked_in p.link.order (take n p.link.rest)) ≡ true → I p → I (open_link p.environment (without_front n p.link))
   pub sets_up : (p : OpenLink) (order : Order) → p.link.closing ≡ None → p.link.is_set_up ≡ false → setup_front p.link.rest ≡ front.Setup order → I p → I (open_link p.environment (record (without_front 8 p.link) { is_set_up = true; order = order }))
-  pub stops : (p : OpenLink) (cause : Why) → p.link.closing ≡ None → IsBadInput cause p.link → I p → I (open_link p.environment (stopped cause p.link))
+  pub stops : (p : OpenLink) (cause : Why) → p.link.closing ≡ None → IsBadInput cause p.link → I p → I (open_link p.environment (closing_link cause p.link))
   pub says : (p : OpenLink) (bytes : List ℕ) → May p.link.closing → I p → I (say p bytes)
   pub becomes : (p : OpenLink) (d : ℕ) (device : DeviceState) (f : DeviceState → DeviceState) → slice_get p.environment.devices d ≡ Some device → Requested k device (f device) → I p → I (in_devices d f p)
   pub waits : (p : OpenLink) (d : ℕ) (device : DeviceState) (deferred : Deferred) → slice_get p.environment.devices d ≡ Some device → IsToWait longest_frame device deferred → p.link.closing ≡ None → I p → I (wait k d deferred p)
@@ -55,18 +55,18 @@ takes_more_open waits l e =
 module _ (k : ℕ) (May : Option Why → Type 0) (I : OpenLink → Type 0) (kept : Keeps k May I) where
   request_keeps : (request : Asked) (p : OpenLink) → most_asked request ≤ longest_frame → p.link.closing ≡ None → I p → I (perform k request p)
   request_keeps request p short none h =
-      let q = open_link p.environment (request_counted p.link) in
-      let i : I q = kept.link p (request_counted p.link) none none refl refl refl refl h in
+      let q = open_link p.environment (count_request p.link) in
+      let i : I q = kept.link p (count_request p.link) none none refl refl refl refl h in
       let may = kept.may p.link.closing (open_undropped p.link.closing none) in
       done_both k q q.link.rest longest_frame (λ u v. I u) i
-      (λ contexts selections bytes few. kept.says (chosen contexts selections q) bytes may (kept.link q (chosen contexts selections q).link none none refl refl refl refl i))
+      (λ contexts selections bytes few. kept.says (with_choices contexts selections q) bytes may (kept.link q (with_choices contexts selections q).link none none refl refl refl refl i))
       (λ d device f there l. kept.becomes q d device f there l i)
       (λ d device f bytes few there l. kept.says (in_devices d f q) bytes may (kept.becomes q d device f there l i))
       (λ d device deferred there w. kept.waits q d device deferred there w none i) request short
 
   -- a frame is a request, or closes the link
   asked_keeps : (o : Option Asked) (n : ℕ) (p : OpenLink) → asked_in p.link.order (take n p.link.rest) ≡ o → frame_front p.link.order p.link.rest ≡ Frame n → p.link.is_set_up ≡ true → p.link.closing ≡ None → I p →
-      I (requested k o (open_link p.environment (without_front n p.link)))
+      I (make_request k o (open_link p.environment (without_front n p.link)))
   asked_keeps None n p asked e set none h = kept.stops p why.Malformed none (set, ap (λ f. is_malformed p.link.order f p.link.rest) e ∙ ap is_none asked) h
   asked_keeps (Some request) n p asked e set none h = request_keeps request (open_link p.environment (without_front n p.link)) (frame_asks p.link.order p.link.rest n request e asked) none (kept.takes p n none set e (ap is_some asked) h)
 
@@ -81,7 +81,7 @@ module _ (k : ℕ) (May : Option Why → Type 0) (I : OpenLink → Type 0) (kept
       let q = open_link p.environment (record (without_front 8 p.link) { is_set_up = true; order = order }) in
       kept.says q (reply_message order opcodes.setup (setup (infos_of p.environment.devices)) 0) (kept.may p.link.closing (open_undropped p.link.closing none)) (kept.sets_up p order none unset e h)
   setup_keeps (front.BadSetup order value) p e unset none h =
-      kept.says (open_link p.environment (stopped why.BadSetup p.link)) (error order 1 value opcodes.setup 0) (kept.may (Some why.BadSetup) refl) (kept.stops p why.BadSetup none (unset, order, value, e) h)
+      kept.says (open_link p.environment (closing_link why.BadSetup p.link)) (error order 1 value opcodes.setup 0) (kept.may (Some why.BadSetup) refl) (kept.stops p why.BadSetup none (unset, order, value, e) h)
 
   front_keeps : (t : Bool) (p : OpenLink) → p.link.is_set_up ≡ t → p.link.closing ≡ None → I p → IfSome (cond t (after_frame k (frame_front p.link.order p.link.rest) p) (after_setup (setup_front p.link.rest) p)) I
   front_keeps true p set none h = frame_keeps (frame_front p.link.order p.link.rest) p refl set none h
@@ -108,10 +108,10 @@ module _ (k : ℕ) (May : Option Why → Type 0) (I : OpenLink → Type 0) (kept
   answer_keeps (deferred_play quiet start sound preempt) device p may h = elim quiet as (λ b. I (tell_played b device p)) [ true ↦ h | false ↦ kept.says p _ may h ]
   answer_keeps (deferred_record c start frames) device p may h = kept.says p _ may h
 
-  -- a request of the link that had waited completes
-  pub complete_keeps : (d : ℕ) (deferred : Deferred) (o : Option DeviceState) (p : OpenLink) → slice_get p.environment.devices d ≡ o → ((device : DeviceState) → slice_get p.environment.devices d ≡ Some device → I p → I (in_devices d (completing k deferred) p)) →
+  -- a deferred request of the link completes
+  pub complete_keeps : (d : ℕ) (deferred : Deferred) (o : Option DeviceState) (p : OpenLink) → slice_get p.environment.devices d ≡ o → ((device : DeviceState) → slice_get p.environment.devices d ≡ Some device → I p → I (in_devices d (complete_deferred k deferred) p)) →
       May p.link.closing → I p → I (complete_for (record { link = k; device = d; deferred = deferred }) o p)
   complete_keeps d deferred None p there completes may h = h
   complete_keeps d deferred (Some device) p there completes may h =
-      let q = in_devices d (completing k deferred) p in
+      let q = in_devices d (complete_deferred k deferred) p in
       advance_keeps (answer_deferred deferred device q) (answer_keeps deferred device q may (completes device there h))

@@ -1,4 +1,4 @@
--- A malformed client closes itself alone.
+-- A malformed client closes only itself.
 use Rattle.std.proofs.Common.{◌≡◌, ◌≢◌, ℕ, Bool, true, false, not, cond, ◌&&◌, nat_le, [], length, take, is_none, refl, sym, ap, ◌∙◌, subst}
 use Rattle.std.specs.declared.option.Option.{Option}
 use Rattle.std.specs.declared.option.Option.TheVariants.{None, Some}
@@ -15,10 +15,10 @@ use Rattle.af_request.specs.Asked.{Asked}
 use Rattle.af_request.specs.Requests.{asked_in}
 use Rattle.af_request.specs.Answer.{setup}
 use Rattle.af_request.specs.Opcodes as opcodes
-use Rattle.af_model.specs.State.{State, LinkState, OpenLink, SlotLink, open_link, say, stopped, some_slot, slot_at, slot_link_at, with_slot_link}
+use Rattle.af_model.specs.State.{State, LinkState, OpenLink, SlotLink, open_link, say, closing_link, some_slot, slot_at, slot_link_at, with_slot_link}
 use Rattle.af_model.specs.Waiting.{has_deferral}
 use Rattle.af_model.specs.Reply.{infos_of, reply_message}
-use Rattle.af_model.specs.Advance.{advance_step, after_front, after_frame, after_setup, requested, takes_more, without_front}
+use Rattle.af_model.specs.Advance.{advance_step, after_front, after_frame, after_setup, make_request, takes_more, without_front}
 use Rattle.af_model.specs.Events.{without_waiter}
 use Rattle.af_model.specs.Turn.{Parsed, accept, parse_then, serve_at, serve_open, serve_slot_link}
 use Rattle.af_model.proofs.ListLemmas.{get-set_other}
@@ -34,15 +34,15 @@ ClosesAlone p q = q.link.closing ≡ Some why.Malformed → (q.environment ≡ p
 not_closing : (p q : OpenLink) → q.link.closing ≡ p.link.closing → p.link.closing ≡ None → ClosesAlone p q
 not_closing p q same none e = absurd (none_some (sym (same ∙ none) ∙ e))
 
-request_alone : (k : ℕ) (o : Option Asked) (n : ℕ) (p : OpenLink) → p.link.closing ≡ None → ClosesAlone p (requested k o (open_link p.environment (without_front n p.link)))
+request_alone : (k : ℕ) (o : Option Asked) (n : ℕ) (p : OpenLink) → p.link.closing ≡ None → ClosesAlone p (make_request k o (open_link p.environment (without_front n p.link)))
 request_alone k None n p none e = (refl, refl, refl)
-request_alone k (Some request) n p none e = not_closing p (requested k (Some request) (open_link p.environment (without_front n p.link))) (perform_closing k request (open_link p.environment (without_front n p.link))) none e
+request_alone k (Some request) n p none e = not_closing p (make_request k (Some request) (open_link p.environment (without_front n p.link))) (perform_closing k request (open_link p.environment (without_front n p.link))) none e
 
 frame_alone : (k : ℕ) (f : Front) (p q : OpenLink) → p.link.closing ≡ None → after_frame k f p ≡ Some q → ClosesAlone p q
 frame_alone k NeedMore p q none e = absurd (none_some e)
-frame_alone k Malformed p q none e = let same : open_link p.environment (stopped why.Malformed p.link) ≡ q = cc in subst (ClosesAlone p) same (λ c. (refl, refl, refl))
+frame_alone k Malformed p q none e = let same : open_link p.environment (closing_link why.Malformed p.link) ≡ q = cc in subst (ClosesAlone p) same (λ c. (refl, refl, refl))
 frame_alone k (Frame n) p q none e =
-    let same : requested k (asked_in p.link.order (take n p.link.rest)) (open_link p.environment (without_front n p.link)) ≡ q = cc in
+    let same : make_request k (asked_in p.link.order (take n p.link.rest)) (open_link p.environment (without_front n p.link)) ≡ q = cc in
     subst (ClosesAlone p) same (request_alone k (asked_in p.link.order (take n p.link.rest)) n p none)
 
 other_cause : Some why.BadSetup ≡ Some why.Malformed → ⊥
@@ -54,7 +54,7 @@ setup_alone (front.Setup order) p q none e c =
     let same : say (open_link p.environment (record (without_front 8 p.link) { is_set_up = true; order = order })) (reply_message order opcodes.setup (setup (infos_of p.environment.devices)) 0) ≡ q = cc in
     absurd (none_some (sym none ∙ ap (λ (r : OpenLink). r.link.closing) same ∙ c))
 setup_alone (front.BadSetup order value) p q none e c =
-    let same : say (open_link p.environment (stopped why.BadSetup p.link)) (error order 1 value opcodes.setup 0) ≡ q = cc in
+    let same : say (open_link p.environment (closing_link why.BadSetup p.link)) (error order 1 value opcodes.setup 0) ≡ q = cc in
     absurd (other_cause (ap (λ (r : OpenLink). r.link.closing) same ∙ c))
 
 front_alone : (b : Bool) (k : ℕ) (p q : OpenLink) → p.link.closing ≡ None → cond b (after_frame k (frame_front p.link.order p.link.rest) p) (after_setup (setup_front p.link.rest) p) ≡ Some q → ClosesAlone p q
@@ -80,7 +80,7 @@ served k j s b (Some d) apart e =
 pub others_stay : (k j : ℕ) (s : State) (log : Log) (b : Parsed State) → serve_at k s log ≡ Some b → j ≢ k → slot_at j b.state ≡ slot_at j s
 others_stay k j s log b e apart = served k j s b (serve_slot_link k (slot_link_at k s) log) apart e
 
--- and leaves the order of the others that wait
+-- and leaves the order of the other deferred requests
 
 pub order_stays : (k : ℕ) (s : State) (log : Log) (b : Parsed State) → serve_at k s log ≡ Some b → without_waiter k b.state.waiting ≡ without_waiter k s.waiting
 order_stays k s log b e =

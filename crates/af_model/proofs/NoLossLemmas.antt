@@ -1,4 +1,4 @@
--- Nothing is lost of a request that waited.
+-- A deferred request loses nothing.
 use Rattle.std.proofs.Common.{◌≡◌, ℕ, zero, suc, ◌≤◌, List, [], ◌∷◌, map, refl, subst, arith, IfSome}
 use Rattle.std.proofs.lemmas.Bool.Decides.{nat_tests}
 use Rattle.std.proofs.lemmas.List.Elements.{All-cons, All-head, All-nil, All-tail, All-weaker}
@@ -7,7 +7,7 @@ use Rattle.std.specs.declared.option.Option.TheVariants.{None, Some}
 use Rattle.af_sample.specs.Rates.{IsListedRate}
 use Rattle.af_world.specs.declared.script.DeviceSpec.{DeviceSpec}
 use Rattle.af_world.specs.Log.{Log}
-use Rattle.af_model.specs.State.{Deferral, State, opening, opening_device}
+use Rattle.af_model.specs.State.{Deferral, State, opening_state, opening_device}
 use Rattle.af_model.specs.Turn.{turn}
 use Rattle.af_model.specs.Run.{end_by, end_state, wakes}
 use Rattle.af_model.specs.NoLoss.{LosesNone, RunLosesNone, StateLosesNone}
@@ -21,7 +21,7 @@ pub opening_loses_none : (config : List DeviceSpec) → All (λ device. LosesNon
 opening_loses_none [] = λ k d low. absurd (omega arith)
 opening_loses_none (c ∷ config) = All-cons (λ device. LosesNone device) (opening_device c) (map opening_device config) (λ k d low. absurd (omega arith)) (opening_loses_none config)
 
--- four seconds of a device are 32000 frames at least
+-- four seconds of a device are at least 32000 frames
 least_rate : (rate : ℕ) → IsListedRate rate → 8000 ≤ rate
 least_rate rate listed = grind (arith, nat_tests)
 
@@ -41,9 +41,9 @@ run_safe (suc n) s log e h r =
 pub no_loss : (config : List DeviceSpec) (log : Log) → All (λ c. IsListedRate c.rate) config → RunLosesNone config log
 unfolding end_state
 no_loss config log listed =
-    elim (end_by (wakes log) (opening config) log) as (λ o. end_by (wakes log) (opening config) log ≡ o → IfSome o StateLosesNone) [
+    elim (end_by (wakes log) (opening_state config) log) as (λ o. end_by (wakes log) (opening_state config) log ≡ o → IfSome o StateLosesNone) [
       | None ↦ λ r. tt
       | Some e ↦ λ r.
-          let first : SafeState 0 0 (opening config) = record { devices = opening_safe config listed; waiting = All-nil (λ (w : Deferral). AwaitedIn 0 0 (opening config).devices w) } in
-          All-weaker (λ device. IsSafe device) (λ device. LosesNone device) (λ device safe. safe.loses_none) e.devices (run_safe (wakes log) (opening config) log e first r).devices
+          let first : SafeState 0 0 (opening_state config) = record { devices = opening_safe config listed; waiting = All-nil (λ (w : Deferral). AwaitedIn 0 0 (opening_state config).devices w) } in
+          All-weaker (λ device. IsSafe device) (λ device. LosesNone device) (λ device safe. safe.loses_none) e.devices (run_safe (wakes log) (opening_state config) log e first r).devices
     ] refl

@@ -7,7 +7,7 @@ use Rattle.std.specs.declared.option.Option.TheVariants.{None, Some}
 use Rattle.af_limits.specs.Limits.{most_links, most_devices}
 use Rattle.af_world.specs.declared.script.DeviceSpec.{DeviceSpec}
 use Rattle.af_world.specs.Log.{Log}
-use Rattle.af_model.specs.State.{Deferral, SlotState, State, opening, opening_device}
+use Rattle.af_model.specs.State.{Deferral, SlotState, State, opening_state, opening_device}
 use Rattle.af_model.specs.Turn.{turn}
 use Rattle.af_model.specs.Run.{end_by, end_state, wakes}
 use Rattle.af_model.specs.Offers.{IsOfferWithin, OffersWithin}
@@ -17,9 +17,9 @@ use Rattle.af_model.proofs.PrefixLawLemmas.{first_slot}
 use Rattle.af_model.proofs.RunLemmas.{run_inv}
 use Rattle.af_model.proofs.WakeLemmas.{turned}
 
-opening_room : (config : List DeviceSpec) → length config ≤ most_devices → RoomIn (opening config)
+opening_room : (config : List DeviceSpec) → length config ≤ most_devices → RoomIn (opening_state config)
 opening_room config few = (
-  record { few = omega (arith, few, length-map config opening_device); answered = All-nil (λ (w : Deferral). AnsweredIn (opening config).devices w); once = λ j. omega arith },
+  record { few = omega (arith, few, length-map config opening_device); answered = All-nil (λ (w : Deferral). AnsweredIn (opening_state config).devices w); once = λ j. omega arith },
   λ k. subst (λ (x : SlotState). IfSome x.link (λ l. IsPending k [] l)) (sym (first_slot most_links k)) tt,
 )
 
@@ -35,7 +35,7 @@ run_offers (suc n) s log e h r =
 pub offers_within : (config : List DeviceSpec) (log : Log) → OffersWithin config log
 unfolding end_state
 offers_within config log few =
-    elim (end_by (wakes log) (opening config) log) as (λ o. end_by (wakes log) (opening config) log ≡ o → IfSome o (λ end. All IsOfferWithin log)) [
+    elim (end_by (wakes log) (opening_state config) log) as (λ o. end_by (wakes log) (opening_state config) log ≡ o → IfSome o (λ end. All IsOfferWithin log)) [
       | None ↦ λ r. tt
-      | Some e ↦ λ r. run_offers (wakes log) (opening config) log e (opening_room config few) r
+      | Some e ↦ λ r. run_offers (wakes log) (opening_state config) log e (opening_room config few) r
     ] refl

@@ -7,8 +7,8 @@ use Rattle.af_world.specs.declared.happening.Wake.{Wake}
 use Rattle.af_world.specs.declared.script.DeviceSpec.{DeviceSpec}
 use Rattle.af_world.specs.declared.script.Step.{Step}
 use Rattle.af_world.specs.Log.{Log}
-use Rattle.af_world.specs.Outside.{Outside, outside_start, stepped, wake_of}
-use Rattle.af_model.specs.State.{State, opening, outline}
+use Rattle.af_world.specs.Outside.{Outside, outside_start, outside_after_step, wake_of}
+use Rattle.af_model.specs.State.{State, opening_state, outline}
 use Rattle.af_model.specs.Turn.{Parsed, parse_then, turn, fits, wake_phase, serve_and_hook}
 use Rattle.af_model.specs.Run.{end_by, end_state, then_end, wakes}
 use Rattle.af_model.specs.Script.{AnswersTo, ScriptLog}
@@ -47,7 +47,7 @@ turn_alike s o step steps log1 log2 b1 b2 e1 e2 at f1 f2 r1 r2 =
     let w = wake_of o step in
     let g1 : parse_then (wake_phase w s i1.rest) serve_and_hook ≡ Some b1 = subst (λ x. parse_then (wake_phase x s i1.rest) serve_and_hook ≡ Some b1) a1.0 i1.goes in
     let g2 : parse_then (wake_phase w s i2.rest) serve_and_hook ≡ Some b2 = subst (λ x. parse_then (wake_phase x s i2.rest) serve_and_hook ≡ Some b2) a2.0 i2.goes in
-    let a = alike_then (wake_phase w) serve_and_hook (Woken w) Agree Agree (wake_alike w) hooks_alike steps s (stepped o step) i1.rest i2.rest b1 b2 e1 e2 (agree_step s o step at) g1 g2 a1.1 a2.1 in
+    let a = alike_then (wake_phase w) serve_and_hook (Woken w) Agree Agree (wake_alike w) hooks_alike steps s (outside_after_step o step) i1.rest i2.rest b1 b2 e1 e2 (agree_step s o step at) g1 g2 a1.1 a2.1 in
     record {
       outside = a.outside;
       stands = a.stands;
@@ -86,4 +86,4 @@ unique (step ∷ steps) (suc n) (suc m) s o e1 e2 log1 log2 at f1 f2 r1 r2 =
 
 pub one_log : (config : List DeviceSpec) (steps : List Step) (a b : Log) → ScriptLog config steps a → ScriptLog config steps b → a ≡ b
 unfolding end_state
-one_log config steps a b x y = unique steps (wakes a) (wakes b) (opening config) (outside_start config) x.end y.end a b (agree_start config) x.is_run y.is_run x.answers y.answers
+one_log config steps a b x y = unique steps (wakes a) (wakes b) (opening_state config) (outside_start config) x.end y.end a b (agree_start config) x.is_run y.is_run x.answers y.answers

@@ -10,7 +10,7 @@ use Rattle.af_model.specs.State.{State, SlotState, EnvironmentState, OpenLink, D
 use Rattle.af_wait.specs.Waits.{without_first}
 use Rattle.af_model.specs.Waiting.{falls_due}
 use Rattle.af_model.specs.Advance.{or_else}
-use Rattle.af_model.specs.Tick.{complete, complete_at, complete_by, complete_due, complete_first, complete_step, later, tick}
+use Rattle.af_model.specs.Tick.{complete, complete_at, complete_by, complete_due, complete_first, complete_step, device_after, tick}
 use Rattle.af_model.specs.Turn.{in_open, in_slot}
 use Rattle.af_wire.specs.declared.event.Event.{Event}
 use Rattle.af_wire.specs.declared.event.EventKind.{EventKind}
@@ -34,7 +34,7 @@ Agree s o = opens o ≡ open_links s.slots
 abbrev pub AtPlace : List Bool → ℕ → OpenLink → Outside → Type 0
 AtPlace w k p o = opens o ≡ slice_set w k true
 
--- the same behind it: the link may be closed
+-- the same after that: the link may be closed
 abbrev pub StandsForSlot : List Bool → ℕ → SlotLink → Outside → Type 0
 StandsForSlot w k d o = opens o ≡ slice_set w k (is_some d.link)
 
@@ -51,7 +51,7 @@ clients_same [] k = refl
 clients_same (x ∷ clients) zero = refl
 clients_same (x ∷ clients) (suc k) = ap (λ v. is_some x ∷ v) (clients_same clients k)
 
--- a link's client may change, where the link stays open or not as it is
+-- a link's client may change, if the link stays as open as it is
 pub opens_stay : (o : Outside) (k : ℕ) (client : Option ScriptedClient) → is_some client ≡ is_some (client_at o k) → opens (with_client o k client) ≡ opens o
 opens_stay o k client same = opens-set o k client ∙ ap (λ b. slice_set (opens o) k b) same ∙ clients_same o.clients k
 
@@ -97,7 +97,7 @@ complete_by-opens (suc n) d s =
 
 pub tick-opens : (d n : ℕ) (captured : List ℤ) (is_dead : Bool) (s : State) → open_links (tick d n captured is_dead s).slots ≡ open_links s.slots
 unfolding complete_due
-tick-opens d n captured is_dead s = complete_by-opens (length s.waiting) d (record s { devices = with_device d (later n captured is_dead) s.devices })
+tick-opens d n captured is_dead s = complete_by-opens (length s.waiting) d (record s { devices = with_device d (device_after n captured is_dead) s.devices })
 
 -- Events leave the links as open as they are
 

@@ -1,4 +1,5 @@
--- What is queued for a link: behind what it took, what was said to it. And what its history shows: why it is to be closed, if it is.
+-- What is queued for a link: what it took, and then what waits to be sent. And what its history shows: why it is to be closed, if
+-- it is.
 use Rattle.std.proofs.Common.{◌≡◌, ℕ, zero, suc, ◌+◌, ◌<◌, ◌==◌, ◌||◌, Bool, true, false, not, cond, List, [], ◌∷◌, ◌++◌, length, drop, find, nat_le, replicate, slice_get, is_none, IfSome, refl, sym, ap, ◌∙◌, subst, append_assoc, arith, eqb-true}
 use Rattle.std.proofs.lemmas.Bool.{or_parts}
 use Rattle.std.specs.declared.option.Option.{Option}
@@ -10,9 +11,9 @@ use Rattle.af_phone.specs.Lines.{selects}
 use Rattle.af_world.specs.declared.happening.Why.{Why}
 use Rattle.af_world.specs.declared.happening.Why.TheVariants as why
 use Rattle.af_wait.specs.Waits.{without_first}
-use Rattle.af_model.specs.State.{DeviceState, LinkState, OpenLink, SlotLink, State, Deferral, open_link, none_selected, slot_at, stopped}
+use Rattle.af_model.specs.State.{DeviceState, LinkState, OpenLink, SlotLink, State, Deferral, open_link, none_selected, slot_at, closing_link}
 use Rattle.af_model.specs.Waiting.{has_deferral}
-use Rattle.af_model.specs.Events.{dropped, mask_of, some_mask, without_waiter}
+use Rattle.af_model.specs.Events.{drop_link, mask_of, some_mask, without_waiter}
 use Rattle.af_model.specs.Advance.{takes_more, without_front}
 use Rattle.af_model.specs.Turn.{close_due}
 use Rattle.af_model.specs.LinkHistory.{LinkHistory}
@@ -31,7 +32,7 @@ pub not_both : {A : Type 0} (t : Bool) → t ≡ false → t ≡ true → A
 not_both true e f = absurd cc
 not_both false e f = absurd cc
 
--- Those that wait
+-- The deferred requests
 
 waits_any : (ws : List Deferral) (k : ℕ) (w : Deferral) → has_deferral (w ∷ ws) k ≡ false → ((w.link == k) ≡ false) × (has_deferral ws k ≡ false)
 waits_any ws k w e = or_parts (w.link == k) (has_deferral ws k) e
@@ -39,14 +40,14 @@ waits_any ws k w e = or_parts (w.link == k) (has_deferral ws k) e
 waits_none : (ws : List Deferral) (k : ℕ) (w : Deferral) → (w.link == k) ≡ false → has_deferral ws k ≡ false → has_deferral (w ∷ ws) k ≡ false
 waits_none ws k w a b = ap (λ t. t || has_deferral ws k) a ∙ b
 
--- one that waits leaves
+-- one of the deferred requests leaves
 pub waits_left : (passes : Deferral → Bool) (ws : List Deferral) (k : ℕ) → has_deferral ws k ≡ false → has_deferral (without_first passes ws) k ≡ false
 waits_left passes [] k h = refl
 waits_left passes (w ∷ ws) k h =
     let i = waits_any ws k w h in
     elim (passes w) as (λ t. has_deferral (cond t ws (w ∷ without_first passes ws)) k ≡ false) [ true ↦ i.1 | false ↦ waits_none (without_first passes ws) k w i.0 (waits_left passes ws k i.1) ]
 
--- a link leaves, and then none of its requests waits
+-- a link leaves the list, and then it has no deferred request
 pub dropped_waits : (k : ℕ) (ws : List Deferral) → has_deferral (without_waiter k ws) k ≡ false
 dropped_waits k [] = refl
 dropped_waits k (w ∷ ws) =
@@ -55,7 +56,7 @@ dropped_waits k (w ∷ ws) =
       | false ↦ λ e. waits_none (without_waiter k ws) k w e (dropped_waits k ws)
     ] refl
 
--- the others that wait are the same, in their order, if a link begins to wait, or leaves again
+-- the other deferred requests are the same, in their order, if one of a link comes or goes
 own_waits : (ws : List Deferral) (k : ℕ) (w : Deferral) → (w.link == k) ≡ true → without_waiter k (ws ++ w ∷ []) ≡ without_waiter k ws
 own_waits [] k w own = ap (λ t. cond (not t) (w ∷ []) []) own
 own_waits (v ∷ ws) k w own = ap (λ l. cond (not (v.link == k)) (v ∷ l) l) (own_waits ws k w own)
@@ -68,7 +69,7 @@ own_left (w ∷ ws) k =
       | false ↦ λ e. ap (λ t. cond (not t) (w ∷ without_waiter k (without_waiter k ws)) (without_waiter k (without_waiter k ws))) e ∙ ap (λ l. w ∷ l) (own_left ws k)
     ] refl
 
--- so another link waits where it did
+-- so another link's deferred request is at its place
 other_waits : (ws : List Deferral) (k j : ℕ) → (k == j) ≡ false → has_deferral (without_waiter k ws) j ≡ has_deferral ws j
 other_waits [] k j other = refl
 other_waits (w ∷ ws) k j other =
@@ -82,7 +83,7 @@ other_waits (w ∷ ws) k j other =
 pub still_waits : (ws vs : List Deferral) (k j : ℕ) → (k == j) ≡ false → without_waiter k vs ≡ without_waiter k ws → has_deferral vs j ≡ has_deferral ws j
 still_waits ws vs k j other same = sym (other_waits vs k j other) ∙ ap (λ l. has_deferral l j) same ∙ other_waits ws k j other
 
--- so does another than the one that leaves
+-- so does each but the one that leaves
 pub others_left : (passes : Deferral → Bool) (ws : List Deferral) (w : Deferral) (j : ℕ) → find passes ws ≡ Some w → (w.link == j) ≡ false → has_deferral (without_first passes ws) j ≡ has_deferral ws j
 others_left passes [] w j e other = absurd cc
 others_left passes (v ∷ ws) w j e other =
@@ -91,7 +92,7 @@ others_left passes (v ∷ ws) w j e other =
       | false ↦ λ e. ap (λ t. (v.link == j) || t) (others_left passes ws w j e other)
     ] e
 
--- the link of a request that waits does
+-- the link of a deferred request has one
 pub found_waits : (passes : Deferral → Bool) (ws : List Deferral) (w : Deferral) → find passes ws ≡ Some w → has_deferral ws w.link ≡ true
 found_waits passes [] w e = absurd cc
 found_waits passes (v ∷ ws) w e =
@@ -106,8 +107,9 @@ found_waits passes (v ∷ ws) w e =
 
 -- A link
 
--- What was said is what was taken and a rest, which waits to be sent unless the link was dropped. One that was dropped neither
--- sends nor waits. If a link is closing, it selects no events and its history shows the cause, and else nothing of an end.
+-- What was said is what was taken and a rest, which waits to be sent unless the link was dropped. A dropped link sends nothing
+-- and has no deferred request. If a link is closing, it selects no events and its history shows the cause; else its history shows
+-- nothing of an end.
 pub record Owed (k : ℕ) (h : LinkHistory) (said : List ℕ) (l : LinkState) (waiting : List Deferral) : Type 0 where
   pub rest : List ℕ
   pub whole : said ≡ h.took ++ rest
@@ -121,8 +123,8 @@ pub record Owed (k : ℕ) (h : LinkHistory) (said : List ℕ) (l : LinkState) (w
 abbrev pub Owing : ℕ → LinkHistory → OpenLink → Type 0
 Owing k h p = Owed k h p.environment.said p.link p.environment.waiting
 
--- The same of a number whose link may be closed: then its history shows the cause. All was taken off the input of an open one that
--- can be.
+-- The same for a number whose link may be closed: then its history shows the cause. All that can be was taken off the input of an
+-- open one.
 abbrev pub OwingLink : ℕ → LinkHistory → List ℕ → Option LinkState → List Deferral → Type 0
 OwingLink k h said None waiting = (rest : List ℕ) × (said ≡ h.took ++ rest) × IfSome h.closed (λ cause. IsCause cause h (length rest))
 OwingLink k h said (Some l) waiting = Owed k h said l waiting × IsAdvanced k l waiting
@@ -151,7 +153,7 @@ pub queueing_same : (k : ℕ) (g : LinkHistory) (said : List ℕ) (link : Option
 queueing_same k g said None ws vs same h = h
 queueing_same k g said (Some l) ws vs same h = (owed_fewer k g said l ws vs (λ e. same ∙ e) h.0, λ more. h.1 (sym (ap (λ t. takes_more t l) same) ∙ more))
 
--- a request leaves, whose link is not open
+-- a request leaves, and its link is not open
 pub queueing_left : (passes : Deferral → Bool) (w : Deferral) (k : ℕ) (g : LinkHistory) (said : List ℕ) (link : Option LinkState) (ws : List Deferral) → find passes ws ≡ Some w → ((w.link == k) ≡ true → link ≡ None) → OwingLink k g said link ws →
     OwingLink k g said link (without_first passes ws)
 queueing_left passes w k g said None ws found closed h = h
@@ -165,7 +167,7 @@ queueing_left passes w k g said (Some l) ws found closed h =
 unended : (k : ℕ) (g : LinkHistory) (p : OpenLink) → p.link.closing ≡ None → (h : Owing k g p) → IsUnended g p.link.is_set_up p.link.order p.link.rest
 unended k g p none h = subst (ShowsBy g h.rest p.link.is_set_up p.link.order p.link.rest) none h.shows
 
--- a link that is not closing becomes another that is not, and the same waits to be sent to it
+-- a link that is not closing becomes another that is not, and the same waits to be sent
 becomes_unended : (k : ℕ) (g : LinkHistory) (p : OpenLink) (l : LinkState) → p.link.closing ≡ None → l.closing ≡ None → l.pending ≡ p.link.pending → IsUnended g l.is_set_up l.order l.rest → Owing k g p → Owing k g (open_link p.environment l)
 becomes_unended k g p l none behind same input h =
     let undropped = open_undropped l.closing behind in
@@ -218,7 +220,7 @@ queueing_keeps k g = record {
       let same : p.link.rest ≡ g.gave = subst (λ b. IsInput b p.link.order g.gave p.link.rest) unset u.input in
       becomes_unended k g p (record (without_front 8 p.link) { is_set_up = true; order = order }) none none refl (record { failed = u.failed; ended = u.ended; input = input_set_up order g.gave p.link.rest e same }) h;
   stops = λ p cause none bad h.
-      becomes_closing k g p (stopped cause p.link) cause none refl (bad_undropped cause p.link bad) refl refl (λ owed. shows_bad g owed cause p.link bad (unended k g p none h)) h;
+      becomes_closing k g p (closing_link cause p.link) cause none refl (bad_undropped cause p.link bad) refl refl (λ owed. shows_bad g owed cause p.link bad (unended k g p none h)) h;
   says = λ p bytes stays h. record {
     rest = h.rest ++ bytes;
     whole = ap (λ x. x ++ bytes) h.whole ∙ append_assoc g.took h.rest bytes;
@@ -262,7 +264,7 @@ queued_given k g bytes p none h =
 
 -- a link that is not closing has ended
 pub queued_ended : (k : ℕ) (g : LinkHistory) (p : OpenLink) → p.link.closing ≡ None → NoneAtFront p.link.is_set_up p.link.order p.link.rest → Owing k g p →
-    Owing k (record g { has_ended = true }) (open_link p.environment (stopped why.Ended (record p.link { is_ready = false })))
+    Owing k (record g { has_ended = true }) (open_link p.environment (closing_link why.Ended (record p.link { is_ready = false })))
 queued_ended k g p none front h =
     let u = unended k g p none h in
     record {
@@ -295,8 +297,8 @@ queued_taken k g bytes p l stays same input set ordered selected front h =
       unclosed = h.unclosed;
     }
 
--- a link is dropped whose history shows the cause
-queued_dropped : (k : ℕ) (g f : LinkHistory) (cause : Why) (p : OpenLink) → is_dropped (Some cause) ≡ true → f.took ≡ g.took → f.closed ≡ g.closed → (h : Owing k g p) → IsCause cause f (length h.rest) → Owing k f (dropped k cause p)
+-- a link is dropped, and its history shows the cause
+queued_dropped : (k : ℕ) (g f : LinkHistory) (cause : Why) (p : OpenLink) → is_dropped (Some cause) ≡ true → f.took ≡ g.took → f.closed ≡ g.closed → (h : Owing k g p) → IsCause cause f (length h.rest) → Owing k f (drop_link k cause p)
 queued_dropped k g f cause p drops took closed h shows = record {
   rest = h.rest;
   whole = h.whole ∙ ap (λ x. x ++ h.rest) (sym took);
@@ -309,11 +311,11 @@ queued_dropped k g f cause p drops took closed h shows = record {
 }
 
 -- a call of it failed
-pub queued_failed : (k : ℕ) (g : LinkHistory) (p : OpenLink) → Owing k g p → Owing k (record g { has_failed = true }) (dropped k why.LinkFault p)
+pub queued_failed : (k : ℕ) (g : LinkHistory) (p : OpenLink) → Owing k g p → Owing k (record g { has_failed = true }) (drop_link k why.LinkFault p)
 queued_failed k g p h = queued_dropped k g (record g { has_failed = true }) why.LinkFault p refl refl refl h refl
 
 -- an event found no room
-pub queued_overrun : (k : ℕ) (g : LinkHistory) (p : OpenLink) → p.link.closing ≡ None → nat_le (length p.link.pending + 20) event_limit ≡ false → Owing k g p → Owing k g (dropped k why.Overrun p)
+pub queued_overrun : (k : ℕ) (g : LinkHistory) (p : OpenLink) → p.link.closing ≡ None → nat_le (length p.link.pending + 20) event_limit ≡ false → Owing k g p → Owing k g (drop_link k why.Overrun p)
 queued_overrun k g p none full h =
     let u = unended k g p none h in
     queued_dropped k g g why.Overrun p refl refl refl h
@@ -357,7 +359,7 @@ selects_open k d kind g p e h =
           not_both (selects (mask_of p.link d) kind) none e
     ] h.wants
 
--- a link that waits was not dropped
+-- a link with a deferred request was not dropped
 pub waiting_undropped : (k : ℕ) (g : LinkHistory) (said : List ℕ) (l : LinkState) (ws : List Deferral) → has_deferral ws k ≡ true → Owed k g said l ws → is_dropped l.closing ≡ false
 waiting_undropped k g said l ws e h =
     elim (is_dropped l.closing) as (λ t. (t ≡ true → has_deferral ws k ≡ false) → t ≡ false) [
@@ -373,7 +375,7 @@ sending_undropped k g said l ws e h =
       | false ↦ λ w. refl
     ] h.sends
 
--- Devices, and the other links that wait
+-- Devices, and the other deferred requests
 
 pub grows_keeps : (k : ℕ) (ds : List DeviceState) → Keeps k (λ closing. Unit {0}) (λ p. AllLive ds p.environment.devices)
 grows_keeps k ds = record {
@@ -390,7 +392,7 @@ grows_keeps k ds = record {
     some_same : {a b : DeviceState} {o : Option DeviceState} → o ≡ Some a → o ≡ Some b → b ≡ a
     some_same e f = cc
 
--- the other requests that wait are the same, in their order
+-- the other deferred requests are the same, in their order
 abbrev pub SameOthers : ℕ → List Deferral → List Deferral → Type 0
 SameOthers k ws vs = without_waiter k vs ≡ without_waiter k ws
 
@@ -406,8 +408,8 @@ others_keep k ws = record {
   waits = λ p d device deferred there w open' h. own_waits p.environment.waiting k (record { link = k; device = d; deferred = deferred }) (same_number k) ∙ h;
 }
 
--- What becomes of a link and its environment, if nothing is taken: devices become later, what is queued for it stays so and within its
--- room, all stays taken off its input that was, and the others wait as they did.
+-- How a link and its environment change, if nothing is taken: devices become later; what is queued for it stays so and within its
+-- room; if all that can be was taken off its input, it still was; and the deferred requests of others stay.
 pub record Moved (j : ℕ) (p q : OpenLink) : Type 0 where
   pub devices : AllLive p.environment.devices q.environment.devices
   pub own : (g : LinkHistory) → Owing j g p → Owing j g q
@@ -427,11 +429,11 @@ moved_of j p q ends room go = record {
 }
 
 -- an event found no room
-pub moved_overrun : (k : ℕ) (p : OpenLink) → ((g : LinkHistory) → Owing k g p → p.link.closing ≡ None) → nat_le (length p.link.pending + 20) event_limit ≡ false → Moved k p (dropped k why.Overrun p)
+pub moved_overrun : (k : ℕ) (p : OpenLink) → ((g : LinkHistory) → Owing k g p → p.link.closing ≡ None) → nat_le (length p.link.pending + 20) event_limit ≡ false → Moved k p (drop_link k why.Overrun p)
 moved_overrun k p opens full = record {
   devices = all_live_refl p.environment.devices;
   own = λ g h. queued_overrun k g p (opens g h) full h;
-  advanced = λ h. advanced_closing k (dropped k why.Overrun p).link (dropped k why.Overrun p).environment.waiting why.Overrun refl;
+  advanced = λ h. advanced_closing k (drop_link k why.Overrun p).link (drop_link k why.Overrun p).environment.waiting why.Overrun refl;
   others = own_left p.environment.waiting k;
   safe = λ h. safe_dropped k p.environment.devices p.environment.waiting h;
   room = λ h. room_dropped k why.Overrun p h;

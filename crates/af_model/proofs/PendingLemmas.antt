@@ -1,4 +1,4 @@
--- How much waits to be sent to a link: no more than there is room for with one answer more for its request that waits.
+-- How much waits to be sent to a link: at most what there is room for, together with an answer to its deferred request.
 use Rattle.std.proofs.Common.{◌≡◌, ℕ, zero, suc, ◌+◌, ◌*◌, ◌==◌, ◌&&◌, ◌≤◌, Bool, true, false, not, cond, List, [], ◌∷◌, ◌++◌, length, find, take, nat_le, is_none, slice_get, refl, sym, ap, ◌∙◌, subst, arith, eqb-true, length-append, IfSome}
 use Rattle.std.proofs.lemmas.Bool.{or_parts}
 use Rattle.std.proofs.lemmas.List.{length-map}
@@ -25,10 +25,10 @@ use Rattle.af_model.specs.Waiting.{has_deferral}
 use Rattle.af_model.specs.Reply.{info_of, infos_of, reply_message}
 use Rattle.af_model.specs.Record.{recorded_bytes}
 use Rattle.af_model.specs.Play.{in_devices, tell_played}
-use Rattle.af_model.specs.Perform.{perform, request_counted}
-use Rattle.af_model.specs.Advance.{advance, advance_by, advance_step, after_frame, after_front, after_setup, or_else, requested, takes_more, without_front}
-use Rattle.af_model.specs.Tick.{answer_deferred, complete_for, completing}
-use Rattle.af_model.specs.Events.{dropped, without_waiter}
+use Rattle.af_model.specs.Perform.{perform, count_request}
+use Rattle.af_model.specs.Advance.{advance, advance_by, advance_step, after_frame, after_front, after_setup, or_else, make_request, takes_more, without_front}
+use Rattle.af_model.specs.Tick.{answer_deferred, complete_for, complete_deferred}
+use Rattle.af_model.specs.Events.{drop_link, without_waiter}
 use Rattle.af_model.proofs.BoolTestLemmas.{both-true, none_some, not_true, same_number, some_is}
 use Rattle.af_model.proofs.CompletionLemmas.{found_all}
 use Rattle.af_model.proofs.DeviceHistoryLemmas.{Requested, zip_back, zip_with}
@@ -38,9 +38,9 @@ use Rattle.af_model.proofs.ReplySizeLemmas.{error_short, event_size, recorded_si
 use Rattle.af_model.proofs.RequestLemmas.{done_both}
 use Rattle.af_model.proofs.SafeLemmas.{all_without_first}
 
--- Those that wait
+-- The deferred requests
 
--- how many requests of a link wait
+-- how many deferred requests a link has
 abbrev pub waiters : ℕ → List Deferral → ℕ
 waiters k [] = 0
 waiters k (w ∷ ws) = cond (w.link == k) (suc (waiters k ws)) (waiters k ws)
@@ -51,7 +51,7 @@ waiters_none (w ∷ ws) k e =
     let i = or_parts (w.link == k) (has_deferral ws k) e in
     ap (λ t. cond t (suc (waiters k ws)) (waiters k ws)) i.0 ∙ waiters_none ws k i.1
 
--- one begins to wait
+-- one is deferred
 waiters_wait : (ws : List Deferral) (w : Deferral) (j : ℕ) → waiters j (ws ++ w ∷ []) ≡ cond (w.link == j) 1 0 + waiters j ws
 waiters_wait [] w j = elim (w.link == j) as (λ t. cond t 1 0 ≡ cond t 1 0 + 0) [ true ↦ refl | false ↦ refl ]
 waiters_wait (v ∷ ws) w j =
@@ -100,30 +100,30 @@ waiters_other (w ∷ ws) k j other =
       | false ↦ λ e. ap (λ n. cond (w.link == j) (suc n) n) (waiters_other ws k j other)
     ] refl
 
--- where the others wait as they did, as many requests of each of them do
+-- if the deferred requests of others stay, each of them has as many
 pub waiters_same : (ws vs : List Deferral) (k j : ℕ) → (k == j) ≡ false → without_waiter k vs ≡ without_waiter k ws → waiters j vs ≡ waiters j ws
 waiters_same ws vs k j other same = sym (waiters_other vs k j other) ∙ ap (waiters j) same ∙ waiters_other ws k j other
 
 -- The environment
 
--- the answer of a request that waits has no more bytes than one of a record may have
+-- the answer of a deferred request has at most as many bytes as one of a record may have
 abbrev pub AnsweredIn : List DeviceState → Deferral → Type 0
 AnsweredIn devices w = (device : DeviceState) → slice_get devices w.device ≡ Some device → answer_size device.channels w.deferred ≤ longest_record
 
--- no more than eight devices; and of each link no more than one request waits
+-- at most eight devices; and each link has at most one deferred request
 pub record HasRoom (ds : List DeviceState) (ws : List Deferral) : Type 0 where
   pub few : length ds ≤ most_devices
   pub answered : All (λ w. AnsweredIn ds w) ws
   pub once : (j : ℕ) → waiters j ws ≤ 1
 
--- what waits to be sent to a link, with the longest answer for each of its requests that wait, is no more than may
+-- what waits to be sent to a link, with the longest answer for each of its deferred requests, is at most what may wait
 abbrev pub IsPending : ℕ → List Deferral → LinkState → Type 0
 IsPending k ws l = length l.pending + longest_message * waiters k ws ≤ most_pending
 
 abbrev pub RoomOf : ℕ → OpenLink → Type 0
 RoomOf k p = HasRoom p.environment.devices p.environment.waiting × IsPending k p.environment.waiting p.link
 
--- the same of a number whose link may be closed, and of all numbers
+-- the same for a number whose link may be closed, and for all numbers
 abbrev pub RoomOfSlot : ℕ → SlotLink → Type 0
 RoomOfSlot k d = HasRoom d.environment.devices d.environment.waiting × IfSome d.link (λ l. IsPending k d.environment.waiting l)
 
@@ -153,7 +153,7 @@ room_requested k d f ds ws device there l h = room_with d f ds ws (λ x is. subs
 room_left : (passes : Deferral → Bool) (ds : List DeviceState) (ws : List Deferral) (w : Deferral) → find passes ws ≡ Some w → HasRoom ds ws → HasRoom ds (without_first passes ws)
 room_left passes ds ws w found h = record { few = h.few; answered = all_without_first (λ v. AnsweredIn ds v) passes ws h.answered; once = λ j. omega (arith, h.once j, waiters_left passes ws w j found) }
 
--- and of its link no more waits to be sent than before, nor of any other
+-- and the bound on what waits to be sent holds on, for its link and for any other
 pub pending_left : (passes : Deferral → Bool) (ws : List Deferral) (w : Deferral) (k : ℕ) (l : LinkState) → find passes ws ≡ Some w → IsPending k ws l → IsPending k (without_first passes ws) l
 pending_left passes ws w k l found h = omega (arith, h, waiters_left passes ws w k found)
 
@@ -167,7 +167,7 @@ room_found passes s w found h = (
 )
 
 -- a link leaves
-pub room_dropped : (k : ℕ) (cause : Why) (p : OpenLink) → RoomOf k p → RoomOf k (dropped k cause p)
+pub room_dropped : (k : ℕ) (cause : Why) (p : OpenLink) → RoomOf k p → RoomOf k (drop_link k cause p)
 room_dropped k cause p h =
     let ws = p.environment.waiting in
     let once : (j : ℕ) → waiters j (without_waiter k ws) ≤ 1 = λ j. omega (arith, h.0.once j, waiters_fewer ws k j) in (
@@ -177,7 +177,7 @@ room_dropped k cause p h =
 
 -- Requests
 
--- a link of which no request waits is answered, or begins to wait
+-- a link without a deferred request is answered, or its request is deferred
 pends : (n waits : ℕ) → waits ≡ 0 → n ≤ perform_limit → n + longest_message * waits ≤ most_pending
 pends n waits none low = omega (arith, none, low)
 
@@ -205,7 +205,7 @@ pends_waiting k d n deferred ws none low =
 
 request_room : (k : ℕ) (request : Asked) (p : OpenLink) → most_asked request ≤ longest_frame → has_deferral p.environment.waiting k ≡ false → length p.link.pending ≤ perform_limit → RoomOf k p → RoomOf k (perform k request p)
 request_room k request p short idle low h =
-    let q = open_link p.environment (request_counted p.link) in
+    let q = open_link p.environment (count_request p.link) in
     let ds = p.environment.devices in
     let ws = p.environment.waiting in
     let none = waiters_none ws k idle in
@@ -215,10 +215,10 @@ request_room k request p short idle low h =
     (λ d device f bytes few there l. (room_requested k d f ds ws device there l h.0, pends_more p.link.pending bytes (waiters k ws) none low few))
     (λ d device deferred there w. (room_waits k d deferred ds ws device there w none h.0, pends_waiting k d (length p.link.pending) deferred ws none low)) request short
 
--- What stands at the front of a link's input
+-- The front of a link's input
 
 module _ (k : ℕ) (p : OpenLink) (idle : has_deferral p.environment.waiting k ≡ false) (low : length p.link.pending ≤ perform_limit) (h : RoomOf k p) where
-  asked_room : (o : Option Asked) (n : ℕ) → asked_in p.link.order (take n p.link.rest) ≡ o → frame_front p.link.order p.link.rest ≡ Frame n → RoomOf k (requested k o (open_link p.environment (without_front n p.link)))
+  asked_room : (o : Option Asked) (n : ℕ) → asked_in p.link.order (take n p.link.rest) ≡ o → frame_front p.link.order p.link.rest ≡ Frame n → RoomOf k (make_request k o (open_link p.environment (without_front n p.link)))
   asked_room None n asked e = h
   asked_room (Some request) n asked e = request_room k request (open_link p.environment (without_front n p.link)) (frame_asks p.link.order p.link.rest n request e asked) idle low h
 
@@ -267,7 +267,7 @@ advance_room k p h = by_room (length p.link.rest) k p h
 
 -- Completions
 
--- a link of which a request less waits is answered
+-- a link with one deferred request less is answered
 answers_more : (pending bytes : List ℕ) (waits : ℕ) → length pending + longest_message * suc waits ≤ most_pending → length bytes ≤ longest_message → length (pending ++ bytes) + longest_message * waits ≤ most_pending
 answers_more pending bytes waits h few = omega (arith, h, few, length-append pending bytes)
 
@@ -287,8 +287,8 @@ room_complete passes ds ws said l w x found there h pending =
     let k = w.link in
     let fewer = without_first passes ws in
     let p : OpenLink = open_link (record { devices = ds; waiting = fewer; said = said }) l in
-    let q = in_devices w.device (completing k w.deferred) p in
-    let room : HasRoom q.environment.devices fewer = room_with w.device (completing k w.deferred) ds fewer (λ y is. refl) (room_left passes ds ws w found h) in
+    let q = in_devices w.device (complete_deferred k w.deferred) p in
+    let room : HasRoom q.environment.devices fewer = room_with w.device (complete_deferred k w.deferred) ds fewer (λ y is. refl) (room_left passes ds ws w found h) in
     let own : cond {A = ℕ} (k == k) 1 0 ≡ 1 = ap (λ t. cond {A = ℕ} t 1 0) (same_number k) in
     let one : suc (waiters k fewer) ≡ waiters k ws = omega (arith, own, waiters_left passes ws w k found) in
     subst (λ o. RoomOf k (complete_for w o p)) (sym there)

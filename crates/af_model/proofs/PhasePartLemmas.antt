@@ -1,4 +1,4 @@
--- What a phase takes off the front of a log is a part, whatever follows it: one way in for all laws of whole runs.
+-- What a phase takes off the front of a log is a part, whatever follows it. All laws of whole runs begin here.
 use Rattle.std.proofs.Common.{◌≡◌, ℕ, ◌*◌, ◌==◌, Bool, true, false, not, cond, ◌&&◌, List, [], ◌∷◌, ◌++◌, length, refl, sym, ap, ◌∙◌, subst, eqb-true, append_assoc}
 use Rattle.std.specs.declared.option.Option.{Option}
 use Rattle.std.specs.declared.option.Option.TheVariants.{None, Some}
@@ -12,11 +12,11 @@ use Rattle.af_world.specs.Outside.{same_bytes}
 use Rattle.af_model.specs.State.{State, DeviceState, OpenLink, SlotLink, link_in_slot}
 use Rattle.af_model.specs.Waiting.{has_deferral}
 use Rattle.af_model.specs.Tick.{captured_samples, sound, tick}
-use Rattle.af_model.specs.Events.{hook_given, hook_refused}
-use Rattle.af_model.specs.Turn.{Parsed, accept, parse_then, and_then, parse_one, wants_read, is_read, read_by, read_phase, after_read, wants_write, write_by, write_phase, close_due, close_by, close_for, close_phase, same_flag, same_why, is_capture, capture_by, emit_by, after_capture, hook_wanted, hook_by, hook_for}
+use Rattle.af_model.specs.Events.{after_hook, after_hook_failure}
+use Rattle.af_model.specs.Turn.{Parsed, accept, parse_then, and_then, parse_one, wants_read, is_read, read_by, read_phase, after_read, wants_write, write_by, write_phase, close_due, close_by, close_for, close_phase, same_flag, same_why, is_capture, capture_by, emit_by, after_capture, wanted_hook, hook_by, hook_for}
 use Rattle.af_model.proofs.BoolTestLemmas.{both-true, cond-some, none_some, some_is, same_bytes-true, same_why-true}
 
--- the part, which is taken whatever follows it, and what holds of it and of what is behind it
+-- the part, which is taken whatever follows it, and what holds of it and of what comes after it
 pub record Taken {T : Type 0} (f : Log → Option (Parsed T)) (M : Log → T → Type 0) (log : Log) (b : Parsed T) : Type 0 where
   pub part : Log
   pub whole : log ≡ part ++ b.log
@@ -64,7 +64,7 @@ module _ {S T : Type 0} where
       }
 
 module _ {S T U : Type 0} where
-  -- the same, where what holds of both phases is joined
+  -- the same, if what holds of both phases is joined
   pub takes_chain : (f : S → Log → Option (Parsed T)) (g : T → Log → Option (Parsed U)) (A : S → Log → T → Type 0) (B : T → Log → U → Type 0) (C : S → Log → U → Type 0) →
       ((s : S) (p : Log) (t : T) (q : Log) (u : U) → A s p t → B t q u → C s (p ++ q) u) → ((s : S) → Takes (f s) (A s)) → ((t : T) → Takes (g t) (B t)) → (s : S) → Takes (λ log. parse_then (f s log) g) (C s)
   takes_chain f g A B C joins tf tg s = takes_then (f s) g (A s) (C s) (tf s) (λ part t a. takes_map (g t) (B t) (λ more u. C s (part ++ more) u) (λ more u b. joins s part t more u a b) (tg t))
@@ -198,7 +198,7 @@ module _ (d n : ℕ) (device : DeviceState) (s : State) (M : Log → State → T
 -- Hooks
 
 module _ (d : ℕ) (device : DeviceState) (s : State) (M : Log → State → Type 0) (rests : M [] s)
-    (hooks : (wanted off done : Bool) → M (Hooked d wanted done ∷ []) (cond done (hook_given off d device s) (hook_refused d s))) where
+    (hooks : (wanted off done : Bool) → M (Hooked d wanted done ∷ []) (cond done (after_hook off d device s) (after_hook_failure d s))) where
   hook_one : (off : Bool) (h : Happening) (t : State) → hook_by d off device s h ≡ Some t → M (h ∷ []) t
   hook_one off (Woke wake) t e = absurd (none_some e)
   hook_one off (Read j got) t e = absurd (none_some e)
@@ -207,13 +207,13 @@ module _ (d : ℕ) (device : DeviceState) (s : State) (M : Log → State → Typ
   hook_one off (Captured j n got) t e = absurd (none_some e)
   hook_one off (Emitted j out done) t e = absurd (none_some e)
   hook_one off (Hooked j wanted done) t e =
-      let i = cond-some (j == d && same_flag wanted off) (Some (cond done (hook_given off d device s) (hook_refused d s))) t e in
+      let i = cond-some (j == d && same_flag wanted off) (Some (cond done (after_hook off d device s) (after_hook_failure d s))) t e in
       let both = both-true (j == d) (same_flag wanted off) i.0 in
-      subst (λ q. M (Hooked j wanted done ∷ []) q) (some_is i.1) (subst (λ n. M (Hooked n wanted done ∷ []) (cond done (hook_given off d device s) (hook_refused d s))) (sym (eqb-true j d both.0)) (hooks wanted off done))
+      subst (λ q. M (Hooked j wanted done ∷ []) q) (some_is i.1) (subst (λ n. M (Hooked n wanted done ∷ []) (cond done (after_hook off d device s) (after_hook_failure d s))) (sym (eqb-true j d both.0)) (hooks wanted off done))
 
-  pub hook_takes : Takes (hook_for d device (hook_wanted device) s) M
+  pub hook_takes : Takes (hook_for d device (wanted_hook device) s) M
   hook_takes =
-      elim (hook_wanted device) as (λ o. Takes (hook_for d device o s) M) [
+      elim (wanted_hook device) as (λ o. Takes (hook_for d device o s) M) [
         | None ↦ takes_nothing s M rests
         | Some off ↦ takes_one (hook_by d off device s) M (hook_one off)
       ]

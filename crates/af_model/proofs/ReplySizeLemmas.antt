@@ -8,7 +8,7 @@ use Rattle.af_sample.specs.declared.sample_type.SampleType.{SampleType}
 use Rattle.af_sample.specs.Gains.{gained}
 use Rattle.af_sample.specs.SampleTypes.{frame_bytes, width_of}
 use Rattle.af_sample.specs.Samples.{bytes_of, encoded}
-use Rattle.af_sample.specs.Window.{recorded as recorded_sample, window}
+use Rattle.af_sample.specs.Window.{recorded_sample, window}
 use Rattle.af_sample.proofs.RunLemmas.{length-encoded}
 use Rattle.af_context.specs.declared.Context.{Context}
 use Rattle.af_wire.specs.declared.order.Order.{Order}
@@ -23,7 +23,7 @@ use Rattle.af_model.specs.Reply.{horizon_of, reply_message}
 use Rattle.af_model.specs.Play.{frames_of}
 use Rattle.af_model.specs.Record.{frames_before_now, given_frames, recorded_bytes}
 
--- an answer that tells no more than eight devices, and has no more samples than a record may have
+-- an answer that states at most eight devices, and has at most the samples of a record
 abbrev pub IsShortAnswer : Answer → Type 0
 IsShortAnswer (setup devices) = length devices ≤ most_devices
 IsShortAnswer (recorded now samples) = length samples ≤ longest_record
@@ -74,7 +74,7 @@ recorded_size c device start n =
     turned : (channels n w : ℕ) → channels * n * w ≡ n * (w * channels)
     turned channels n w = grind arith
 
--- a record that is answered at once has no more than it may have
+-- a record that is answered at once has at most what it may have
 pub given_short : (blocking : Bool) (c : Context) (device : DeviceState) (from bytes start : ℕ) → bytes ≤ longest_record → length (recorded_bytes c device start (given_frames blocking device from (frames_of device.channels c bytes))) ≤ longest_record
 given_short blocking c device from bytes start few =
     let size = frame_bytes c.ty device.channels in

@@ -1,4 +1,4 @@
--- Small runs, computed: two channels, the other order, a record that waits, and an event that finds no room.
+-- Small runs, computed: two channels, the other byte order, a deferred record, and an event that finds no room.
 use Rattle.std.proofs.Common.{◌≡◌, ℕ, true, false, List, [], ◌∷◌, ◌++◌, is_some, cond, map, refl, replicate, ◌^◌, ◌+◌, ℤ, pos, negsuc, slice_get, sym, subst}
 use Rattle.std.specs.declared.option.Option.{Option}
 use Rattle.std.specs.declared.option.Option.TheVariants.{None, Some}
@@ -6,9 +6,9 @@ use Rattle.af_time.specs.DeviceTime.{unwrap}
 use Rattle.af_sample.specs.declared.sample_type.SampleType.TheVariants.{Lin16}
 use Rattle.af_sample.proofs.MultiplierLemmas.{multiplier_is}
 use Rattle.af_sample.specs.Gains.{multiplier, scaled}
-use Rattle.af_sample.specs.Heard.{heard, heard_from}
+use Rattle.af_sample.specs.Heard.{heard_sample, heard_from}
 use Rattle.af_sample.specs.Samples.{bytes_of, samples}
-use Rattle.af_sample.specs.Window.{recorded}
+use Rattle.af_sample.specs.Window.{recorded_sample}
 use Rattle.af_wire.specs.declared.order.Order.TheVariants.{Little}
 use Rattle.af_wire.specs.Event.{event_bytes}
 use Rattle.af_wire.specs.Message.{error, head}
@@ -19,7 +19,7 @@ use Rattle.af_world.specs.declared.happening.Wake.TheVariants.{Opened, Readable,
 use Rattle.af_world.specs.declared.happening.Why.TheVariants as why
 use Rattle.af_world.specs.declared.script.DeviceSpec.{DeviceSpec}
 use Rattle.af_world.specs.Log.{Log}
-use Rattle.af_model.specs.State.{State, DeviceState, closed_slot, opened, opening, opening_device, slot_at}
+use Rattle.af_model.specs.State.{State, DeviceState, closed_slot, new_link_state, opening_state, opening_device, slot_at}
 use Rattle.af_model.specs.Reply.{reply_message}
 use Rattle.af_model.specs.ContextRequests.{creation_refusal}
 use Rattle.af_model.specs.Record.{record_refusal, recorded_bytes}
@@ -64,7 +64,7 @@ stereo_played = 1 ∷ 6 ∷ 0 ∷ 2 ∷ 0 ∷ 0 ∷ 0 ∷ 1 ∷ 0 ∷ 0 ∷ 0 �
 abbrev stereo : Log
 stereo = Woke (Opened 0) ∷ Woke (Readable 0) ∷ Read 0 (Given (setup ++ creates 2 ++ stereo_plays)) ∷ Wrote 0 60 (Some (setup_reply 2 ++ created ++ stereo_played)) ∷ []
 
--- the device behind it, by what a gain of 0 makes of the samples
+-- the device after that, by what a gain of 0 makes of the samples
 abbrev stereo_device : ℕ → DeviceState
 stereo_device unity = record (opening_device (device_spec 2)) {
   accepted = record { start = 2 ^ 32; samples = scaled unity (pos 7) ∷ scaled unity (pos 9) ∷ scaled unity (pos 1) ∷ scaled unity (negsuc 0) ∷ []; preempt = false; at = 2 ^ 32 }
@@ -84,9 +84,9 @@ stereo_accepted : device_in (end_state (config 2) stereo) ≡ Some (stereo_devic
 unfolding end_state turn wake_phase serve_from serve_link read_phase close_phase hook_from advance complete_due reply_message head creation_refusal samples unwrap
 stereo_accepted = subst (λ m. device_in (end_state (config 2) stereo) ≡ Some (stereo_device m)) unity refl
 
--- each channel is mixed with itself alone
+-- each channel is mixed only with itself
 stereo_sound : sound (stereo_device 1024) 2 ≡ 0 ∷ 7 ∷ 0 ∷ 9 ∷ 0 ∷ 11 ∷ 0 ∷ 19 ∷ []
-unfolding heard
+unfolding heard_sample
 stereo_sound = subst (λ m. bytes_of Lin16 (map (scaled m) (heard_from 2 (stereo_device 1024).accepted (2 ^ 32) 2)) ≡ 0 ∷ 7 ∷ 0 ∷ 9 ∷ 0 ∷ 11 ∷ 0 ∷ 19 ∷ []) (sym unity) refl
 
 -- a tick of two frames captures four samples and hands out eight bytes
@@ -100,11 +100,11 @@ stereo_tick s more =
     (sym stereo_sound) refl
 
 -- the second frame of the right channel is the last of them
-stereo_recorded : recorded 2 (pos 3 ∷ pos 4 ∷ pos 5 ∷ pos 6 ∷ []) (2 ^ 32) (2 ^ 32 + 2) 32000 (2 ^ 32 + 1) 1 ≡ pos 6
-unfolding recorded
+stereo_recorded : recorded_sample 2 (pos 3 ∷ pos 4 ∷ pos 5 ∷ pos 6 ∷ []) (2 ^ 32) (2 ^ 32 + 2) 32000 (2 ^ 32 + 1) 1 ≡ pos 6
+unfolding recorded_sample
 stereo_recorded = refl
 
--- A link whose setup is in the other order, of a version 2: the error has that order, and says which version
+-- A link whose setup is in the other byte order, with a version 2: the error has that order, and says which version
 abbrev little : List ℕ → Log
 little told = Woke (Opened 0) ∷ Woke (Readable 0) ∷ Read 0 (Given (0x41 ∷ 0x46 ∷ 0x6C ∷ 0 ∷ 2 ∷ 0 ∷ 0 ∷ 0 ∷ [])) ∷ Wrote 0 16 (Some told) ∷ Closed 0 why.BadSetup ∷ []
 
@@ -119,8 +119,8 @@ little_other = refl
 little_cause : (told : List ℕ) → IsCause why.BadSetup (history 0 (little told)) 0
 little_cause told = (record { failed = refl; ended = refl; all_taken = refl }, Little, 2, refl)
 
--- Behind a CreateAC and a SetControls that switches the output off, a record of two frames from time 0 on waits, and a GetTime behind
--- it. The link took 28 bytes and is stuck.
+-- After a CreateAC and a SetControls that switches the output off, a record of two frames from time 0 on is deferred, and a
+-- GetTime follows it. The link took 28 bytes and is blocked.
 abbrev records : List ℕ
 records = setup ++ creates 1 ++ 9 ∷ 0 ∷ 0 ∷ 3 ∷ 8 ∷ 0 ∷ 0 ∷ 0 ∷ 0 ∷ 0 ∷ 0 ∷ 0 ∷ 7 ∷ 1 ∷ 0 ∷ 4 ∷ 0 ∷ 0 ∷ 0 ∷ 1 ∷ 0 ∷ 0 ∷ 0 ∷ 0 ∷ 0 ∷ 0 ∷ 0 ∷ 4 ∷ 2 ∷ 0 ∷ 0 ∷ 1 ∷ []
 
@@ -135,25 +135,25 @@ abbrev said_in : Option State → List ℕ
 said_in None = []
 said_in (Some s) = (slot_at 0 s).said
 
--- what is said to it while it waits
+-- what is queued for it while it waits
 abbrev said_before : List ℕ
 said_before = setup_reply 1 ++ created ++ 1 ∷ 9 ∷ 0 ∷ 2 ∷ 0 ∷ 0 ∷ 0 ∷ 0 ∷ []
 
 still_waits : said_in (end_state (config 1) waits) ≡ said_before
-unfolding end_state turn wake_phase serve_from serve_link read_phase close_phase hook_from advance complete_due reply_message head creation_refusal controls_refusal samples unwrap record_refusal recorded_bytes recorded
+unfolding end_state turn wake_phase serve_from serve_link read_phase close_phase hook_from advance complete_due reply_message head creation_refusal controls_refusal samples unwrap record_refusal recorded_bytes recorded_sample
 still_waits = refl
 
--- then both frames, and the time behind them
+-- then both frames, and the time after them
 completed : said_in (end_state (config 1) completes) ≡ said_before ++ 1 ∷ 7 ∷ 0 ∷ 3 ∷ 0 ∷ 0 ∷ 0 ∷ 3 ∷ 0 ∷ 0 ∷ 0 ∷ 2 ∷ 0 ∷ 0 ∷ 0 ∷ 4 ∷ 0 ∷ 10 ∷ 0 ∷ 11 ∷ 1 ∷ 2 ∷ 0 ∷ 4 ∷ 0 ∷ 0 ∷ 0 ∷ 1 ∷ 0 ∷ 0 ∷ 0 ∷ 2 ∷ []
-unfolding end_state turn wake_phase serve_from serve_link read_phase close_phase hook_from advance complete_due reply_message head creation_refusal controls_refusal samples unwrap record_refusal recorded_bytes recorded
+unfolding end_state turn wake_phase serve_from serve_link read_phase close_phase hook_from advance complete_due reply_message head creation_refusal controls_refusal samples unwrap record_refusal recorded_bytes recorded_sample
 completed =
     subst (λ m. said_in (end_state (config 1) completes) ≡ said_before ++ 1 ∷ 7 ∷ 0 ∷ 3 ∷ 0 ∷ 0 ∷ 0 ∷ 3 ∷ 0 ∷ 0 ∷ 0 ∷ 2 ∷ 0 ∷ 0 ∷ 0 ∷ 4 ∷ (bytes_of Lin16 (scaled m (scaled m (pos 10)) ∷ scaled m (scaled m (pos 11)) ∷ []) ++ 1 ∷ 2 ∷ 0 ∷ 4 ∷ 0 ∷ 0 ∷ 0 ∷ 1 ∷ 0 ∷ 0 ∷ 0 ∷ 2 ∷ [])) unity refl
 
--- A link that selects digits, and to which so many bytes wait to be sent. An event has 20: beside 49132 it finds room, and beside one
--- more it does not.
+-- A link that selects digits, with so many bytes to be sent. An event has 20: beside 49132 it finds room, and beside one more it
+-- does not.
 abbrev owed : ℕ → State
-owed n = record (opening (record (device_spec 1) { line = true } ∷ [])) {
-  slots = record { link = Some (record opened { is_set_up = true; pending = replicate n 0; is_stuck = true; selections = 8 ∷ replicate 7 0 }); said = [] } ∷ replicate 31 closed_slot;
+owed n = record (opening_state (record (device_spec 1) { line = true } ∷ [])) {
+  slots = record { link = Some (record new_link_state { is_set_up = true; pending = replicate n 0; is_stuck = true; selections = 8 ∷ replicate 7 0 }); said = [] } ∷ replicate 31 closed_slot;
 }
 
 told : is_some (turn (owed 49132) (Woke (Line 0 (Digit 0x35)) ∷ [])) ≡ true

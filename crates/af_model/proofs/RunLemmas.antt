@@ -6,8 +6,8 @@ use Rattle.af_world.specs.declared.happening.Happening.TheVariants.{Woke, Read, 
 use Rattle.af_world.specs.declared.script.DeviceSpec.{DeviceSpec}
 use Rattle.af_world.specs.declared.script.Step.{Step}
 use Rattle.af_world.specs.Log.{Log}
-use Rattle.af_world.specs.Outside.{Outside, answered_as_stated, replayed, then_outside, stepped}
-use Rattle.af_model.specs.State.{State, opening}
+use Rattle.af_world.specs.Outside.{Outside, outside_after_happening, outside_after_log, then_outside, outside_after_step}
+use Rattle.af_model.specs.State.{State, opening_state}
 use Rattle.af_model.specs.Turn.{Parsed, IsTurn}
 use Rattle.af_model.specs.Run.{wakes, end_by, end_state, then_end, IsRun}
 use Rattle.af_model.specs.Script.{AnswersTo}
@@ -37,35 +37,35 @@ abbrev pub TurnsTo : State → List Log → State → Type 0
 TurnsTo s [] end = end ≡ s
 TurnsTo s (part ∷ parts) end = (mid : State) × OneTurn s part mid × TurnsTo mid parts end
 
-abbrev pub joined : List Log → Log
-joined [] = []
-joined (part ∷ parts) = part ++ joined parts
+abbrev pub log_of_parts : List Log → Log
+log_of_parts [] = []
+log_of_parts (part ∷ parts) = part ++ log_of_parts parts
 
 pub turns_more : (s mid end : State) (parts : List Log) (part : Log) → TurnsTo s parts mid → OneTurn mid part end → TurnsTo s (parts ++ part ∷ []) end
 turns_more s mid end [] part e one = (end, subst (λ t. OneTurn t part end) e one, refl)
 turns_more s mid end (p ∷ parts) part h one = (h.0, h.1, turns_more h.0 mid end parts part h.2 one)
 
-pub joined-more : (parts : List Log) (part : Log) → joined (parts ++ part ∷ []) ≡ joined parts ++ part
-joined-more [] part = append-nil part
-joined-more (p ∷ parts) part = ap (λ l. p ++ l) (joined-more parts part) ∙ sym (append_assoc p (joined parts) part)
+pub log_of_parts-more : (parts : List Log) (part : Log) → log_of_parts (parts ++ part ∷ []) ≡ log_of_parts parts ++ part
+log_of_parts-more [] part = append-nil part
+log_of_parts-more (p ∷ parts) part = ap (λ l. p ++ l) (log_of_parts-more parts part) ∙ sym (append_assoc p (log_of_parts parts) part)
 
-wakes-joined : (s end : State) (parts : List Log) → TurnsTo s parts end → wakes (joined parts) ≡ length parts
-wakes-joined s end [] h = refl
-wakes-joined s end (p ∷ parts) h = let e = wakes-joined h.0 end parts h.2 in let one = h.1.one in wakes-append p (joined parts) ∙ omega arith
+wakes-log_of_parts : (s end : State) (parts : List Log) → TurnsTo s parts end → wakes (log_of_parts parts) ≡ length parts
+wakes-log_of_parts s end [] h = refl
+wakes-log_of_parts s end (p ∷ parts) h = let e = wakes-log_of_parts h.0 end parts h.2 in let one = h.1.one in wakes-append p (log_of_parts parts) ∙ omega arith
 
-turns_end : (s end : State) (parts : List Log) → TurnsTo s parts end → end_by (length parts) s (joined parts) ≡ Some end
+turns_end : (s end : State) (parts : List Log) → TurnsTo s parts end → end_by (length parts) s (log_of_parts parts) ≡ Some end
 turns_end s end [] h = ap (λ t. Some t) (sym h)
-turns_end s end (p ∷ parts) h = ap (λ x. then_end x (end_by (length parts))) (h.1.is_turn (joined parts)) ∙ turns_end h.0 end parts h.2
+turns_end s end (p ∷ parts) h = ap (λ x. then_end x (end_by (length parts))) (h.1.is_turn (log_of_parts parts)) ∙ turns_end h.0 end parts h.2
 
-pub turns_end_state : (config : List DeviceSpec) (end : State) (parts : List Log) → TurnsTo (opening config) parts end → end_state config (joined parts) ≡ Some end
+pub turns_end_state : (config : List DeviceSpec) (end : State) (parts : List Log) → TurnsTo (opening_state config) parts end → end_state config (log_of_parts parts) ≡ Some end
 unfolding end_state
-turns_end_state config end parts h = ap (λ n. end_by n (opening config) (joined parts)) (wakes-joined (opening config) end parts h) ∙ turns_end (opening config) end parts h
+turns_end_state config end parts h = ap (λ n. end_by n (opening_state config) (log_of_parts parts)) (wakes-log_of_parts (opening_state config) end parts h) ∙ turns_end (opening_state config) end parts h
 
 -- they are a run
-pub turns_run : (config : List DeviceSpec) (end : State) (parts : List Log) → TurnsTo (opening config) parts end → IsRun config (joined parts)
+pub turns_run : (config : List DeviceSpec) (end : State) (parts : List Log) → TurnsTo (opening_state config) parts end → IsRun config (log_of_parts parts)
 unfolding end_state
 turns_run config end parts h =
-    ap (λ n. is_some (end_by n (opening config) (joined parts))) (wakes-joined (opening config) end parts h) ∙ ap is_some (turns_end (opening config) end parts h)
+    ap (λ n. is_some (end_by n (opening_state config) (log_of_parts parts))) (wakes-log_of_parts (opening_state config) end parts h) ∙ ap is_some (turns_end (opening_state config) end parts h)
 
 -- a run begins with a turn
 pub run_inv : (x : Option (Parsed State)) (f : State → Log → Option State) (e : State) → then_end x f ≡ Some e → (b : Parsed State) × (x ≡ Some b) × (f b.state b.log ≡ Some e)
@@ -86,33 +86,33 @@ pub answers_more : (o mid end : Outside) (log more : Log) (steps steps' : List S
 answers_more o mid end [] more [] steps' a b = subst (λ x. AnswersTo x more steps' end) a b
 answers_more o mid end [] more (s ∷ steps) steps' a b = absurd a
 answers_more o mid end (Woke wake ∷ log) more [] steps' a b = absurd a
-answers_more o mid end (Woke wake ∷ log) more (s ∷ steps) steps' a b = (a.0, answers_more (stepped o s) mid end log more steps steps' a.1 b)
+answers_more o mid end (Woke wake ∷ log) more (s ∷ steps) steps' a b = (a.0, answers_more (outside_after_step o s) mid end log more steps steps' a.1 b)
 answers_more o mid end (Read k got ∷ log) more steps steps' a b =
-    some_and-map (answered_as_stated o (Read k got)) (λ o. AnswersTo o log steps mid) (λ o. AnswersTo o (log ++ more) (steps ++ steps') end) (λ o h. answers_more o mid end log more steps steps' h b) a
+    some_and-map (outside_after_happening o (Read k got)) (λ o. AnswersTo o log steps mid) (λ o. AnswersTo o (log ++ more) (steps ++ steps') end) (λ o h. answers_more o mid end log more steps steps' h b) a
 answers_more o mid end (Wrote k offered took ∷ log) more steps steps' a b =
-    some_and-map (answered_as_stated o (Wrote k offered took)) (λ o. AnswersTo o log steps mid) (λ o. AnswersTo o (log ++ more) (steps ++ steps') end) (λ o h. answers_more o mid end log more steps steps' h b) a
+    some_and-map (outside_after_happening o (Wrote k offered took)) (λ o. AnswersTo o log steps mid) (λ o. AnswersTo o (log ++ more) (steps ++ steps') end) (λ o h. answers_more o mid end log more steps steps' h b) a
 answers_more o mid end (Closed k why ∷ log) more steps steps' a b =
-    some_and-map (answered_as_stated o (Closed k why)) (λ o. AnswersTo o log steps mid) (λ o. AnswersTo o (log ++ more) (steps ++ steps') end) (λ o h. answers_more o mid end log more steps steps' h b) a
+    some_and-map (outside_after_happening o (Closed k why)) (λ o. AnswersTo o log steps mid) (λ o. AnswersTo o (log ++ more) (steps ++ steps') end) (λ o h. answers_more o mid end log more steps steps' h b) a
 answers_more o mid end (Captured d n got ∷ log) more steps steps' a b =
-    some_and-map (answered_as_stated o (Captured d n got)) (λ o. AnswersTo o log steps mid) (λ o. AnswersTo o (log ++ more) (steps ++ steps') end) (λ o h. answers_more o mid end log more steps steps' h b) a
+    some_and-map (outside_after_happening o (Captured d n got)) (λ o. AnswersTo o log steps mid) (λ o. AnswersTo o (log ++ more) (steps ++ steps') end) (λ o h. answers_more o mid end log more steps steps' h b) a
 answers_more o mid end (Emitted d sound done ∷ log) more steps steps' a b =
-    some_and-map (answered_as_stated o (Emitted d sound done)) (λ o. AnswersTo o log steps mid) (λ o. AnswersTo o (log ++ more) (steps ++ steps') end) (λ o h. answers_more o mid end log more steps steps' h b) a
+    some_and-map (outside_after_happening o (Emitted d sound done)) (λ o. AnswersTo o log steps mid) (λ o. AnswersTo o (log ++ more) (steps ++ steps') end) (λ o h. answers_more o mid end log more steps steps' h b) a
 answers_more o mid end (Hooked d off done ∷ log) more steps steps' a b =
-    some_and-map (answered_as_stated o (Hooked d off done)) (λ o. AnswersTo o log steps mid) (λ o. AnswersTo o (log ++ more) (steps ++ steps') end) (λ o h. answers_more o mid end log more steps steps' h b) a
+    some_and-map (outside_after_happening o (Hooked d off done)) (λ o. AnswersTo o log steps mid) (λ o. AnswersTo o (log ++ more) (steps ++ steps') end) (λ o h. answers_more o mid end log more steps steps' h b) a
 
 -- what is replayed without a wake is answered within one step
-pub replayed_answers : (o end : Outside) (log : Log) → wakes log ≡ 0 → replayed o log ≡ Some end → AnswersTo o log [] end
+pub replayed_answers : (o end : Outside) (log : Log) → wakes log ≡ 0 → outside_after_log o log ≡ Some end → AnswersTo o log [] end
 replayed_answers o end [] w e = let same : o ≡ end = cc in sym same
 replayed_answers o end (Woke wake ∷ log) w e = absurd cc
 replayed_answers o end (Read k got ∷ log) w e =
-    then_some_and (answered_as_stated o (Read k got)) (λ o. replayed o log) end (λ o. AnswersTo o log [] end) (λ o h. replayed_answers o end log w h) e
+    then_some_and (outside_after_happening o (Read k got)) (λ o. outside_after_log o log) end (λ o. AnswersTo o log [] end) (λ o h. replayed_answers o end log w h) e
 replayed_answers o end (Wrote k offered took ∷ log) w e =
-    then_some_and (answered_as_stated o (Wrote k offered took)) (λ o. replayed o log) end (λ o. AnswersTo o log [] end) (λ o h. replayed_answers o end log w h) e
+    then_some_and (outside_after_happening o (Wrote k offered took)) (λ o. outside_after_log o log) end (λ o. AnswersTo o log [] end) (λ o h. replayed_answers o end log w h) e
 replayed_answers o end (Closed k why ∷ log) w e =
-    then_some_and (answered_as_stated o (Closed k why)) (λ o. replayed o log) end (λ o. AnswersTo o log [] end) (λ o h. replayed_answers o end log w h) e
+    then_some_and (outside_after_happening o (Closed k why)) (λ o. outside_after_log o log) end (λ o. AnswersTo o log [] end) (λ o h. replayed_answers o end log w h) e
 replayed_answers o end (Captured d n got ∷ log) w e =
-    then_some_and (answered_as_stated o (Captured d n got)) (λ o. replayed o log) end (λ o. AnswersTo o log [] end) (λ o h. replayed_answers o end log w h) e
+    then_some_and (outside_after_happening o (Captured d n got)) (λ o. outside_after_log o log) end (λ o. AnswersTo o log [] end) (λ o h. replayed_answers o end log w h) e
 replayed_answers o end (Emitted d sound done ∷ log) w e =
-    then_some_and (answered_as_stated o (Emitted d sound done)) (λ o. replayed o log) end (λ o. AnswersTo o log [] end) (λ o h. replayed_answers o end log w h) e
+    then_some_and (outside_after_happening o (Emitted d sound done)) (λ o. outside_after_log o log) end (λ o. AnswersTo o log [] end) (λ o h. replayed_answers o end log w h) e
 replayed_answers o end (Hooked d off done ∷ log) w e =
-    then_some_and (answered_as_stated o (Hooked d off done)) (λ o. replayed o log) end (λ o. AnswersTo o log [] end) (λ o h. replayed_answers o end log w h) e
+    then_some_and (outside_after_happening o (Hooked d off done)) (λ o. outside_after_log o log) end (λ o. AnswersTo o log [] end) (λ o h. replayed_answers o end log w h) e

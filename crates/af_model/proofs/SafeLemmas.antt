@@ -1,5 +1,5 @@
--- What holds between turns so that nothing is lost: each request that waits is due later than its device's time, and has not too many
--- samples. While a device ticks its requests may be due for as many frames as went by.
+-- What holds between turns so that nothing is lost: each deferred request is due later than its device's time, and has at most
+-- the samples that it may have. While a device ticks, its requests may be overdue by as many frames as went by.
 use Rattle.std.proofs.Common.{◌≡◌, ℕ, zero, suc, ◌+◌, ◌*◌, ◌==◌, ◌<◌, ◌≤◌, Bool, true, false, not, cond, List, [], ◌∷◌, length, slice_get, slice_set, refl, sym, ap, ◌∙◌, subst, arith}
 use Rattle.std.specs.List.{All, AllZip}
 use Rattle.std.proofs.Math.Nat.{div-le_self}
@@ -9,8 +9,8 @@ use Rattle.af_limits.specs.Limits.{longest_tick, longest_frame}
 use Rattle.af_wait.specs.Waits.{without_first}
 use Rattle.af_model.specs.State.{DeviceState, Deferral, Deferred, deferred_play, deferred_record, EnvironmentState, State, device_set, with_device}
 use Rattle.af_model.specs.Reply.{horizon_of}
-use Rattle.af_model.specs.Waiting.{due}
-use Rattle.af_model.specs.Tick.{completing}
+use Rattle.af_model.specs.Waiting.{due_time}
+use Rattle.af_model.specs.Tick.{complete_deferred}
 use Rattle.af_model.specs.Events.{without_waiter}
 use Rattle.af_model.specs.NoLoss.{IsWholeAt, LosesNone}
 use Rattle.af_model.proofs.BoolTestLemmas.{some_is}
@@ -23,13 +23,13 @@ pub record IsSafe (device : DeviceState) : Type 0 where
   pub rate : 8000 ≤ device.rate
   pub loses_none : LosesNone device
 
--- a request that is due no more than some frames ago
+-- a request that is not due yet, or has been for less than so many frames
 pub record IsAwaited (slack : ℕ) (device : DeviceState) (deferred : Deferred) : Type 0 where
-  pub soon : device.now < due device.channels (horizon_of device) deferred + slack
-  pub ever : 0 < due device.channels (horizon_of device) deferred
+  pub soon : device.now < due_time device.channels (horizon_of device) deferred + slack
+  pub ever : 0 < due_time device.channels (horizon_of device) deferred
   pub short : frames_deferred deferred ≤ longest_frame
 
--- of those that wait, the ones that wait for a device have slack
+-- of the deferred requests, those for a device have slack
 abbrev pub slack_for : ℕ → ℕ → Deferral → ℕ
 slack_for slack d w = cond (w.device == d) slack 0
 
@@ -74,14 +74,14 @@ abbrev pub SameClock : DeviceState → DeviceState → Type 0
 SameClock d e = (e.now ≡ d.now) × (e.rate ≡ d.rate) × (e.channels ≡ d.channels)
 
 -- requests are due at the same time of it
-pub due_alike : (a b : DeviceState) (deferred : Deferred) → b.rate ≡ a.rate → b.channels ≡ a.channels → due b.channels (horizon_of b) deferred ≡ due a.channels (horizon_of a) deferred
-due_alike a b deferred rate channels = ap (λ r. due b.channels (r * 4) deferred) rate ∙ ap (λ c. due c (horizon_of a) deferred) channels
+pub due_alike : (a b : DeviceState) (deferred : Deferred) → b.rate ≡ a.rate → b.channels ≡ a.channels → due_time b.channels (horizon_of b) deferred ≡ due_time a.channels (horizon_of a) deferred
+due_alike a b deferred rate channels = ap (λ r. due_time b.channels (r * 4) deferred) rate ∙ ap (λ c. due_time c (horizon_of a) deferred) channels
 
 awaited_alike : (slack : ℕ) (a b : DeviceState) (deferred : Deferred) → SameClock a b → IsAwaited slack a deferred → IsAwaited slack b deferred
 awaited_alike slack a b deferred same h =
     let at = due_alike a b deferred same.1 same.2 in
     record {
-      soon = subst (λ n. n < due b.channels (horizon_of b) deferred + slack) (sym same.0) (subst (λ n. a.now < n + slack) (sym at) h.soon);
+      soon = subst (λ n. n < due_time b.channels (horizon_of b) deferred + slack) (sym same.0) (subst (λ n. a.now < n + slack) (sym at) h.soon);
       ever = subst (λ n. 0 < n) (sym at) h.ever;
       short = h.short;
     }
@@ -129,15 +129,15 @@ safe_keeps k slack c = record {
 
 -- A request completes
 
--- one that is due no more than 4096 frames ago loses nothing
+-- a request that has been due for at most 4096 frames loses nothing
 whole_now : (device : DeviceState) (deferred : Deferred) (slack : ℕ) → slack ≤ longest_tick → 8000 ≤ device.rate → IsAwaited slack device deferred → IsWholeAt (horizon_of device) device.now deferred
 whole_now device (deferred_play quiet start sound preempt) slack few rate h = omega (arith, few, rate, h.soon, h.ever, h.short, div-le_self (length sound) device.channels)
 whole_now device (deferred_record c start frames) slack few rate h = omega (arith, few, rate, h.soon, h.ever, h.short)
 
 pub safe_completing : (slack c : ℕ) (w : Deferral) (ds : List DeviceState) (ws : List Deferral) → slack ≤ longest_tick → AwaitedIn slack c ds w → Safe slack c ds ws →
-    Safe slack c (with_device w.device (completing w.link w.deferred) ds) ws
+    Safe slack c (with_device w.device (complete_deferred w.link w.deferred) ds) ws
 safe_completing slack c w ds ws few one h =
-    safe_becomes slack c w.device (completing w.link w.deferred) ds ws (λ device there. (refl, refl, refl)) (λ device there safe. record {
+    safe_becomes slack c w.device (complete_deferred w.link w.deferred) ds ws (λ device there. (refl, refl, refl)) (λ device there safe. record {
       rate = safe.rate;
       loses_none = All-push (λ x. IsWholeAt (horizon_of device) x.at x.deferred) device.completed (record { link = w.link; deferred = w.deferred; at = device.now }) safe.loses_none
           (whole_now device w.deferred (slack_for slack c w) (within (w.device == c)) safe.rate (one device there));
@@ -147,7 +147,7 @@ safe_completing slack c w ds ws few one h =
     within true = few
     within false = omega arith
 
--- Fewer wait
+-- Fewer are deferred
 
 pub safe_fewer : (slack d : ℕ) (ds : List DeviceState) (ws vs : List Deferral) → ((P : Deferral → Type 0) → All P ws → All P vs) → Safe slack d ds ws → Safe slack d ds vs
 safe_fewer slack d ds ws vs less h = record { devices = h.devices; waiting = less (λ w. AwaitedIn slack d ds w) h.waiting }

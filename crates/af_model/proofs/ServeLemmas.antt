@@ -19,9 +19,9 @@ use Rattle.af_model.specs.State.{State, DeviceState, SlotState, LinkState, OpenL
 use Rattle.af_model.specs.Waiting.{has_deferral}
 use Rattle.af_model.specs.Advance.{advance, absorb, takes_more}
 use Rattle.af_model.specs.Tick.{enter}
-use Rattle.af_model.specs.Events.{dropped}
-use Rattle.af_model.specs.Turn.{accept, parse_then, wants_read, read_phase, after_read, wants_write, sent, write_by, write_offered, write_taken, write_phase, after_write, close_phase, serve_link, serve_open, serve_at, serve_from}
-use Rattle.af_model.specs.LinkHistory.{LinkHistory, noted, read_noted, write_noted}
+use Rattle.af_model.specs.Events.{drop_link}
+use Rattle.af_model.specs.Turn.{accept, parse_then, wants_read, read_phase, after_read, wants_write, send_pending, write_by, after_bytes_offered, after_bytes_taken, write_phase, after_write, close_phase, serve_link, serve_open, serve_at, serve_from}
+use Rattle.af_model.specs.LinkHistory.{LinkHistory, note_happening, note_read, note_write}
 use Rattle.af_model.specs.Dead.{fails_device, fails_line}
 use Rattle.af_model.specs.Offers.{IsOfferWithin}
 use Rattle.af_model.proofs.BoolTestLemmas.{both-true, cond-some, none_some, same_bytes-true, same_number, some_is}
@@ -35,7 +35,7 @@ use Rattle.af_model.proofs.SafeLemmas.{SafeIn, SafeState, safe_dropped}
 use Rattle.af_model.proofs.OwedBytesLemmas.{Moved, OwingAt, QueuedSlot, OwingLink, moved_of, queued_closed, queued_ended, queued_failed, queued_given, queued_taken, queueing_keeps, queueing_same, sending_undropped, own_left, still_waits, SameOthers}
 use Rattle.af_model.proofs.PhasePartLemmas.{Takes, close_takes, read_takes, takes_chain, takes_nothing, takes_then, write_takes}
 
--- A happening within a turn, behind its wake and its emit
+-- A happening within a turn, after its wake and its emit
 
 abbrev pub is_inner : Happening → Bool
 is_inner (Woke wake) = false
@@ -52,15 +52,15 @@ inner-append (h ∷ p) q a b = let both = both-true (is_inner h) (inner p) a in 
 
 -- One link
 
--- What serving link j makes of it and its environment, and of its history: what is queued for it and what its history shows stay so; of
--- other links nothing is shown, and they wait as they did; no device and no line fails; nothing that waits is due; and no write offers
--- more than may wait to be sent.
+-- What serving link j makes of it, its environment and its history. What is queued for it and what its history shows stay so. Of
+-- other links nothing is shown, and their deferred requests stay. No device and no line fails. No deferred request is due. No
+-- write offers more than may wait to be sent.
 pub record Served (j : ℕ) (d : SlotLink) (part : Log) (e : SlotLink) : Type 0 where
   pub inside : inner part ≡ true
   pub alive : NoneFails part
   pub devices : AllLive d.environment.devices e.environment.devices
-  pub own : (g : LinkHistory) → QueuedSlot j g d → QueuedSlot j (fold (noted j) g part) e
-  pub others : (k : ℕ) → (j == k) ≡ false → (g : LinkHistory) → fold (noted k) g part ≡ g
+  pub own : (g : LinkHistory) → QueuedSlot j g d → QueuedSlot j (fold (note_happening j) g part) e
+  pub others : (k : ℕ) → (j == k) ≡ false → (g : LinkHistory) → fold (note_happening k) g part ≡ g
   pub waits : SameOthers j d.environment.waiting e.environment.waiting
   pub safe : SafeIn 0 0 d.environment → SafeIn 0 0 e.environment
   pub room : RoomOfSlot j d → RoomOfSlot j e × All IsOfferWithin part
@@ -83,8 +83,8 @@ served_trans j a p b q c s t = record {
   inside = inner-append p q s.inside t.inside;
   alive = none_fails-append p q s.alive t.alive;
   devices = all_live_trans a.environment.devices b.environment.devices c.environment.devices s.devices t.devices;
-  own = λ g h. subst (λ x. QueuedSlot j x c) (sym (fold-append (noted j) g p q)) (t.own (fold (noted j) g p) (s.own g h));
-  others = λ k other g. fold-append (noted k) g p q ∙ t.others k other (fold (noted k) g p) ∙ s.others k other g;
+  own = λ g h. subst (λ x. QueuedSlot j x c) (sym (fold-append (note_happening j) g p q)) (t.own (fold (note_happening j) g p) (s.own g h));
+  others = λ k other g. fold-append (note_happening k) g p q ∙ t.others k other (fold (note_happening k) g p) ∙ s.others k other g;
   waits = t.waits ∙ s.waits;
   safe = λ h. t.safe (s.safe h);
   room = λ h. let x = s.room h in let y = t.room x.0 in (y.0, All-append IsOfferWithin p q x.1 y.1);
@@ -102,7 +102,7 @@ read_open k p w = takes_more_open (has_deferral p.environment.waiting k) p.link 
 -- what a read makes of a link and its environment, and of its history
 record HasRead (k : ℕ) (p : OpenLink) (got : ReadGot) (q : OpenLink) : Type 0 where
   devices : AllLive p.environment.devices q.environment.devices
-  own : (g : LinkHistory) → QueuedSlot k g (enter p) → QueuedSlot k (read_noted got g) (enter q)
+  own : (g : LinkHistory) → QueuedSlot k g (enter p) → QueuedSlot k (note_read got g) (enter q)
   waits : SameOthers k p.environment.waiting q.environment.waiting
   safe : SafeIn 0 0 p.environment → SafeIn 0 0 q.environment
   room : RoomOf k p → RoomOf k q
@@ -113,7 +113,7 @@ has_read k p (Given bytes) w =
     let q : OpenLink = open_link p.environment (record p.link { rest = p.link.rest ++ bytes }) in
     let m : Moved k q (advance k q) = moved_of k q (advance k q) (advanced_behind k q) (advance_room k q) (λ May I kept h. advance_keeps k May I kept q h) in
     let same : absorb k bytes p ≡ advance k q = ap (λ t. cond t (advance k q) p) (ap is_none none) in
-    subst (HasRead k p (Given bytes)) (sym same) (record { devices = m.devices; own = λ g h. (m.own (read_noted (Given bytes) g) (queued_given k g bytes p none h.0), advanced_behind k q); waits = m.others; safe = m.safe; room = λ h. m.room h })
+    subst (HasRead k p (Given bytes)) (sym same) (record { devices = m.devices; own = λ g h. (m.own (note_read (Given bytes) g) (queued_given k g bytes p none h.0), advanced_behind k q); waits = m.others; safe = m.safe; room = λ h. m.room h })
 has_read k p NotYet w =
     let none = read_open k p w in
     record {
@@ -147,8 +147,8 @@ served_got k p q got r = record {
   inside = refl;
   alive = λ c sofar. (refl, refl);
   devices = r.devices;
-  own = λ g h. subst (λ x. QueuedSlot k x (enter q)) (sym (ap (λ t. cond t (read_noted got g) g) (same_number k))) (r.own g h);
-  others = λ j other g. ap (λ t. cond t (read_noted got g) g) other;
+  own = λ g h. subst (λ x. QueuedSlot k x (enter q)) (sym (ap (λ t. cond t (note_read got g) g) (same_number k))) (r.own g h);
+  others = λ j other g. ap (λ t. cond t (note_read got g) g) other;
   waits = r.waits;
   safe = r.safe;
   room = λ h. (r.room h, All-from_recursion IsOfferWithin (Read k got ∷ []) (tt, tt));
@@ -160,7 +160,7 @@ served_read k p =
 
 -- Writes
 
--- bytes that are the first of others, and those behind them
+-- bytes that are the first of others, and those after them
 front_back : (xs ys : List ℕ) → same_bytes xs (take (length xs) ys) ≡ true → ys ≡ xs ++ drop (length xs) ys
 front_back xs ys e = sym (take-append-drop (length xs) ys) ∙ ap (λ z. z ++ drop (length xs) ys) (sym (same_bytes-true xs (take (length xs) ys) e))
 
@@ -168,7 +168,7 @@ front_back xs ys e = sym (take-append-drop (length xs) ys) ∙ ap (λ z. z ++ dr
 served_wrote : (k : ℕ) (p : OpenLink) (offered : ℕ) (bytes : List ℕ) (part : Log) (r : SlotLink) → wants_write p.link ≡ true → offered ≡ length p.link.pending → same_bytes bytes (take (length bytes) p.link.pending) ≡ true →
     Served k (enter (after_write k bytes p)) part r → Served k (enter p) (Wrote k offered (Some bytes) ∷ part) r
 served_wrote k p offered bytes part r w all front s =
-    let left : OpenLink = open_link p.environment (sent (length bytes) p.link) in
+    let left : OpenLink = open_link p.environment (send_pending (length bytes) p.link) in
     let m : Moved k left (advance k left) = moved_of k left (advance k left) (advanced_behind k left) (advance_room k left) (λ May I kept h. advance_keeps k May I kept left h) in
     let some = (both-true (not (length p.link.pending == 0)) (not p.link.is_stuck) w).0 in
     record {
@@ -176,10 +176,10 @@ served_wrote k p offered bytes part r w all front s =
       alive = s.alive;
       devices = all_live_trans p.environment.devices (advance k left).environment.devices r.environment.devices m.devices s.devices;
       own = λ g h.
-          let f = write_noted (Some bytes) g in
+          let f = note_write (Some bytes) g in
           let undropped = sending_undropped k g p.environment.said p.link p.environment.waiting some h.0 in
-          subst (λ t. QueuedSlot k (fold (noted k) (cond t f g) part) r) (sym (same_number k)) (s.own f (m.own f (queued_taken k g bytes p left.link undropped refl refl refl refl refl (front_back bytes p.link.pending front) h.0), advanced_behind k left));
-      others = λ j other g. ap (λ t. fold (noted j) (cond t (write_noted (Some bytes) g) g) part) other ∙ s.others j other g;
+          subst (λ t. QueuedSlot k (fold (note_happening k) (cond t f g) part) r) (sym (same_number k)) (s.own f (m.own f (queued_taken k g bytes p left.link undropped refl refl refl refl refl (front_back bytes p.link.pending front) h.0), advanced_behind k left));
+      others = λ j other g. ap (λ t. fold (note_happening j) (cond t (note_write (Some bytes) g) g) part) other ∙ s.others j other g;
       waits = s.waits ∙ m.others;
       safe = λ h. s.safe (m.safe h);
       room = λ h.
@@ -189,16 +189,16 @@ served_wrote k p offered bytes part r w all front s =
     }
 
 -- a write that failed, and what follows it
-served_failed : (k : ℕ) (p : OpenLink) (offered : ℕ) (part : Log) (r : SlotLink) → offered ≡ length p.link.pending → Served k (enter (dropped k why.LinkFault p)) part r → Served k (enter p) (Wrote k offered None ∷ part) r
+served_failed : (k : ℕ) (p : OpenLink) (offered : ℕ) (part : Log) (r : SlotLink) → offered ≡ length p.link.pending → Served k (enter (drop_link k why.LinkFault p)) part r → Served k (enter p) (Wrote k offered None ∷ part) r
 served_failed k p offered part r all s = record {
   inside = s.inside;
   alive = s.alive;
   devices = s.devices;
   own = λ g h.
-      let f = write_noted None g in
-      let failed = dropped k why.LinkFault p in
-      subst (λ t. QueuedSlot k (fold (noted k) (cond t f g) part) r) (sym (same_number k)) (s.own f (queued_failed k g p h.0, advanced_closing k failed.link failed.environment.waiting why.LinkFault refl));
-  others = λ j other g. ap (λ t. fold (noted j) (cond t (write_noted None g) g) part) other ∙ s.others j other g;
+      let f = note_write None g in
+      let failed = drop_link k why.LinkFault p in
+      subst (λ t. QueuedSlot k (fold (note_happening k) (cond t f g) part) r) (sym (same_number k)) (s.own f (queued_failed k g p h.0, advanced_closing k failed.link failed.environment.waiting why.LinkFault refl));
+  others = λ j other g. ap (λ t. fold (note_happening j) (cond t (note_write None g) g) part) other ∙ s.others j other g;
   waits = s.waits ∙ own_left p.environment.waiting k;
   safe = λ h. s.safe (safe_dropped k p.environment.devices p.environment.waiting h);
   room = λ h. let x = s.room (room_dropped k why.LinkFault p h) in (x.0, All-cons IsOfferWithin (Wrote k offered None) part (omega (arith, h.1, all)) x.1);
@@ -212,16 +212,16 @@ served_one k p q (Captured d n got) w e part r s = absurd (none_some e)
 served_one k p q (Emitted d out done) w e part r s = absurd (none_some e)
 served_one k p q (Hooked d off done) w e part r s = absurd (none_some e)
 served_one k p q (Wrote j offered took) w e part r s =
-    let i = cond-some (j == k) (write_offered k offered took p) q e in
-    let t = cond-some (offered == length p.link.pending) (write_taken k took p) q i.1 in
+    let i = cond-some (j == k) (after_bytes_offered k offered took p) q e in
+    let t = cond-some (offered == length p.link.pending) (after_bytes_taken k took p) q i.1 in
     subst (λ n. Served k (enter p) (Wrote n offered took ∷ part) (enter r)) (sym (eqb-true j k i.0)) (wrote took t.1)
   where
     all : offered ≡ length p.link.pending
     all =
-        let i = cond-some (j == k) (write_offered k offered took p) q e in
-        eqb-true offered (length p.link.pending) (cond-some (offered == length p.link.pending) (write_taken k took p) q i.1).0
+        let i = cond-some (j == k) (after_bytes_offered k offered took p) q e in
+        eqb-true offered (length p.link.pending) (cond-some (offered == length p.link.pending) (after_bytes_taken k took p) q i.1).0
 
-    wrote : (took : Option (List ℕ)) → write_taken k took p ≡ Some q → Served k (enter p) (Wrote k offered took ∷ part) (enter r)
+    wrote : (took : Option (List ℕ)) → after_bytes_taken k took p ≡ Some q → Served k (enter p) (Wrote k offered took ∷ part) (enter r)
     wrote None e = served_failed k p offered part (enter r) all (subst (λ x. Served k (enter x) part (enter r)) (sym (some_is e)) s)
     wrote (Some bytes) e =
         let t = cond-some (same_bytes bytes (take (length bytes) p.link.pending)) (Some (after_write k bytes p)) q e in
@@ -255,12 +255,12 @@ served_link k p =
 
 -- A state
 
--- What a part of a log makes of a state: devices become later, and are dead where the part shows it; what is queued for each link, and
--- what its history shows, stay so; nothing that waits is due; and no write offers more than may wait to be sent.
+-- What a part of a log makes of a state. Devices become later, and are dead if the part shows it. What is queued for each link,
+-- and what its history shows, stay so. No deferred request is due. No write offers more than may wait to be sent.
 pub record Goes (s : State) (part : Log) (t : State) : Type 0 where
   pub devices : Laters s.devices t.devices
   pub deaths : (d : ℕ) (x y : Bool) → DeadAs d x y s → DeadAs d (died_device d x part) (died_line d y part) t
-  pub queued : (k : ℕ) (g : LinkHistory) → OwingAt k g s → OwingAt k (fold (noted k) g part) t
+  pub queued : (k : ℕ) (g : LinkHistory) → OwingAt k g s → OwingAt k (fold (note_happening k) g part) t
   pub safe : SafeState 0 0 s → SafeState 0 0 t
   pub room : RoomIn s → RoomIn t × All IsOfferWithin part
 
@@ -273,17 +273,17 @@ goes_trans s p t q u a b = record {
   deaths = λ d x y h.
       subst (λ z. DeadAs d z (died_line d y (p ++ q)) u) (sym (fold-append (died (fails_device d)) x p q)) (subst (λ z. DeadAs d (died_device d (died_device d x p) q) z u) (sym (fold-append (died (fails_line d)) y p q))
       (b.deaths d (died_device d x p) (died_line d y p) (a.deaths d x y h)));
-  queued = λ k g h. subst (λ x. OwingAt k x u) (sym (fold-append (noted k) g p q)) (b.queued k (fold (noted k) g p) (a.queued k g h));
+  queued = λ k g h. subst (λ x. OwingAt k x u) (sym (fold-append (note_happening k) g p q)) (b.queued k (fold (note_happening k) g p) (a.queued k g h));
   safe = λ h. b.safe (a.safe h);
   room = λ h. let x = a.room h in let y = b.room x.0 in (y.0, All-append IsOfferWithin p q x.1 y.1);
 }
 
--- devices that are as dead as they were, behind a part in which nothing fails
+-- devices that are dead or alive as before, after a part in which nothing fails
 still_dead : (part : Log) (ds es : List DeviceState) → NoneFails part → AllLive ds es → (d : ℕ) (x y : Bool) → DeadIn d x y ds → DeadIn d (died_device d x part) (died_line d y part) es
 still_dead part ds es alive l d x y h =
     subst (λ z. DeadIn d z (died_line d y part) es) (sym (alive d x).0) (subst (λ z. DeadIn d x z es) (sym (alive d y).1) (lives_dead d x y ds es l h))
 
--- the slot of an open link is there, and holds what is written to it
+-- the slot of an open link exists, and holds what is written to it
 slot_own : (slots : List SlotState) (k : ℕ) (l : LinkState) (x : SlotState) → (some_slot (slice_get slots k)).link ≡ Some l → some_slot (slice_get (slice_set slots k x) k) ≡ x
 slot_own slots k l x e =
     elim (slice_get slots k) as (λ o. slice_get slots k ≡ o → (some_slot o).link ≡ Some l → some_slot (slice_get (slice_set slots k x) k) ≡ x) [
@@ -303,7 +303,7 @@ slot_same (y ∷ slots) (suc k) = ap (λ l. y ∷ l) (slot_same slots k)
 pub same_door : (k : ℕ) (s : State) → with_slot_link k s (slot_link_at k s) ≡ s
 same_door k s = ap (λ slots. record s { slots = slots }) (slot_same s.slots k)
 
--- how much waits to be sent to each link, if another is in the slot of an open one
+-- how much waits to be sent to each link, if another link replaces an open one
 put_room : (j : ℕ) (s : State) (l : LinkState) (d : SlotLink) → (slot_at j s).link ≡ Some l → ((k : ℕ) → (j == k) ≡ false → waiters k d.environment.waiting ≡ waiters k s.waiting) → RoomIn s → RoomOfSlot j d → RoomIn (with_slot_link j s d)
 put_room j s l d is counts h r =
     let slot : SlotState = record { link = d.link; said = d.environment.said } in
@@ -318,20 +318,20 @@ put_room j s l d is counts h r =
       ] refl,
     )
 
--- another link in the slot of an open one
-pub put_goes : (j : ℕ) (s : State) (l : LinkState) (d : SlotLink) (part : Log) → (slot_at j s).link ≡ Some l → NoneFails part → AllLive s.devices d.environment.devices → ((g : LinkHistory) → OwingAt j g s → QueuedSlot j (fold (noted j) g part) d) →
-    ((k : ℕ) → (j == k) ≡ false → (g : LinkHistory) → fold (noted k) g part ≡ g) → ((k : ℕ) → (j == k) ≡ false → has_deferral d.environment.waiting k ≡ has_deferral s.waiting k) → (SafeState 0 0 s → SafeIn 0 0 d.environment) →
+-- another link replaces an open one
+pub put_goes : (j : ℕ) (s : State) (l : LinkState) (d : SlotLink) (part : Log) → (slot_at j s).link ≡ Some l → NoneFails part → AllLive s.devices d.environment.devices → ((g : LinkHistory) → OwingAt j g s → QueuedSlot j (fold (note_happening j) g part) d) →
+    ((k : ℕ) → (j == k) ≡ false → (g : LinkHistory) → fold (note_happening k) g part ≡ g) → ((k : ℕ) → (j == k) ≡ false → has_deferral d.environment.waiting k ≡ has_deferral s.waiting k) → (SafeState 0 0 s → SafeIn 0 0 d.environment) →
     ((k : ℕ) → (j == k) ≡ false → waiters k d.environment.waiting ≡ waiters k s.waiting) → (RoomOfSlot j (link_in_slot (slot_link_at j s).environment (Some l)) → RoomOfSlot j d × All IsOfferWithin part) → Goes s part (with_slot_link j s d)
 put_goes j s l d part is alive devices own others same safe counts room =
     let slot : SlotState = record { link = d.link; said = d.environment.said } in
     record {
       devices = live_laters s.devices d.environment.devices devices;
       deaths = still_dead part s.devices d.environment.devices alive devices;
-      queued = λ k g h. elim (j == k) as (λ t. (j == k) ≡ t → OwingAt k (fold (noted k) g part) (with_slot_link j s d)) [
+      queued = λ k g h. elim (j == k) as (λ t. (j == k) ≡ t → OwingAt k (fold (note_happening k) g part) (with_slot_link j s d)) [
         | true ↦ λ e.
             let at : OwingAt j g s = subst (λ n. OwingAt n g s) (sym (eqb-true j k e)) h in
-            subst (λ n. OwingAt n (fold (noted n) g part) (with_slot_link j s d)) (eqb-true j k e)
-            (subst (λ (x : SlotState). OwingLink j (fold (noted j) g part) x.said x.link d.environment.waiting) (sym (slot_own s.slots j l slot is)) (own g at))
+            subst (λ n. OwingAt n (fold (note_happening n) g part) (with_slot_link j s d)) (eqb-true j k e)
+            (subst (λ (x : SlotState). OwingLink j (fold (note_happening j) g part) x.said x.link d.environment.waiting) (sym (slot_own s.slots j l slot is)) (own g at))
         | false ↦ λ e.
             subst (λ x. OwingAt k x (with_slot_link j s d)) (sym (others k e g))
             (subst (λ (x : SlotState). OwingLink k g x.said x.link d.environment.waiting) (sym (slot_other s.slots j k slot e))

@@ -10,8 +10,8 @@ use Rattle.af_world.specs.declared.happening.Wake.TheVariants as wake
 use Rattle.af_world.specs.declared.script.DeviceSpec.{DeviceSpec}
 use Rattle.af_world.specs.declared.script.Step.{Step}
 use Rattle.af_world.specs.declared.script.Step.TheVariants.{Open, Send, End, Room, Tick, Line, FailRead, FailWrite, FailCapture, FailEmit, FailHook, Idle}
-use Rattle.af_world.specs.Outside.{Outside, ScriptedClient, outside_start, client_at, some_client, fresh_client, opened_at, adjusted, sending_bytes, ending, taking, failing_read, failing_write, wake_where_open, stepped, wake_of, spec_has_line, IsStep}
-use Rattle.af_model.specs.State.{State, opening, outline, lines_of}
+use Rattle.af_world.specs.Outside.{Outside, ScriptedClient, outside_start, client_at, some_client, fresh_client, with_open_client, with_changed_client, with_bytes, with_end, with_room, with_failing_read, with_failing_write, wake_where_open, outside_after_step, wake_of, spec_has_line, IsStep}
+use Rattle.af_model.specs.State.{State, opening_state, outline, lines_of}
 use Rattle.af_model.specs.Turn.{fits, has_line_at, is_open_at, is_closed_at}
 use Rattle.af_model.proofs.OpenLinkLemmas.{Agree, Woken, opens, opens-set, opens_stay, open_after}
 
@@ -30,29 +30,29 @@ open_outside : (o : Outside) (k : ℕ) → is_some (client_at o k) ≡ is_open_a
 open_outside o k = client_is_open o.clients k
 
 -- what is stated of a link leaves the links as open as they are
-adjusted_opens : (o : Outside) (k : ℕ) (change : ScriptedClient → ScriptedClient) → opens (adjusted o k change) ≡ opens o
+adjusted_opens : (o : Outside) (k : ℕ) (change : ScriptedClient → ScriptedClient) → opens (with_changed_client o k change) ≡ opens o
 adjusted_opens o k change = opens_stay o k (option_map change (client_at o k)) (stays (client_at o k))
   where
     stays : (client : Option ScriptedClient) → is_some (option_map change client) ≡ is_some client
     stays None = refl
     stays (Some client) = refl
 
-stated_opens : (o : Outside) (k : ℕ) (change : ScriptedClient → ScriptedClient) (w : Wake) → open_after (opens o) w ≡ opens o → opens (adjusted o k change) ≡ open_after (opens o) (wake_where_open o k w)
+stated_opens : (o : Outside) (k : ℕ) (change : ScriptedClient → ScriptedClient) (w : Wake) → open_after (opens o) w ≡ opens o → opens (with_changed_client o k change) ≡ open_after (opens o) (wake_where_open o k w)
 stated_opens o k change w e =
     adjusted_opens o k change ∙ sym (elim (is_some (client_at o k)) as (λ b. open_after (opens o) (cond b w wake.Idle) ≡ opens o) [ true ↦ e | false ↦ refl ])
 
 -- the links that are open outside after a step
-stepped_opens : (o : Outside) (step : Step) → opens (stepped o step) ≡ open_after (opens o) (wake_of o step)
+stepped_opens : (o : Outside) (step : Step) → opens (outside_after_step o step) ≡ open_after (opens o) (wake_of o step)
 stepped_opens o (Open k) =
-    elim (client_at o k) as (λ p. opens (opened_at o k p) ≡ open_after (opens o) (cond (is_some p) wake.Idle (wake.Opened k))) [
+    elim (client_at o k) as (λ p. opens (with_open_client o k p) ≡ open_after (opens o) (cond (is_some p) wake.Idle (wake.Opened k))) [
       | None ↦ opens-set o k (Some fresh_client)
       | Some client ↦ refl
     ]
-stepped_opens o (Send k bytes) = stated_opens o k (sending_bytes bytes) (wake.Readable k) refl
-stepped_opens o (End k) = stated_opens o k ending (wake.Readable k) refl
-stepped_opens o (Room k room) = stated_opens o k (taking room) (wake.Writable k) refl
-stepped_opens o (FailRead k) = adjusted_opens o k failing_read
-stepped_opens o (FailWrite k) = adjusted_opens o k failing_write
+stepped_opens o (Send k bytes) = stated_opens o k (with_bytes bytes) (wake.Readable k) refl
+stepped_opens o (End k) = stated_opens o k with_end (wake.Readable k) refl
+stepped_opens o (Room k room) = stated_opens o k (with_room room) (wake.Writable k) refl
+stepped_opens o (FailRead k) = adjusted_opens o k with_failing_read
+stepped_opens o (FailWrite k) = adjusted_opens o k with_failing_write
 stepped_opens o (Tick d n captured) = refl
 stepped_opens o (FailCapture d) = refl
 stepped_opens o (FailEmit d) = refl
@@ -60,10 +60,10 @@ stepped_opens o (Line d change) = refl
 stepped_opens o (FailHook d) = refl
 stepped_opens o Idle = refl
 
-pub agree_step : (s : State) (o : Outside) (step : Step) → Agree s o → Woken (wake_of o step) s (stepped o step)
+pub agree_step : (s : State) (o : Outside) (step : Step) → Agree s o → Woken (wake_of o step) s (outside_after_step o step)
 agree_step s o step at = stepped_opens o step ∙ ap (λ w. open_after w (wake_of o step)) at
 
-pub agree_start : (config : List DeviceSpec) → Agree (opening config) (outside_start config)
+pub agree_start : (config : List DeviceSpec) → Agree (opening_state config) (outside_start config)
 agree_start config = refl
 
 -- whether a device of a configuration has a line
@@ -79,7 +79,7 @@ length-lines : (config : List DeviceSpec) → length (map line_of config) ≡ le
 length-lines [] = refl
 length-lines (c ∷ config) = ap suc (length-lines config)
 
--- the wake of a step that is stated of a link fits, if it does of a link that is open
+-- the wake of a step on a link fits, if it fits for a link that is open
 open_fits : (s : State) (o : Outside) (k : ℕ) (w : Wake) → Agree s o → fits (outline s) w ≡ is_open_at (slice_get (opens o) k) → fits (outline s) (wake_where_open o k w) ≡ true
 open_fits s o k w at e =
     elim (is_some (client_at o k)) as (λ b. b ≡ is_open_at (slice_get (opens o) k) → fits (outline s) (cond b w wake.Idle) ≡ true) [

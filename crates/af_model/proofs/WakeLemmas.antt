@@ -10,21 +10,21 @@ use Rattle.af_wire.specs.Event.{event_bytes}
 use Rattle.af_request.specs.declared.reply.Phone.{Phone}
 use Rattle.af_phone.specs.declared.line.LineChange.{LineChange}
 use Rattle.af_phone.specs.declared.line.LineChange.TheVariants.{Ring, Current, Digit}
-use Rattle.af_phone.specs.Lines.{changed, flag_value, hooked, event_kind_of, selects, value_of}
+use Rattle.af_phone.specs.Lines.{line_after_change, flag_value, line_after_hook, event_kind_of, selects, value_of}
 use Rattle.af_world.specs.declared.happening.Happening.TheVariants.{Woke, Read, Wrote, Closed, Captured, Emitted, Hooked}
 use Rattle.af_world.specs.declared.happening.Why.TheVariants as why
 use Rattle.af_world.specs.declared.happening.Wake.{Wake}
 use Rattle.af_world.specs.declared.happening.Wake.TheVariants.{Opened, Readable, Writable, Ticked, Line, Idle, Stop}
 use Rattle.af_world.specs.Log.{Log}
 use Rattle.af_wait.specs.Waits.{without_first}
-use Rattle.af_model.specs.State.{State, DeviceState, SlotState, LinkState, OpenLink, Deferral, link_in_slot, slot_link_at, lines_of, links_of, opened, outline, open_link, say, slot_at, some_slot, with_slot_link, with_device, with_slot}
-use Rattle.af_model.specs.Waiting.{due, falls_due}
+use Rattle.af_model.specs.State.{State, DeviceState, SlotState, LinkState, OpenLink, Deferral, link_in_slot, slot_link_at, lines_of, links_of, new_link_state, outline, open_link, say, slot_at, some_slot, with_slot_link, with_device, with_slot}
+use Rattle.af_model.specs.Waiting.{due_time, falls_due}
 use Rattle.af_model.specs.Reply.{horizon_of}
 use Rattle.af_model.specs.Advance.{or_else}
-use Rattle.af_model.specs.Tick.{captured_samples, complete, complete_at, complete_by, complete_due, complete_first, complete_for, complete_step, completing, enter, later, sound, tick}
-use Rattle.af_model.specs.Events.{dropped, event_at, hook_given, hook_refused, line_becomes, line_changes, mask_of, tell, tell_at, tell_from, tell_link, tell_open, tell_selected}
-use Rattle.af_model.specs.Turn.{Parsed, accept, parse_then, parse_one, capture_by, after_capture, tick_phase, line_phase, wake_phase, ready, writable, in_open, in_slot, is_closed_at, fits, hook_at, hook_from, hook_all, serve_all, serve_and_hook, turn}
-use Rattle.af_model.specs.LinkHistory.{LinkHistory, no_history, noted}
+use Rattle.af_model.specs.Tick.{captured_samples, complete, complete_at, complete_by, complete_due, complete_first, complete_for, complete_step, complete_deferred, enter, device_after, sound, tick}
+use Rattle.af_model.specs.Events.{drop_link, event_at, after_hook, after_hook_failure, line_becomes, line_changes, mask_of, tell, tell_at, tell_from, tell_link, tell_open, tell_selected}
+use Rattle.af_model.specs.Turn.{Parsed, accept, parse_then, parse_one, capture_by, after_capture, tick_phase, line_phase, wake_phase, mark_readable, mark_writable, in_open, in_slot, is_closed_at, fits, hook_at, hook_from, hook_all, serve_all, serve_and_hook, turn}
+use Rattle.af_model.specs.LinkHistory.{LinkHistory, no_history, note_happening}
 use Rattle.af_model.specs.Prefix.{is_dropped}
 use Rattle.af_model.proofs.BoolTestLemmas.{both-true, cond-some, none_some, some_is}
 use Rattle.af_model.proofs.DeviceHistoryLemmas.{AllLive, Later, Laters, Lives, all_live_refl, all_live_trans, all_live_with, later_passed, later_line, later_trans, laters_get, laters_lines, laters_refl, laters_trans, laters_with, live_laters, lives_completing, lives_line, with_there}
@@ -42,7 +42,7 @@ use Rattle.af_model.proofs.ServeLemmas.{Goes, Within, goes_refl, goes_trans, inn
 
 -- Devices change
 
--- each is as dead as it was
+-- each is dead or alive as before
 becomes_goes : (d : ℕ) (f : DeviceState → DeviceState) (s : State) → ((device : DeviceState) → Lives device (f device)) → ((device : DeviceState) → (f device).completed ≡ device.completed) → Goes s [] (record s { devices = with_device d f s.devices })
 becomes_goes d f s l same =
     let all = all_live_with d f s.devices (λ device there. l device) in
@@ -56,7 +56,7 @@ becomes_goes d f s l same =
 
 -- Completions
 
--- the first that is due, of a device that is there, leaves the list, and completes
+-- the first request that is due, for a device that exists, leaves the list, and completes
 completed : (passes : Deferral → Bool) (s : State) (w : Deferral) (x : DeviceState) → find passes s.waiting ≡ Some w → slice_get s.devices w.device ≡ Some x →
     Goes s [] (complete w (record s { waiting = without_first passes s.waiting }))
 completed passes s w x found there =
@@ -76,7 +76,7 @@ completed passes s w x found there =
           complete_keeps k (λ closing. Unit {0}) (λ q. SameOthers k fewer.waiting q.environment.waiting) (others_keep k fewer.waiting) w.device w.deferred device p refl (λ x there h. h) tt refl in
           put_goes k s l (enter (complete_for w device p)) [] is (λ c sofar. (refl, refl))
           (complete_keeps k (λ closing. Unit {0}) (λ q. AllLive s.devices q.environment.devices) (grows_keeps k s.devices) w.device w.deferred device p refl
-          (λ x there h. all_live_trans s.devices s.devices (with_device w.device (completing w.link w.deferred) s.devices) h (all_live_with w.device (completing w.link w.deferred) s.devices (λ d is. lives_completing w.link d w.deferred))) tt (all_live_refl s.devices))
+          (λ x there h. all_live_trans s.devices s.devices (with_device w.device (complete_deferred w.link w.deferred) s.devices) h (all_live_with w.device (complete_deferred w.link w.deferred) s.devices (λ d is. lives_completing w.link d w.deferred))) tt (all_live_refl s.devices))
           (λ g h.
           let here : OwingLink k g a.said (Some l) s.waiting = subst (λ o. OwingLink k g a.said o s.waiting) is h in
           let undropped = waiting_undropped k g a.said l s.waiting (found_waits passes s.waiting w found) here.0 in (
@@ -100,7 +100,7 @@ falls_due_there : (d : ℕ) (device : DeviceState) (ws : List Deferral) (w : Def
 falls_due_there d device [] w e = absurd (none_some e)
 falls_due_there d device (v ∷ ws) w e =
     elim (falls_due d device v) as (λ t. falls_due d device v ≡ t → cond t (Some v) (find (falls_due d device) ws) ≡ Some w → w.device ≡ d) [
-      | true ↦ λ t e. let same : v ≡ w = some_is e in subst (λ (u : Deferral). u.device ≡ d) same (eqb-true v.device d (both-true (v.device == d) (nat_le (due device.channels (horizon_of device) v.deferred) device.now) t).0)
+      | true ↦ λ t e. let same : v ≡ w = some_is e in subst (λ (u : Deferral). u.device ≡ d) same (eqb-true v.device d (both-true (v.device == d) (nat_le (due_time device.channels (horizon_of device) v.deferred) device.now) t).0)
       | false ↦ λ t e. falls_due_there d device ws w e
     ] refl e
 
@@ -126,7 +126,7 @@ due_goes : (d : ℕ) (s : State) → Goes s [] (complete_due d s)
 unfolding complete_due
 due_goes d s = by_goes (length s.waiting) d s
 
--- What sample periods make of a state: a device is dead behind them that is said to be, and the others are as they were.
+-- What sample periods make of a state: their device is dead after them if that is said, and the others are as they were.
 record Ticks (d : ℕ) (is_dead : Bool) (s t : State) : Type 0 where
   devices : Laters s.devices t.devices
   deaths : (c : ℕ) (x y : Bool) → DeadAs c x y s → DeadAs c (cond (d == c) is_dead x) y t
@@ -136,7 +136,7 @@ record Ticks (d : ℕ) (is_dead : Bool) (s t : State) : Type 0 where
 
 ticks : (d n : ℕ) (captured : List ℤ) (is_dead : Bool) (s : State) (device : DeviceState) → slice_get s.devices d ≡ Some device → n ≤ longest_tick → Ticks d is_dead s (tick d n captured is_dead s)
 ticks d n captured is_dead s device there few =
-    let f = later n captured is_dead in
+    let f = device_after n captured is_dead in
     let t : State = record s { devices = with_device d f s.devices } in
     let goes = due_goes d t in
     record {
@@ -153,7 +153,7 @@ ticks d n captured is_dead s device there few =
 told : (k : ℕ) (e : Event) (p : OpenLink) → Moved k p (tell_link k e p)
 told k e p =
     elim (selects (mask_of p.link e.device) e.kind) as (λ t. selects (mask_of p.link e.device) e.kind ≡ t → Moved k p (cond t (tell_selected k e p) p)) [
-      | true ↦ λ t. elim (nat_le (length p.link.pending + 20) event_limit) as (λ u. nat_le (length p.link.pending + 20) event_limit ≡ u → Moved k p (cond u (say p (event_bytes p.link.order e p.link.sequence)) (dropped k why.Overrun p))) [
+      | true ↦ λ t. elim (nat_le (length p.link.pending + 20) event_limit) as (λ u. nat_le (length p.link.pending + 20) event_limit ≡ u → Moved k p (cond u (say p (event_bytes p.link.order e p.link.sequence)) (drop_link k why.Overrun p))) [
         | true ↦ λ u. record {
           devices = all_live_refl p.environment.devices;
           own = λ g h. (queueing_keeps k g).says p (event_bytes p.link.order e p.link.sequence) (open_undropped p.link.closing (selects_open k e.device e.kind g p t h)) h;
@@ -196,27 +196,27 @@ becomes_told f alike kind value d device s =
 
 -- Hooks
 
--- a line that was refused its hook is dead
-refused_goes : (d : ℕ) (off : Bool) (s : State) → Goes s (Hooked d off false ∷ []) (hook_refused d s)
+-- a line whose hook call failed is dead
+refused_goes : (d : ℕ) (off : Bool) (s : State) → Goes s (Hooked d off false ∷ []) (after_hook_failure d s)
 refused_goes d off s =
-    let f : DeviceState → DeviceState = λ device. record device { line = option_map (hooked false) device.line } in
+    let f : DeviceState → DeviceState = λ device. record device { line = option_map (line_after_hook false) device.line } in
     record {
-      devices = laters_with d f s.devices (λ device there. later_line (hooked false) device);
+      devices = laters_with d f s.devices (λ device there. later_line (line_after_hook false) device);
       deaths = λ c x y h.
-          with_dead d f s.devices c x y x ((d == c) || y) (λ device same was. (was.0, subst (λ b. IfSome (option_map (hooked false) device.line) (λ line. line.dead ≡ (b || y))) (sym same) (dies device.line)))
+          with_dead d f s.devices c x y x ((d == c) || y) (λ device same was. (was.0, subst (λ b. IfSome (option_map (line_after_hook false) device.line) (λ line. line.dead ≡ (b || y))) (sym same) (dies device.line)))
           (λ other. (refl, sym (ap (λ b. b || y) other))) h;
       queued = λ k g h. h;
       safe = λ h. safe_becomes 0 0 d f s.devices s.waiting (λ x there. (refl, refl, refl)) (λ x there safe. loses_alike x (f x) refl refl safe) h;
       room = λ h. ((room_with d f s.devices s.waiting (λ x there. refl) h.0, h.1), All-from_recursion IsOfferWithin (Hooked d off false ∷ []) (tt, tt));
     }
   where
-    dies : (line : Option Phone) → IfSome (option_map (hooked false) line) (λ line. line.dead ≡ true)
+    dies : (line : Option Phone) → IfSome (option_map (line_after_hook false) line) (λ line. line.dead ≡ true)
     dies None = tt
     dies (Some line) = refl
 
-hook_goes : (d : ℕ) (wanted off done : Bool) (device : DeviceState) (s : State) → Goes s (Hooked d wanted done ∷ []) (cond done (hook_given off d device s) (hook_refused d s))
+hook_goes : (d : ℕ) (wanted off done : Bool) (device : DeviceState) (s : State) → Goes s (Hooked d wanted done ∷ []) (cond done (after_hook off d device s) (after_hook_failure d s))
 hook_goes d wanted off true device s =
-    let g = becomes_told (hooked true) (λ line. refl) kind.Hook (flag_value off) d device s in
+    let g = becomes_told (line_after_hook true) (λ line. refl) kind.Hook (flag_value off) d device s in
     record { devices = g.devices; deaths = g.deaths; queued = g.queued; safe = g.safe; room = λ h. ((g.room h).0, All-from_recursion IsOfferWithin (Hooked d wanted true ∷ []) (tt, tt)) }
 hook_goes d wanted off false device s = refused_goes d wanted s
 
@@ -235,8 +235,8 @@ after_wake s = takes_chain serve_all hook_all Within Within Within within_trans 
 
 -- Wakes
 
--- What a device handed out: the sound of the frames from its time on. Behind it the device has the same accepted plays, and those
--- that may have come since, at its time then or later, which is behind all that it handed out.
+-- What a device handed out: the sound of the frames from its time on. Later the device has the same accepted plays, and perhaps
+-- more that came since. Its time then is after all that it handed out.
 pub record HandedOut (s : State) (d frames : ℕ) (sent : List ℕ) (t : State) : Type 0 where
   pub device : DeviceState
   pub there : slice_get s.devices d ≡ Some device
@@ -268,19 +268,19 @@ ticked : (d n : ℕ) (device : DeviceState) (s : State) (bytes : List ℕ) (done
     HandedOut s d n (sound device n) (tick d n (captured_samples device n (Some bytes)) (not done) s)
 ticked d n device s bytes done there =
     let captured = captured_samples device n (Some bytes) in
-    let after : DeviceState = later n captured (not done) device in
-    let t : State = record s { devices = with_device d (later n captured (not done)) s.devices } in
-    let got = laters_get t.devices (complete_due d t).devices d after (due_goes d t).devices (with_there d (later n captured (not done)) s.devices device there) in
+    let after : DeviceState = device_after n captured (not done) device in
+    let t : State = record s { devices = with_device d (device_after n captured (not done)) s.devices } in
+    let got = laters_get t.devices (complete_due d t).devices d after (due_goes d t).devices (with_there d (device_after n captured (not done)) s.devices device there) in
     record { device = device; there = there; same = refl; after = after; accepted = refl; past = omega arith; last = got.0; stands = got.1; becomes = got.2 }
 
--- a device that fails dies, and another is as dead as it was
+-- a device that fails dies, and another is dead or alive as before
 sound_dead : (same done x : Bool) → (same ≡ true → x ≡ false) → cond same (not done) x ≡ ((not done && same) || x)
 sound_dead true true x alive = sym (alive refl)
 sound_dead true false x alive = refl
 sound_dead false true x alive = refl
 sound_dead false false x alive = refl
 
--- a device that is as dead as this
+-- a device that is dead or alive like this one
 as_dead : (d : ℕ) (device : DeviceState) (s : State) (c : ℕ) (x y : Bool) → slice_get s.devices d ≡ Some device → DeadAs c x y s → (d == c) ≡ true → x ≡ device.is_dead
 as_dead d device s c x y there h same = sym (h device (subst (λ n. slice_get s.devices n ≡ Some device) (eqb-true d c same) there)).0
 
@@ -338,16 +338,16 @@ woken_ticked d n (Some device) s few there =
           })
     ] refl
 
--- the slot of a link that may be opened is there
+-- the slot of a link that may be opened exists
 slot_opened : (slots : List SlotState) (k : ℕ) (x : SlotState) → is_closed_at (slice_get (map {A = Option LinkState} {B = Bool} is_some (links_of slots)) k) ≡ true → some_slot (slice_get (slice_set slots k x) k) ≡ x
 slot_opened [] k x e = absurd cc
 slot_opened (y ∷ slots) zero x e = refl
 slot_opened (y ∷ slots) (suc k) x e = slot_opened slots k x e
 
 -- a link is opened: nothing waits to be sent to it
-opened_room : (j : ℕ) (s : State) → fits (outline s) (Opened j) ≡ true → RoomIn s → RoomIn (with_slot j (record { link = Some opened; said = [] }) s)
+opened_room : (j : ℕ) (s : State) → fits (outline s) (Opened j) ≡ true → RoomIn s → RoomIn (with_slot j (record { link = Some new_link_state; said = [] }) s)
 opened_room j s fit h =
-    let slot : SlotState = record { link = Some opened; said = [] } in (
+    let slot : SlotState = record { link = Some new_link_state; said = [] } in (
       h.0,
       λ k. elim (j == k) as (λ t. (j == k) ≡ t → IfSome (slot_at k (with_slot j slot s)).link (λ l. IsPending k s.waiting l)) [
         | true ↦ λ e.
@@ -357,10 +357,10 @@ opened_room j s fit h =
       ] refl,
     )
 
--- a link is opened: nothing was said to it since
-opened_goes : (k : ℕ) (s : State) → fits (outline s) (Opened k) ≡ true → Goes s (Woke (Opened k) ∷ []) (with_slot k (record { link = Some opened; said = [] }) s)
+-- a link is opened: nothing was queued for it since
+opened_goes : (k : ℕ) (s : State) → fits (outline s) (Opened k) ≡ true → Goes s (Woke (Opened k) ∷ []) (with_slot k (record { link = Some new_link_state; said = [] }) s)
 opened_goes j s fit =
-    let slot : SlotState = record { link = Some opened; said = [] } in
+    let slot : SlotState = record { link = Some new_link_state; said = [] } in
     record {
       devices = laters_refl s.devices;
       deaths = λ d x y h. h;
@@ -385,7 +385,7 @@ opened_goes j s fit =
       ] refl;
     }
 
--- something of an open link changes, but nothing that is queued for it or taken off its input
+-- an open link changes, but nothing that is queued for it or taken off its input
 opens_goes : (f : LinkState → LinkState) (k : ℕ) (s : State) → ((g : LinkHistory) (said : List ℕ) (l : LinkState) (waiting : List Deferral) → Owed k g said l waiting → Owed k g said (f l) waiting) →
     ((l : LinkState) (waiting : List Deferral) → IsAdvanced k l waiting → IsAdvanced k (f l) waiting) → ((l : LinkState) (waiting : List Deferral) → IsPending k waiting l → IsPending k waiting (f l)) → Goes s [] (with_slot k (in_slot f (slot_at k s)) s)
 opens_goes f k s queued advanced room =
@@ -395,13 +395,13 @@ opens_goes f k s queued advanced room =
       | Some l ↦ λ is. moves_goes k s l (open_link a (f l)) is (record { devices = all_live_refl s.devices; own = λ g h. queued g a.said l s.waiting h; advanced = advanced l s.waiting; others = refl; safe = λ h. h; room = λ h. (h.0, room l s.waiting h.1) })
     ] refl
 
--- a wake that no link is opened by, and that takes nothing off
-woken_quiet : (w : Wake) (s t : State) → ((k : ℕ) (g : LinkHistory) → noted k g (Woke w) ≡ g) → Goes s [] t → Takes (λ log. accept t log) (Woken s w)
+-- a wake that opens no link, and that takes nothing off
+woken_quiet : (w : Wake) (s t : State) → ((k : ℕ) (g : LinkHistory) → note_happening k g (Woke w) ≡ g) → Goes s [] t → Takes (λ log. accept t log) (Woken s w)
 woken_quiet w s t still g =
     takes_nothing t (Woken s w) (record { goes = record { devices = g.devices; deaths = g.deaths; queued = λ k f h. subst (λ x. OwingAt k x t) (sym (still k f)) (g.queued k f h); safe = g.safe; room = λ h. ((g.room h).0, All-from_recursion IsOfferWithin (Woke w ∷ []) (tt, tt)) }; emits = inl refl })
 
--- a change of a line leaves it as dead as it was
-changed_alike : (change : LineChange) (line : Phone) → (changed change line).dead ≡ line.dead
+-- a change of a line leaves it dead or alive as before
+changed_alike : (change : LineChange) (line : Phone) → (line_after_change change line).dead ≡ line.dead
 changed_alike (Ring on) line = refl
 changed_alike (Current on) line = refl
 changed_alike (Digit code) line = refl
@@ -409,17 +409,17 @@ changed_alike (Digit code) line = refl
 woken_line : (change : LineChange) (d : ℕ) (o : Option DeviceState) (s : State) → Takes (line_phase change d o s) (Woken s (Line d change))
 woken_line change d None s = λ log b e. absurd (none_some e)
 woken_line change d (Some device) s =
-    woken_quiet (Line d change) s (line_changes change d device s) (λ k f. refl) (becomes_told (changed change) (changed_alike change) (event_kind_of change) (value_of change) d device s)
+    woken_quiet (Line d change) s (line_changes change d device s) (λ k f. refl) (becomes_told (line_after_change change) (changed_alike change) (event_kind_of change) (value_of change) d device s)
 
 woken : (w : Wake) (s : State) → fits (outline s) w ≡ true → Takes (wake_phase w s) (Woken s w)
 unfolding wake_phase
-woken (Opened k) s fit = takes_nothing (with_slot k (record { link = Some opened; said = [] }) s) (Woken s (Opened k)) (record { goes = opened_goes k s fit; emits = inl refl })
+woken (Opened k) s fit = takes_nothing (with_slot k (record { link = Some new_link_state; said = [] }) s) (Woken s (Opened k)) (record { goes = opened_goes k s fit; emits = inl refl })
 woken (Readable k) s fit =
-    woken_quiet (Readable k) s (with_slot k (in_slot ready (slot_at k s)) s) (λ k f. refl)
-    (opens_goes ready k s (λ g said l waiting h. record { rest = h.rest; whole = h.whole; queued = h.queued; sends = h.sends; waits = h.waits; wants = h.wants; shows = h.shows; unclosed = h.unclosed }) (λ l waiting h. h) (λ l waiting h. h))
+    woken_quiet (Readable k) s (with_slot k (in_slot mark_readable (slot_at k s)) s) (λ k f. refl)
+    (opens_goes mark_readable k s (λ g said l waiting h. record { rest = h.rest; whole = h.whole; queued = h.queued; sends = h.sends; waits = h.waits; wants = h.wants; shows = h.shows; unclosed = h.unclosed }) (λ l waiting h. h) (λ l waiting h. h))
 woken (Writable k) s fit =
-    woken_quiet (Writable k) s (with_slot k (in_slot writable (slot_at k s)) s) (λ k f. refl)
-    (opens_goes writable k s (λ g said l waiting h. record { rest = h.rest; whole = h.whole; queued = h.queued; sends = h.sends; waits = h.waits; wants = h.wants; shows = h.shows; unclosed = h.unclosed }) (λ l waiting h. h) (λ l waiting h. h))
+    woken_quiet (Writable k) s (with_slot k (in_slot mark_writable (slot_at k s)) s) (λ k f. refl)
+    (opens_goes mark_writable k s (λ g said l waiting h. record { rest = h.rest; whole = h.whole; queued = h.queued; sends = h.sends; waits = h.waits; wants = h.wants; shows = h.shows; unclosed = h.unclosed }) (λ l waiting h. h) (λ l waiting h. h))
 woken (Ticked d n) s fit = woken_ticked d n (slice_get s.devices d) s (few_frames n (both-true (nat_lt d (length (outline s).lines) && nat_le 1 n) (nat_le n longest_tick) fit).1) refl
   where
     few_frames : (n : ℕ) → nat_le n longest_tick ≡ true → n ≤ longest_tick

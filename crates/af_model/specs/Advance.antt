@@ -1,4 +1,4 @@
--- Advancing a link: what stands whole at the front of its input is taken off and answered.
+-- Advancing a link: a complete setup or frame at the front of its input is taken off and answered.
 use Rattle.std.specs.Prelude.{ℕ, zero, suc, Bool, not, true, List, ◌++◌, length, take, drop, if◌then◌else◌, ◌&&◌, nat_le, is_none}
 use Rattle.std.specs.declared.option.Option.{Option}
 use Rattle.std.specs.declared.option.Option.TheVariants.{None, Some}
@@ -14,7 +14,7 @@ use Rattle.af_request.specs.Asked.{Asked}
 use Rattle.af_request.specs.Requests.{asked_in}
 use Rattle.af_request.specs.Answer.{setup}
 use Rattle.af_request.specs.Opcodes as opcodes
-use Rattle.af_model.specs.State.{LinkState, OpenLink, open_link, say, stopped}
+use Rattle.af_model.specs.State.{LinkState, OpenLink, open_link, say, closing_link}
 use Rattle.af_model.specs.Waiting.{has_deferral}
 use Rattle.af_model.specs.Reply.{reply_message, infos_of}
 use Rattle.af_model.specs.Perform.{perform}
@@ -23,28 +23,28 @@ use Rattle.af_model.specs.Perform.{perform}
 abbrev pub without_front : ℕ → LinkState → LinkState
 without_front n l = record l { rest = drop n l.rest }
 
--- link k makes a request, or a frame that is none closes it
-abbrev pub requested : ℕ → Option Asked → OpenLink → OpenLink
-requested k None p = open_link p.environment (stopped why.Malformed p.link)
-requested k (Some request) p = perform k request p
+-- link k makes a request, or is closed by a frame that is no request
+abbrev pub make_request : ℕ → Option Asked → OpenLink → OpenLink
+make_request k None p = open_link p.environment (closing_link why.Malformed p.link)
+make_request k (Some request) p = perform k request p
 
--- what becomes of link k with a frame at the front of its input; None where there is none yet
+-- what a frame at the front of its input makes of link k; None if there is none yet
 abbrev pub after_frame : ℕ → Front → OpenLink → Option OpenLink
 after_frame k NeedMore p = None
-after_frame k Malformed p = Some (open_link p.environment (stopped why.Malformed p.link))
-after_frame k (Frame n) p = Some (requested k (asked_in p.link.order (take n p.link.rest)) (open_link p.environment (without_front n p.link)))
+after_frame k Malformed p = Some (open_link p.environment (closing_link why.Malformed p.link))
+after_frame k (Frame n) p = Some (make_request k (asked_in p.link.order (take n p.link.rest)) (open_link p.environment (without_front n p.link)))
 
--- What becomes of a link with a setup at the front of its input: its order becomes the link's. A bad one is refused and closes
--- the link. Its answer has the number 0.
+-- What a setup at the front of its input makes of a link: its byte order becomes the link's. A bad one is refused and closes the
+-- link. Its answer has the number 0.
 abbrev pub after_setup : SetupFront → OpenLink → Option OpenLink
 after_setup front.NeedMore p = None
 after_setup (front.Setup order) p =
     Some (say (open_link p.environment (record (without_front 8 p.link) { is_set_up = true; order = order }))
     (reply_message order opcodes.setup (setup (infos_of p.environment.devices)) 0))
 after_setup (front.BadSetup order value) p =
-    Some (say (open_link p.environment (stopped why.BadSetup p.link)) (error order 1 value opcodes.setup 0))
+    Some (say (open_link p.environment (closing_link why.BadSetup p.link)) (error order 1 value opcodes.setup 0))
 
--- nothing is taken off while a link waits or is closing, or while more than 16384 bytes wait to be sent to it
+-- nothing is taken off while a link has a deferred request or is closing, or while more than 16384 bytes wait to be sent to it
 abbrev pub takes_more : Bool → LinkState → Bool
 takes_more waits l = not waits && (is_none l.closing && nat_le (length l.pending) perform_limit)
 
@@ -52,7 +52,7 @@ abbrev pub after_front : ℕ → OpenLink → Option OpenLink
 after_front k p =
     if p.link.is_set_up then after_frame k (frame_front p.link.order p.link.rest) p else after_setup (setup_front p.link.rest) p
 
--- one setup or frame is taken off; None where there is none to take
+-- one setup or frame is taken off; None if there is none
 abbrev pub advance_step : ℕ → OpenLink → Option OpenLink
 advance_step k p = if takes_more (has_deferral p.environment.waiting k) p.link then after_front k p else None
 

@@ -10,9 +10,9 @@ use Rattle.af_model.specs.declared.refusal.RefusalCause.{RefusalCause}
 use Rattle.af_model.specs.declared.refusal.RefusalCause.TheVariants.{BadValue, BadDevice, BadAc, BadIdChoice, TooManyAcs}
 use Rattle.af_model.specs.declared.refusal.Refusal.{Refusal}
 use Rattle.af_model.specs.State.{DeviceState, OpenLink}
-use Rattle.af_model.specs.Reply.{refusal, refused}
+use Rattle.af_model.specs.Reply.{refusal, refuse}
 
--- a check: what it refuses with, where it fails
+-- a check: what it refuses with, if it fails
 abbrev pub check : Bool → RefusalCause → ℕ → Option Refusal
 check fails cause value = if fails then Some (refusal cause value) else None
 
@@ -21,10 +21,10 @@ first_refusal [] = None
 first_refusal (None ∷ checks) = first_refusal checks
 first_refusal (Some r ∷ checks) = Some r
 
--- a request with this opcode is refused, or is done where all checks pass
-abbrev pub refused_or : ℕ → Option Refusal → (OpenLink → OpenLink) → OpenLink → OpenLink
-refused_or opcode None f p = f p
-refused_or opcode (Some r) f p = refused opcode r p
+-- a request with this opcode is refused, or is done if all checks pass
+abbrev pub refuse_or : ℕ → Option Refusal → (OpenLink → OpenLink) → OpenLink → OpenLink
+refuse_or opcode None f p = f p
+refuse_or opcode (Some r) f p = refuse opcode r p
 
 -- whether a mask names the field of a bit
 abbrev pub names : ℕ → ℕ → Bool
@@ -34,22 +34,22 @@ names mask bit = not (bit_and mask bit == 0)
 abbrev pub check_gain : ℤ → Option Refusal
 check_gain gain = check (is_none (gain_of gain)) BadValue (cast_unsigned w16 gain)
 
--- a check of a field that is made where the mask names it
+-- a check of a field that is made if the mask names it
 abbrev pub where_named : ℕ → ℕ → Option Refusal → Option Refusal
 where_named mask bit r = if names mask bit then r else None
 
--- why contexts stay as they are, as errors tell it
+-- the error code for what contexts refuse
 abbrev pub context_cause : ContextFault → RefusalCause
 context_cause fault.BadAc = BadAc
 context_cause fault.BadIdChoice = BadIdChoice
 context_cause fault.TooMany = TooManyAcs
 
--- what the contexts answer on a number refuses a request, or does not
+-- the answer of the contexts for a number refuses a request, or does not
 abbrev pub context_refusal : ℕ → Result Unit ContextFault → Option Refusal
 context_refusal ac (Ok done) = None
 context_refusal ac (Err f) = Some (refusal (context_cause f) ac)
 
--- a request that names a device is done with it, or refused where it is not there
+-- a request that names a device is done with it, or refused if it does not exist
 abbrev pub in_device : ℕ → ℕ → (DeviceState → OpenLink → OpenLink) → Option DeviceState → OpenLink → OpenLink
-in_device opcode d f None p = refused opcode (refusal BadDevice d) p
+in_device opcode d f None p = refuse opcode (refusal BadDevice d) p
 in_device opcode d f (Some device) p = f device p

@@ -12,19 +12,19 @@ use Rattle.af_request.specs.Opcodes as opcodes
 use Rattle.af_model.specs.declared.refusal.RefusalCause.TheVariants.{BadValue, BadDevice, BadAc, BadMatch}
 use Rattle.af_model.specs.declared.refusal.Refusal.{Refusal}
 use Rattle.af_model.specs.State.{OpenLink, open_link}
-use Rattle.af_model.specs.Reply.{replied}
-use Rattle.af_model.specs.Checks.{check, check_gain, where_named, names, first_refusal, refused_or, context_refusal}
+use Rattle.af_model.specs.Reply.{reply_with}
+use Rattle.af_model.specs.Checks.{check, check_gain, where_named, names, first_refusal, refuse_or, context_refusal}
 
 -- a link with these contexts
 abbrev pub with_contexts : List Context → OpenLink → OpenLink
 with_contexts contexts p = open_link p.environment (record p.link { contexts = contexts })
 
--- whether so many channels are those of a device, if it is there
+-- whether a device exists and has so many channels
 abbrev pub is_match : Option ℕ → ℕ → Bool
 is_match None channels = false
 is_match (Some own) channels = own == channels
 
--- the settings of a new context on a device with its own channels, if it is there, before the context's number is looked at
+-- the checks of a new context on a device, by the channels of that, if it exists; the number of the context is looked at later
 unfoldable pub creation_refusal : Option ℕ → ℕ → ℕ → ℕ → ℕ → ℤ → ℤ → Option Refusal
 creation_refusal own device ty channels preempt play_gain record_gain = first_refusal
     (check (is_none own) BadDevice device
@@ -34,9 +34,9 @@ creation_refusal own device ty channels preempt play_gain record_gain = first_re
     ∷ check_gain record_gain
     ∷ check (not (is_match own channels)) BadMatch channels ∷ [])
 
--- The context that a request describes. Behind the checks its type is one of the four, and its gains are gains.
-abbrev pub described : ℕ → ℕ → ℕ → ℕ → ℤ → ℤ → Context
-described device ac ty preempt play_gain record_gain = record {
+-- The context that a request describes. After the checks its type is one of the four, and its gains are in range.
+abbrev pub requested_context : ℕ → ℕ → ℕ → ℕ → ℤ → ℤ → Context
+requested_context device ac ty preempt play_gain record_gain = record {
   ac = ac;
   device = device;
   ty = unwrap_or (type_of_code ty) Lin16;
@@ -45,12 +45,12 @@ described device ac ty preempt play_gain record_gain = record {
   preempt = preempt == 1;
 }
 
--- one context more, if the number is free and there is room
+-- creates a context, if its number is free and there is room
 abbrev pub create : Context → OpenLink → OpenLink
-create c p = refused_or opcodes.create_ac (context_refusal c.ac (creation p.link.contexts c.ac))
-    (λ q. replied opcodes.create_ac plain (with_contexts (q.link.contexts ++ c ∷ []) q)) p
+create c p = refuse_or opcodes.create_ac (context_refusal c.ac (creation p.link.contexts c.ac))
+    (λ q. reply_with opcodes.create_ac plain (with_contexts (q.link.contexts ++ c ∷ []) q)) p
 
--- the fields that the mask names are looked at: 1 play gain, 2 record gain, 4 preempt
+-- checks the fields that the mask names: 1 play gain, 2 record gain, 4 preempt
 unfoldable pub change_refusal : List Context → ℕ → ℕ → ℕ → ℤ → ℤ → Option Refusal
 change_refusal contexts mask ac preempt play_gain record_gain = first_refusal
     (check (not (is_in_use contexts ac)) BadAc ac
@@ -65,10 +65,10 @@ abbrev pub named_preempt : ℕ → ℕ → Option Bool
 named_preempt mask preempt = if names mask 4 then Some (preempt == 1) else None
 
 abbrev pub change : ℕ → ℕ → ℕ → ℤ → ℤ → OpenLink → OpenLink
-change mask ac preempt play_gain record_gain p = replied opcodes.change_ac plain
+change mask ac preempt play_gain record_gain p = reply_with opcodes.change_ac plain
     (with_contexts (with_changed p.link.contexts ac (with_settings (named_gain mask 1 play_gain) (named_gain mask 2 record_gain) (named_preempt mask preempt))) p)
 
--- a context is no more; what it had accepted stays
+-- a context is freed; what it had accepted stays
 abbrev pub free : ℕ → OpenLink → OpenLink
-free ac p = refused_or opcodes.free_ac (context_refusal ac (reference p.link.contexts ac))
-    (λ q. replied opcodes.free_ac plain (with_contexts (without_context q.link.contexts ac) q)) p
+free ac p = refuse_or opcodes.free_ac (context_refusal ac (reference p.link.contexts ac))
+    (λ q. reply_with opcodes.free_ac plain (with_contexts (without_context q.link.contexts ac) q)) p

@@ -3,7 +3,7 @@ use Rattle.std.specs.Prelude.{Bool, ℤ, pos, List, map, if◌then◌else◌}
 use Rattle.af_sample.specs.Gains.{gained}
 use Rattle.af_request.specs.declared.reply.Controls.{Controls}
 
--- a sample with a gain, or silence where it is switched off
+-- a sample with a gain, or silence if it is switched off
 abbrev pub through_control : Bool → ℤ → ℤ → ℤ
 through_control is_on gain x = if is_on then gained x gain else pos 0
 

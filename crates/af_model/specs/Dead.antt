@@ -1,4 +1,4 @@
--- That devices and lines are dead exactly where a call for them failed.
+-- Devices and lines are dead exactly if a call for them failed.
 use Rattle.std.specs.Prelude.{◌≡◌, ℕ, ◌==◌, ◌&&◌, not, Bool, false, List, slice_get, IfSome}
 use Rattle.std.specs.List.{list_any}
 use Rattle.std.specs.declared.option.Option.TheVariants.{None}
@@ -14,12 +14,12 @@ fails_device d (Captured device frames None) = device == d
 fails_device d (Emitted device sound done) = not done && device == d
 fails_device d _ = false
 
--- whether this is a hook of the line of device d that failed
+-- whether this is a hook call for the line of device d that failed
 abbrev pub fails_line : ℕ → Happening → Bool
 fails_line d (Hooked device off done) = not done && device == d
 fails_line d _ = false
 
--- behind a run a device is dead exactly where a capture or an emit of it failed, and a line exactly where a hook of it did
+-- after a run a device is dead exactly if a capture or an emit of it failed, and a line exactly if a hook call for it did
 abbrev pub IsDeadWhereFailed : List DeviceSpec → Log → Type 0
 IsDeadWhereFailed config log =
     IfSome (end_state config log) (λ s. (d : ℕ) → IfSome (slice_get s.devices d) (λ device.

@@ -6,26 +6,26 @@ use Rattle.af_request.specs.declared.reply.Controls.{Controls}
 use Rattle.af_request.specs.declared.reply.Phone.{Phone}
 use Rattle.af_request.specs.Answer.{plain, controls, phone}
 use Rattle.af_request.specs.Opcodes as opcodes
-use Rattle.af_phone.specs.Lines.{wanting}
+use Rattle.af_phone.specs.Lines.{with_wanted_hook}
 use Rattle.af_model.specs.declared.refusal.RefusalCause.TheVariants.{BadLine, BadValue}
 use Rattle.af_model.specs.declared.refusal.Refusal.{Refusal}
 use Rattle.af_model.specs.State.{DeviceState, OpenLink, open_link}
-use Rattle.af_model.specs.Reply.{refusal, refused, replied}
-use Rattle.af_model.specs.Checks.{check, check_gain, first_refusal, names, refused_or, where_named}
+use Rattle.af_model.specs.Reply.{refusal, refuse, reply_with}
+use Rattle.af_model.specs.Checks.{check, check_gain, first_refusal, names, refuse_or, where_named}
 use Rattle.af_model.specs.ContextRequests.{named_gain}
 use Rattle.af_model.specs.Play.{in_devices}
 
--- a request that names the line of a device is done with it, or refused where the device has none
+-- a request that names the line of a device is done with it, or refused if the device has none
 abbrev pub on_line : ℕ → ℕ → (Phone → OpenLink → OpenLink) → Option Phone → OpenLink → OpenLink
-on_line opcode d f None p = refused opcode (refusal BadLine d) p
+on_line opcode d f None p = refuse opcode (refusal BadLine d) p
 on_line opcode d f (Some line) p = f line p
 
 -- SelectEvents: the mask of events of a device is replaced
 abbrev pub select : ℕ → ℕ → OpenLink → OpenLink
-select d mask p = replied opcodes.select_events plain
+select d mask p = reply_with opcodes.select_events plain
     (open_link p.environment (record p.link { selections = slice_set p.link.selections d mask }))
 
--- SetControls: the fields that the mask names are looked at: 1 input gain, 2 output gain, 4 input on, 8 output on
+-- SetControls: checks the fields that the mask names: 1 input gain, 2 output gain, 4 input on, 8 output on
 unfoldable pub controls_refusal : ℕ → ℕ → ℕ → ℤ → ℤ → Option Refusal
 controls_refusal mask input_on output_on input_gain output_gain = first_refusal
     (where_named mask 1 (check_gain input_gain)
@@ -43,31 +43,31 @@ with_named mask input_on output_on input_gain output_gain c = record {
 }
 
 -- link k sets them
-abbrev pub controlling : ℕ → ℕ → ℕ → ℕ → ℤ → ℤ → DeviceState → DeviceState
-controlling k mask input_on output_on input_gain output_gain device =
+abbrev pub with_device_controls : ℕ → ℕ → ℕ → ℕ → ℤ → ℤ → DeviceState → DeviceState
+with_device_controls k mask input_on output_on input_gain output_gain device =
     record device { controls = with_named mask input_on output_on input_gain output_gain device.controls; actors = device.actors ++ k ∷ [] }
 
 abbrev pub set_device_controls : ℕ → ℕ → ℕ → ℕ → ℕ → ℤ → ℤ → DeviceState → OpenLink → OpenLink
 set_device_controls k d mask input_on output_on input_gain output_gain device p =
-    refused_or opcodes.set_controls (controls_refusal mask input_on output_on input_gain output_gain)
-    (λ q. replied opcodes.set_controls plain (in_devices d (controlling k mask input_on output_on input_gain output_gain) q)) p
+    refuse_or opcodes.set_controls (controls_refusal mask input_on output_on input_gain output_gain)
+    (λ q. reply_with opcodes.set_controls plain (in_devices d (with_device_controls k mask input_on output_on input_gain output_gain) q)) p
 
 -- QueryControls
 abbrev pub tell_controls : DeviceState → OpenLink → OpenLink
-tell_controls device p = replied opcodes.query_controls (controls device.controls) p
+tell_controls device p = reply_with opcodes.query_controls (controls device.controls) p
 
--- HookSwitch: a line that is dead is as one that is not there; link k wants the hook off or on
+-- HookSwitch: a dead line is refused like a missing one; link k wants the hook off or on
 abbrev pub switch_refusal : ℕ → ℕ → Phone → Option Refusal
 switch_refusal d off line = first_refusal (check line.dead BadLine d ∷ check (nat_lt 1 off) BadValue off ∷ [])
 
-abbrev pub wanting_hook : ℕ → Bool → DeviceState → DeviceState
-wanting_hook k off device = record device { line = option_map (wanting off) device.line; actors = device.actors ++ k ∷ [] }
+abbrev pub with_device_hook : ℕ → Bool → DeviceState → DeviceState
+with_device_hook k off device = record device { line = option_map (with_wanted_hook off) device.line; actors = device.actors ++ k ∷ [] }
 
 abbrev pub switch_hook : ℕ → ℕ → ℕ → Phone → OpenLink → OpenLink
 switch_hook k d off line p =
-    refused_or opcodes.hook_switch (switch_refusal d off line)
-    (λ q. replied opcodes.hook_switch plain (in_devices d (wanting_hook k (off == 1)) q)) p
+    refuse_or opcodes.hook_switch (switch_refusal d off line)
+    (λ q. reply_with opcodes.hook_switch plain (in_devices d (with_device_hook k (off == 1)) q)) p
 
 -- QueryPhone
 abbrev pub tell_phone : Phone → OpenLink → OpenLink
-tell_phone line p = replied opcodes.query_phone (phone line) p
+tell_phone line p = reply_with opcodes.query_phone (phone line) p

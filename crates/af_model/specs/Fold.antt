@@ -1,4 +1,4 @@
--- That what a device hands out is the mix of all that it ever accepts.
+-- What a device hands out is the mix of all that it ever accepts.
 use Rattle.std.specs.Prelude.{◌≡◌, ℕ, Bool, List, [], ◌∷◌, ◌++◌, slice_get, IfSome, IsSomeAnd}
 use Rattle.std.specs.declared.option.Option.TheVariants.{Some}
 use Rattle.af_sample.specs.Heard.{heard_from}
@@ -11,9 +11,9 @@ use Rattle.af_model.specs.State.{DeviceState, State}
 use Rattle.af_model.specs.Controls.{through_output_control}
 use Rattle.af_model.specs.Run.{end_state}
 
--- An emit stands behind a capture, and that behind the tick of its turn. Its sound is, of each time from the device's time before
--- that turn on and of each channel, what is heard of all plays that the device has accepted at the end, later ones with them, behind the controls that
--- the device had before that turn, and in its sample type.
+-- An emit comes after a capture, and the capture after the tick of its turn. Its sound has the frames from the device's time
+-- before that turn on. Each sample is what is heard at its time and channel of all plays that the device has accepted at the end,
+-- later ones too, with the controls that the device had before that turn, and in its sample type.
 pub record IsMixOfAll (config : List DeviceSpec) (front : Log) (d : ℕ) (sent : List ℕ) (end : State) : Type 0 where
   pub before : Log
   pub frames : ℕ
@@ -25,6 +25,6 @@ pub record IsMixOfAll (config : List DeviceSpec) (front : Log) (d : ℕ) (sent :
   pub stands : slice_get end.devices d ≡ Some last
   pub mixes : sent ≡ bytes_of device.ty (through_output_control device.controls (heard_from device.channels last.accepted device.now frames))
 
--- so it is of each emit in a run
+-- this holds of each emit in a run
 abbrev pub MixesAll : List DeviceSpec → Log → Type 0
 MixesAll config log = IfSome (end_state config log) (λ end. (front rest : Log) (d : ℕ) (sent : List ℕ) (done : Bool) → log ≡ front ++ Emitted d sent done ∷ rest → IsMixOfAll config front d sent end)

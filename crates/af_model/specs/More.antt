@@ -10,16 +10,16 @@ use Rattle.af_model.specs.Turn.{close_due, wants_read, wants_write}
 abbrev pub wants_turn : Bool → LinkState → Bool
 wants_turn waits l = wants_read waits l || (wants_write l || is_some (close_due l))
 
--- the same of one that may not be open
+-- the same for a slot, which may not be open
 abbrev pub open_wants : Bool → Option LinkState → Bool
 open_wants waits None = false
 open_wants waits (Some l) = wants_turn waits l
 
--- of these links, of which the first has number k, any is; which of them wait is said by their numbers
+-- one of these links does; the first has number k, and the second argument says which links have a deferred request
 abbrev pub any_wants : ℕ → (ℕ → Bool) → List (Option LinkState) → Bool
 any_wants k waits [] = false
 any_wants k waits (link ∷ links) = open_wants (waits k) link || any_wants (k + 1) waits links
 
--- some open link would go on in a turn that nothing wakes
+-- some open link would do something in a turn at Idle
 abbrev pub has_more : State → Bool
 has_more s = any_wants 0 (has_deferral s.waiting) (links_of s.slots)

@@ -1,4 +1,4 @@
--- That no write offers more than may wait to be sent.
+-- No write offers more than may wait to be sent.
 use Rattle.std.specs.Prelude.{◌≤◌, List, length, IfSome}
 use Rattle.std.specs.List.{All}
 use Rattle.af_limits.specs.Limits.{most_devices, most_pending}
@@ -8,11 +8,11 @@ use Rattle.af_world.specs.declared.script.DeviceSpec.{DeviceSpec}
 use Rattle.af_world.specs.Log.{Log}
 use Rattle.af_model.specs.Run.{end_state}
 
--- a write offers no more than ever waits to be sent
+-- a write offers at most the bytes that may wait to be sent
 abbrev pub IsOfferWithin : Happening → Type 0
 IsOfferWithin (Wrote link offered took) = offered ≤ most_pending
 IsOfferWithin _ = Unit {0}
 
--- so does each in a run over at most eight devices
+-- this holds of each write in a run over at most eight devices
 abbrev pub OffersWithin : List DeviceSpec → Log → Type 0
 OffersWithin config log = length config ≤ most_devices → IfSome (end_state config log) (λ end. All IsOfferWithin log)

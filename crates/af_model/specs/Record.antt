@@ -12,8 +12,8 @@ use Rattle.af_request.specs.Opcodes as opcodes
 use Rattle.af_model.specs.declared.refusal.RefusalCause.TheVariants.{BadValue}
 use Rattle.af_model.specs.declared.refusal.Refusal.{Refusal}
 use Rattle.af_model.specs.State.{DeviceState, OpenLink, deferred_record}
-use Rattle.af_model.specs.Reply.{replied, horizon_of}
-use Rattle.af_model.specs.Checks.{check, first_refusal, refused_or}
+use Rattle.af_model.specs.Reply.{reply_with, horizon_of}
+use Rattle.af_model.specs.Checks.{check, first_refusal, refuse_or}
 use Rattle.af_model.specs.Waiting.{wait}
 use Rattle.af_model.specs.Play.{frames_of, are_frames}
 
@@ -25,7 +25,7 @@ frames_before_now device time = device.now - unwrap device.now time
 unfoldable pub record_refusal : ℕ → Context → ℕ → Option Refusal
 record_refusal channels c bytes = first_refusal (check (nat_lt longest_record bytes) BadValue bytes ∷ check (not (are_frames channels c bytes)) BadValue bytes ∷ [])
 
--- how many of the frames from a time on are given: all, or, of a record that does not block, those before now
+-- how many of the frames from a time on are given: all; or those before now, if the record does not block
 abbrev pub given_frames : Bool → DeviceState → ℕ → ℕ → ℕ
 given_frames blocking device time frames = if blocking then frames else min (frames_before_now device time) frames
 
@@ -36,9 +36,9 @@ recorded_bytes c device start n = bytes_of c.ty (map (λ x. gained x c.record_ga
 
 -- a record is answered with n frames
 abbrev pub give_record : Context → ℕ → ℕ → DeviceState → OpenLink → OpenLink
-give_record c start n device p = replied opcodes.record (recorded (device.now % 2 ^ 32) (recorded_bytes c device start n)) p
+give_record c start n device p = reply_with opcodes.record (recorded (device.now % 2 ^ 32) (recorded_bytes c device start n)) p
 
--- a record waits where it blocks and has a frame that is not before now
+-- a record is deferred if it blocks and has a frame that is not before now
 abbrev pub is_to_wait : Bool → DeviceState → ℕ → ℕ → Bool
 is_to_wait blocking device time frames = blocking && nat_lt (frames_before_now device time) frames
 
@@ -50,4 +50,4 @@ start_record k blocking c time bytes device p =
 
 abbrev pub record_sound : ℕ → Bool → Context → ℕ → ℕ → DeviceState → OpenLink → OpenLink
 record_sound k blocking c time bytes device p =
-    refused_or opcodes.record (record_refusal device.channels c bytes) (start_record k blocking c time bytes device) p
+    refuse_or opcodes.record (record_refusal device.channels c bytes) (start_record k blocking c time bytes device) p

@@ -35,14 +35,14 @@ code_of_cause BadLine = 8
 abbrev pub refusal : RefusalCause → ℕ → Refusal
 refusal cause value = record { cause = cause; value = value }
 
--- the bytes of a reply, in an order, to the request with this opcode and number
+-- the bytes of a reply, in a byte order, to the request with this opcode and number
 unfoldable pub reply_message : Order → ℕ → Answer → ℕ → List ℕ
 reply_message order opcode answer sequence = reply_bytes order opcode answer sequence
 
--- the request with this opcode is replied to, with the number that it has
-abbrev pub replied : ℕ → Answer → OpenLink → OpenLink
-replied opcode answer p = say p (reply_message p.link.order opcode answer p.link.sequence)
+-- the request with this opcode is replied to, with its number
+abbrev pub reply_with : ℕ → Answer → OpenLink → OpenLink
+reply_with opcode answer p = say p (reply_message p.link.order opcode answer p.link.sequence)
 
 -- it is refused: an error says why, and nothing else changes
-abbrev pub refused : ℕ → Refusal → OpenLink → OpenLink
-refused opcode r p = say p (error p.link.order (code_of_cause r.cause) r.value opcode p.link.sequence)
+abbrev pub refuse : ℕ → Refusal → OpenLink → OpenLink
+refuse opcode r p = say p (error p.link.order (code_of_cause r.cause) r.value opcode p.link.sequence)

@@ -1,4 +1,4 @@
--- The state of the abstract server: its devices, its links, what was ever said to each link, and the requests that wait.
+-- The state of the abstract server: its devices, its links, what was ever queued for each link, and the deferred requests.
 use Rattle.std.specs.Prelude.{ℕ, ◌+◌, ◌^◌, ◌==◌, ℤ, pos, Bool, true, false, if◌then◌else◌, List, [], ◌++◌, map, replicate, slice_get, slice_set, is_some}
 use Rattle.std.specs.List.{list_any}
 use Rattle.std.specs.declared.option.Option.{Option}
@@ -15,31 +15,31 @@ use Rattle.af_phone.specs.Lines.{quiet_line}
 use Rattle.af_world.specs.declared.happening.Why.{Why}
 use Rattle.af_world.specs.declared.script.DeviceSpec.{DeviceSpec}
 
--- A request that waits: a play, whose sound has the gain that its context had, and which is replied to unless it is quiet; or
--- a record, with its context as it was. Starts are whole times.
+-- A deferred request: a play, whose sound has the gain that its context had, and which is replied to unless it is quiet; or a
+-- record, with its context as it was. Starts are whole times.
 pub data Deferred : Type 0 where
   deferred_play : (quiet : Bool) (start : ℕ) (sound : List ℤ) (preempt : Bool) → Deferred
   deferred_record : (context : Context) (start frames : ℕ) → Deferred
 
--- a link that waits for a device's time, with its request
+-- a link with a deferred request, and the device whose time it waits for
 pub record Deferral : Type 0 where
   pub link : ℕ
   pub device : ℕ
   pub deferred : Deferred
 
--- a request of a link that had waited, and the device's time when it was completed
+-- a request that was deferred, and the device's time when it was completed
 pub record Completion : Type 0 where
   pub link : ℕ
   pub deferred : Deferred
   pub at : ℕ
 
--- A device. Its time is unbounded, and begins 2^32 above the stated start, so that times before the start are natural
--- numbers too: only differences of times, and times modulo 2^32, are ever seen.
--- What was accepted, captured and completed is history: all plays in the order of their acceptance, the samples of all frames since
--- the begin, and all requests that had waited. So are its actors, the numbers of the links that acted on it: of each that had a play
--- with a frame accepted, set its controls, or moved its hook, in that order. None of it goes with the link.
--- Its controls act on what it captures and hands out. Its line, if it has one, has flags of its own.
--- A device is dead once a capture or an emit of it has failed.
+-- A device. Its time is unbounded, and begins 2^32 above the stated start, so that times before the start are natural numbers
+-- too: only differences of times, and times modulo 2^32, are ever seen.
+-- What was accepted, captured and completed is history: all plays in the order of their acceptance, the samples of all frames
+-- since the begin, and all requests that were deferred. So are its actors: the numbers of the links that had a play with a frame
+-- accepted, set its controls, or moved its hook, in that order. All of it stays when the link is closed. Its controls act on what
+-- it captures and hands out. Its line, if it has one, has flags of its own. A device is dead once a capture or an emit of it has
+-- failed.
 pub record DeviceState : Type 0 where
   pub ty : SampleType
   pub channels : ℕ
@@ -58,9 +58,10 @@ pub record DeviceState : Type 0 where
 abbrev pub has_acted : ℕ → DeviceState → Bool
 has_acted k device = list_any (λ j. j == k) device.actors
 
--- An open link: whether it is set up, the order of its bytes, which is Big before its setup, its unread input, its unsent output, whether it may have something to read, whether it is stuck, as its last
--- write took less than was offered, why it is to be closed, how many requests it has made, modulo 2^16, its contexts in order
--- of creation, and for each number of a device the mask of the events that it selects.
+-- An open link: whether it is set up; its byte order, which is Big before its setup; its unread input; its unsent output; whether
+-- it may have something to read; whether it is blocked, as its last write took less than was offered; why it is to be closed; how
+-- many requests it has made, modulo 2^16; its contexts in order of creation; and for each device number the mask of the events
+-- that it selects.
 pub record LinkState : Type 0 where
   pub is_set_up : Bool
   pub order : Order
@@ -73,13 +74,13 @@ pub record LinkState : Type 0 where
   pub contexts : List Context
   pub selections : List ℕ
 
--- A number for a link, open or not. What was said is history: all that was appended to the link's output since it was
--- opened last, which stays behind a close.
+-- A slot for a link, open or not. What was said is history: all that was appended to the link's output since it was last opened.
+-- It stays after a close.
 pub record SlotState : Type 0 where
   pub link : Option LinkState
   pub said : List ℕ
 
--- The requests that wait are in the order in which they began to. A link has one at most.
+-- The deferred requests, the longest deferred first. A link has one at most.
 pub record State : Type 0 where
   pub devices : List DeviceState
   pub slots : List SlotState
@@ -99,12 +100,12 @@ pub record OpenLink : Type 0 where
 abbrev pub open_link : EnvironmentState → LinkState → OpenLink
 open_link a l = record { environment = a; link = l }
 
--- Bytes are appended to a link's output, and so were said. Nothing else writes either.
+-- Bytes are appended to a link's output, and to what was said. Nothing else changes either.
 abbrev pub say : OpenLink → List ℕ → OpenLink
 say p bytes =
     open_link (record p.environment { said = p.environment.said ++ bytes }) (record p.link { pending = p.link.pending ++ bytes })
 
--- the devices, the one at a number changed
+-- the devices, with the one at a number changed
 abbrev pub device_set : ℕ → (DeviceState → DeviceState) → List DeviceState → Option DeviceState → List DeviceState
 device_set d f devices None = devices
 device_set d f devices (Some device) = slice_set devices d (f device)
@@ -112,17 +113,17 @@ device_set d f devices (Some device) = slice_set devices d (f device)
 abbrev pub with_device : ℕ → (DeviceState → DeviceState) → List DeviceState → List DeviceState
 with_device d f devices = device_set d f devices (slice_get devices d)
 
--- no event is selected of any device
+-- no event of any device is selected
 abbrev pub none_selected : List ℕ
 none_selected = replicate most_devices 0
 
 -- a link that was just opened
-abbrev pub opened : LinkState
-opened = record { is_set_up = false; order = Big; rest = []; pending = []; is_ready = false; is_stuck = false; closing = None; sequence = 0; contexts = []; selections = none_selected }
+abbrev pub new_link_state : LinkState
+new_link_state = record { is_set_up = false; order = Big; rest = []; pending = []; is_ready = false; is_stuck = false; closing = None; sequence = 0; contexts = []; selections = none_selected }
 
--- a link that is to be closed, for its first cause; nothing more of its input is read, and no event is told it
-abbrev pub stopped : Why → LinkState → LinkState
-stopped cause l = record l { rest = []; closing = Some cause; selections = none_selected }
+-- a link that is to be closed, for its first cause; nothing more of its input is read, and no event is queued for it
+abbrev pub closing_link : Why → LinkState → LinkState
+closing_link cause l = record l { rest = []; closing = Some cause; selections = none_selected }
 
 -- input and output are on, and both gains 0
 abbrev pub opening_controls : Controls
@@ -152,9 +153,9 @@ opening_device d = record {
 abbrev pub closed_slot : SlotState
 closed_slot = record { link = None; said = [] }
 
--- no link is open, and each device stands at its start
-abbrev pub opening : List DeviceSpec → State
-opening config = record { devices = map opening_device config; slots = replicate most_links closed_slot; waiting = [] }
+-- no link is open, and each device is at its start
+abbrev pub opening_state : List DeviceSpec → State
+opening_state config = record { devices = map opening_device config; slots = replicate most_links closed_slot; waiting = [] }
 
 -- the slot of a link's number
 abbrev pub some_slot : Option SlotState → SlotState
@@ -189,7 +190,7 @@ links_of slots = map (λ slot. slot.link) slots
 abbrev pub lines_of : List DeviceState → List Bool
 lines_of devices = map (λ device. is_some device.line) devices
 
--- What decides whether a wake may come: which devices are there, each with a line or not, and which links are open.
+-- What decides whether a wake may come: which devices exist, each with a line or not, and which links are open.
 pub record Outline : Type 0 where
   pub lines : List Bool
   pub links : List Bool

@@ -1,4 +1,5 @@
--- Sample periods of a device go by: it captures, hands its sound out, its time rises, and requests that waited for it complete.
+-- Sample periods of a device go by: it captures, hands its sound out, its time rises, and requests that were deferred for it
+-- complete.
 use Rattle.std.specs.Prelude.{ℕ, zero, suc, ◌+◌, ◌*◌, Bool, pos, ℤ, List, [], ◌∷◌, ◌++◌, length, replicate, find, option_map, option_and_then, slice_get}
 use Rattle.std.specs.declared.option.Option.{Option}
 use Rattle.std.specs.declared.option.Option.TheVariants.{None, Some}
@@ -16,21 +17,21 @@ use Rattle.af_model.specs.Advance.{advance, or_else}
 abbrev pub next_sound : DeviceState → ℕ → List ℤ
 next_sound device n = heard_from device.channels device.accepted device.now n
 
--- the sound that a device hands out in n sample periods, behind its output control and in its sample type
+-- the sound that a device hands out in n sample periods, after its output control and in its sample type
 abbrev pub sound : DeviceState → ℕ → List ℕ
 sound device n = bytes_of device.ty (through_output_control device.controls (next_sound device n))
 
--- what a device captures in n sample periods: the samples of the bytes that came, or silence where none did
+-- what a device captures in n sample periods: the samples of the bytes that came, or silence if none did
 abbrev pub captured_samples : DeviceState → ℕ → Option (List ℕ) → List ℤ
 captured_samples device n None = replicate (device.channels * n) (pos 0)
 captured_samples device n (Some bytes) = samples device.ty bytes
 
--- a device behind n sample periods in which these samples came before its input control, dead or not
-abbrev pub later : ℕ → List ℤ → Bool → DeviceState → DeviceState
-later n captured is_dead device =
+-- a device after n sample periods in which these samples came to its input control, dead or not
+abbrev pub device_after : ℕ → List ℤ → Bool → DeviceState → DeviceState
+device_after n captured is_dead device =
     record device { now = device.now + n; captured = device.captured ++ through_input_control device.controls captured; is_dead = is_dead }
 
--- what a device has accepted when it has completed a request that had waited: a play is accepted now
+-- the plays that a device has accepted after it completed a deferred request: a play is accepted now
 abbrev pub with_deferred : Deferred → ℕ → List AcceptedPlay → List AcceptedPlay
 with_deferred (deferred_play quiet start sound preempt) now accepted = with_play (record { start = start; samples = sound; preempt = preempt; at = now }) accepted
 with_deferred (deferred_record c start frames) now accepted = accepted
@@ -40,23 +41,23 @@ abbrev pub with_deferred_actor : ℕ → Deferred → List ℕ → List ℕ
 with_deferred_actor k (deferred_play quiet start sound preempt) actors = with_actor k sound actors
 with_deferred_actor k (deferred_record c start frames) actors = actors
 
--- a device completes a request of link k that had waited
-abbrev pub completing : ℕ → Deferred → DeviceState → DeviceState
-completing k deferred device = record device {
+-- a device completes a deferred request of link k
+abbrev pub complete_deferred : ℕ → Deferred → DeviceState → DeviceState
+complete_deferred k deferred device = record device {
   accepted = with_deferred deferred device.now device.accepted;
   actors = with_deferred_actor k deferred device.actors;
   completed = device.completed ++ record { link = k; deferred = deferred; at = device.now } ∷ [];
 }
 
--- what a link is answered then
+-- the answer to the link then
 abbrev pub answer_deferred : Deferred → DeviceState → OpenLink → OpenLink
 answer_deferred (deferred_play quiet start sound preempt) device p = tell_played quiet device p
 answer_deferred (deferred_record c start frames) device p = give_record c start frames device p
 
--- a link's request completes, and then those that the link may then make
+-- a link's deferred request completes, and then requests that the link may now make are performed
 abbrev pub complete_for : Deferral → Option DeviceState → OpenLink → OpenLink
 complete_for w None p = p
-complete_for w (Some device) p = advance w.link (answer_deferred w.deferred device (in_devices w.device (completing w.link w.deferred) p))
+complete_for w (Some device) p = advance w.link (answer_deferred w.deferred device (in_devices w.device (complete_deferred w.link w.deferred) p))
 
 abbrev pub enter : OpenLink → SlotLink
 enter p = link_in_slot p.environment (Some p.link)
@@ -68,7 +69,7 @@ complete_at w a (Some l) = enter (complete_for w (slice_get a.devices w.device) 
 abbrev pub complete : Deferral → State → State
 complete w s = with_slot_link w.link s (complete_at w (slot_link_at w.link s).environment (slot_link_at w.link s).link)
 
--- the first request that waits for device d and is due leaves the list and completes; None where none is due
+-- the longest deferred request that is due for device d leaves the list and completes; None if none is due
 abbrev pub complete_first : ℕ → State → DeviceState → Option State
 complete_first d s device =
     option_map (λ w. complete w (record s { waiting = without_first (falls_due d device) s.waiting })) (find (falls_due d device) s.waiting)
@@ -81,11 +82,12 @@ abbrev pub complete_by : ℕ → ℕ → State → State
 complete_by zero d s = s
 complete_by (suc n) d s = or_else s (complete_by n d) (complete_step d s)
 
--- As long as one is due. What begins to wait behind a completion is not due yet, so that there are no more than the list has.
+-- As long as one is due. A request that is deferred after a completion is not due yet, so at most as many complete as the list
+-- has.
 unfoldable pub complete_due : ℕ → State → State
 complete_due d s = complete_by (length s.waiting) d s
 
--- So many sample periods of device d, in which these samples came, go by, behind which it is dead or not. Then the requests
--- that are due complete, in the order in which they began to wait.
+-- So many sample periods of device d go by, in which these samples came, and it is dead after them or not. Then the requests that
+-- are due complete, the longest deferred first.
 abbrev pub tick : ℕ → ℕ → List ℤ → Bool → State → State
-tick d n captured is_dead s = complete_due d (record s { devices = with_device d (later n captured is_dead) s.devices })
+tick d n captured is_dead s = complete_due d (record s { devices = with_device d (device_after n captured is_dead) s.devices })

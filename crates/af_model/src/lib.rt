@@ -32,10 +32,10 @@ pub use refusal::{Refusal, RefusalCause};
 pub fn one_log_law()
     ensures { (config : List DeviceSpec) (steps : List Step) (a b : Log) → ScriptLog config steps a → ScriptLog config steps b → a ≡ b }
 {}
-/// A law of the definitions alone: a malformed client closes itself alone. Suppose that taking off the front of its input closes a link
-/// for it. Then nothing in the link's environment changes, no device and no other request. All that is queued for the link is still
-/// sent, and no more of its input is read. Serving a link, that one or any other, changes no other link, and leaves the other deferred
-/// requests in their order.
+/// A law of the definitions alone: a malformed client closes itself alone. Suppose that taking off the front of its input closes
+/// a link for it. Then nothing in the link's environment changes, no device and no other request. All that is queued for the link
+/// is still sent, and no more of its input is read. Serving a link, that one or any other, changes no other link, and leaves the
+/// other deferred requests in their order.
 /// the others that wait in their order.
 pub fn malformed_alone_law()
     ensures closes { (k : ℕ) (p q : OpenLink) → advance_step k p ≡ Some q → q.link.closing ≡ Some why.Malformed →
@@ -56,29 +56,29 @@ pub fn prefix_law()
     ensures { (config : List DeviceSpec) (log : Log) → TakesInOrder config log }
 {}
 
-/// A law of the definitions alone, of what is offered: with at most eight devices, no write of a run offers more than 65168 bytes. So
-/// much may wait to be sent where a request is answered that was deferred, after events.
+/// A law of the definitions alone, of what is offered: with at most eight devices, no write of a run offers more than 65168
+/// bytes. So much may wait to be sent where a request is answered that was deferred, after events.
 pub fn offer_law()
     ensures { (config : List DeviceSpec) (log : Log) → OffersWithin config log }
 {}
 
-/// A law of the definitions alone, of what is heard: each emit in a run has the sound of all plays that its device has accepted at
-/// the end of the run, at the times that it hands out, through the controls that the device had before that turn.
+/// A law of the definitions alone, of what is heard: each emit in a run has the sound of all plays that its device has accepted
+/// at the end of the run, at the times that it hands out, through the controls that the device had before that turn.
 pub fn fold_law()
     ensures { (config : List DeviceSpec) (log : Log) → MixesAll config log }
 {}
 
-/// A law of the definitions alone, of closes: each link in a run is closed for the one cause that its part of the log shows. A read or
-/// a write of it failed; or an event found no room beside what was to be sent to it, and no read had said that it ended; or a read
-/// said that it ended, and all that its reads gave was served; or its first bytes are no good setup; or, after a good setup and
-/// requests, its bytes are malformed.
+/// A law of the definitions alone, of closes: each link in a run is closed for the one cause that its part of the log shows. A
+/// read or a write of it failed; or an event found no room beside what was to be sent to it, and no read had said that it ended;
+/// or a read said that it ended, and all that its reads gave was served; or its first bytes are no good setup; or, after a good
+/// setup and requests, its bytes are malformed.
 pub fn cause_law()
     ensures shown { (config : List DeviceSpec) (log : Log) → ClosesForCauses config log }
     ensures one { (a b : Why) (h : LinkHistory) (owed : ℕ) → IsCause a h owed → IsCause b h owed → a ≡ b }
 {}
 
-/// A law of the definitions alone, of devices and lines that are dead: after each run those are for which a call failed, a capture
-/// or an emit of the device, a hook of the line, and no others.
+/// A law of the definitions alone, of devices and lines that are dead: after each run those are for which a call failed, a
+/// capture or an emit of the device, a hook of the line, and no others.
 pub fn dead_law()
     ensures { (config : List DeviceSpec) (log : Log) → IsDeadWhereFailed config log }
 {}

@@ -5,7 +5,7 @@ use Rattle.std.specs.declared.option.Option.TheVariants.{None, Some}
 use Rattle.af_limits.specs.Limits.{longest_read}
 use Rattle.af_world.specs.declared.happening.ReadGot.{ReadGot}
 use Rattle.af_world.specs.declared.happening.ReadGot.TheVariants.{Given, NotYet, Ended}
-use Rattle.af_world.specs.Outside.{ScriptedClient, client_answered, failed_from, fresh_client, given_from, read_from, same_bytes, written_to}
+use Rattle.af_world.specs.Outside.{ScriptedClient, client_after_call, client_after_fault, fresh_client, client_after_give, client_after_read, same_bytes, client_after_write}
 use Rattle.af_outside.specs.Tape.{client_where}
 use Rattle.af_world.proofs.EqualityTestLemmas.{eq-refl, same_bytes-refl}
 
@@ -14,31 +14,31 @@ drop_taken zero xs = refl
 drop_taken (suc n) [] = refl
 drop_taken (suc n) (x ∷ xs) = drop_taken n xs
 
-first_given : (xs bytes : List ℕ) (client : ScriptedClient) → 0 < length (take longest_read xs) → bytes ≡ take longest_read xs → given_from (Given bytes) xs client ≡ Some (record client { gives = drop longest_read xs })
+first_given : (xs bytes : List ℕ) (client : ScriptedClient) → 0 < length (take longest_read xs) → bytes ≡ take longest_read xs → client_after_give (Given bytes) xs client ≡ Some (record client { gives = drop longest_read xs })
 first_given [] bytes client some e = absurd (omega (arith, some))
 first_given (x ∷ xs) bytes client some e =
     ap (λ t. if t then Some (record client { gives = drop longest_read (x ∷ xs) }) else None) (ap (λ b. same_bytes b (take longest_read (x ∷ xs))) e ∙ same_bytes-refl (take longest_read (x ∷ xs)))
 
-none_given : (xs : List ℕ) (client : ScriptedClient) → length (take longest_read xs) ≡ 0 → client.ends ≡ false → given_from NotYet xs client ≡ Some client
+none_given : (xs : List ℕ) (client : ScriptedClient) → length (take longest_read xs) ≡ 0 → client.ends ≡ false → client_after_give NotYet xs client ≡ Some client
 none_given [] client none e = ap (λ t. if t then None else Some client) e
 none_given (x ∷ xs) client none e = absurd (omega (arith, none))
 
-end_given : (xs : List ℕ) (client : ScriptedClient) → length (take longest_read xs) ≡ 0 → client.ends ≡ true → given_from Ended xs client ≡ Some client
+end_given : (xs : List ℕ) (client : ScriptedClient) → length (take longest_read xs) ≡ 0 → client.ends ≡ true → client_after_give Ended xs client ≡ Some client
 end_given [] client none e = ap (λ t. if t then Some client else None) e
 end_given (x ∷ xs) client none e = absurd (omega (arith, none))
 
 -- a read of an open link that does not fail is answered by what its client gives
-unfailing : (is_open : Bool) (client client' : ScriptedClient) (got : ReadGot) → is_open ≡ true → client.fails_read ≡ false → given_from got client.gives client ≡ Some client' →
-    client_answered (read_from got) (client_where is_open client) ≡ Some (client_where is_open client')
+unfailing : (is_open : Bool) (client client' : ScriptedClient) (got : ReadGot) → is_open ≡ true → client.fails_read ≡ false → client_after_give got client.gives client ≡ Some client' →
+    client_after_call (client_after_read got) (client_where is_open client) ≡ Some (client_where is_open client')
 unfailing false client client' got opened flag gives = absurd cc
 unfailing true client client' got opened flag gives =
-    ap (λ t. option_map (λ (p : ScriptedClient). Some p) (if t then failed_from got client else given_from got client.gives client)) flag
+    ap (λ t. option_map (λ (p : ScriptedClient). Some p) (if t then client_after_fault got client else client_after_give got client.gives client)) flag
     ∙ ap (option_map (λ (p : ScriptedClient). Some p)) gives
 
 -- the first bytes that are left are the answer to a read
 pub read_first : (is_open : Bool) (client : ScriptedClient) (n room : ℕ) (bytes rest : List ℕ) → is_open ≡ true → client.fails_read ≡ false → room ≡ longest_read → n ≡ length (take room client.gives) →
     0 < n → bytes ≡ take room client.gives → rest ≡ drop n client.gives →
-    client_answered (read_from (Given bytes)) (client_where is_open client) ≡ Some (client_where is_open (record client { gives = rest }))
+    client_after_call (client_after_read (Given bytes)) (client_where is_open client) ≡ Some (client_where is_open (record client { gives = rest }))
 read_first is_open client n room bytes rest opened flag whole count some given left =
     let count' : n ≡ length (take longest_read client.gives) = count ∙ ap (λ m. length (take m client.gives)) whole in
     let rest' : drop longest_read client.gives ≡ rest = sym (left ∙ ap (λ m. drop m client.gives) count' ∙ drop_taken longest_read client.gives) in
@@ -49,22 +49,22 @@ read_first is_open client n room bytes rest opened flag whole count some given l
 as_before : (client : ScriptedClient) (n : ℕ) (rest : List ℕ) → rest ≡ drop n client.gives → n ≡ 0 → client ≡ record client { gives = rest }
 as_before client n rest left none = ap (λ (xs : List ℕ). (let p : ScriptedClient = record client { gives = xs } in p)) (sym (left ∙ ap (λ m. drop m client.gives) none))
 
--- NotYet is the answer to a read where no byte is left, and no end is stated
+-- NotYet is the answer to a read if no byte is left, and no end is stated
 pub read_nothing : (is_open : Bool) (client : ScriptedClient) (n room : ℕ) (rest : List ℕ) → is_open ≡ true → client.fails_read ≡ false → room ≡ longest_read → n ≡ length (take room client.gives) →
     n ≡ 0 → client.ends ≡ false → rest ≡ drop n client.gives →
-    client_answered (read_from NotYet) (client_where is_open client) ≡ Some (client_where is_open (record client { gives = rest }))
+    client_after_call (client_after_read NotYet) (client_where is_open client) ≡ Some (client_where is_open (record client { gives = rest }))
 read_nothing is_open client n room rest opened flag whole count none ends left =
     unfailing is_open client _ NotYet opened flag
     (none_given client.gives client (sym (count ∙ ap (λ m. length (take m client.gives)) whole) ∙ none) ends ∙ ap (λ (p : ScriptedClient). Some p) (as_before client n rest left none))
 
--- Ended is the answer to a read where no byte is left, and an end is stated
+-- Ended is the answer to a read if no byte is left, and an end is stated
 pub read_end : (is_open : Bool) (client : ScriptedClient) (n room : ℕ) (rest : List ℕ) → is_open ≡ true → client.fails_read ≡ false → room ≡ longest_read → n ≡ length (take room client.gives) →
     n ≡ 0 → client.ends ≡ true → rest ≡ drop n client.gives →
-    client_answered (read_from Ended) (client_where is_open client) ≡ Some (client_where is_open (record client { gives = rest }))
+    client_after_call (client_after_read Ended) (client_where is_open client) ≡ Some (client_where is_open (record client { gives = rest }))
 read_end is_open client n room rest opened flag whole count none ends left =
     unfailing is_open client _ Ended opened flag
     (end_given client.gives client (sym (count ∙ ap (λ m. length (take m client.gives)) whole) ∙ none) ends ∙ ap (λ (p : ScriptedClient). Some p) (as_before client n rest left none))
 
 -- a link that is not open takes all
-pub written_closed : (n : ℕ) (bytes : List ℕ) → length bytes ≡ n → client_answered (written_to n (Some bytes)) None ≡ Some None
+pub written_closed : (n : ℕ) (bytes : List ℕ) → length bytes ≡ n → client_after_call (client_after_write n (Some bytes)) None ≡ Some None
 written_closed n bytes count = ap (λ t. option_map (λ (p : ScriptedClient). None) (if t then Some fresh_client else None)) (ap (λ m. m == n) count ∙ eq-refl n)

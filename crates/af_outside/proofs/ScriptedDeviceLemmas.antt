@@ -7,11 +7,11 @@ use Rattle.std.specs.declared.option.Option.TheVariants.{None, Some}
 use Rattle.af_world.specs.declared.script.DeviceSpec.{DeviceSpec}
 use Rattle.af_world.specs.declared.script.Step.{Step}
 use Rattle.af_outside.specs.declared.scripted_device.KeptScriptedDevice.{KeptScriptedDevice}
-use Rattle.af_world.specs.Outside.{Outside, ScriptedDevice, scripted_at, with_scripted, scripted_of, captured, capture_answered, emit_answered, hook_answered, same_bytes}
+use Rattle.af_world.specs.Outside.{Outside, ScriptedDevice, scripted_at, with_scripted, scripted_of, captured_bytes, outside_after_capture, outside_after_emit, outside_after_hook, same_bytes}
 use Rattle.af_outside.specs.Tape.{KeptClient, outside_of, kept_at, kept_scripted_of, devices_of}
 use Rattle.af_world.proofs.EqualityTestLemmas.{same_bytes-refl}
 
--- nothing was stated of devices whatever the steps are
+-- nothing was stated of devices, whatever the steps are
 pub devices_of-start : (steps : List Step) (config : List DeviceSpec) → devices_of steps (map (λ d. kept_scripted_of d.ty) config) ≡ map (λ d. scripted_of d.ty) config
 devices_of-start steps config = map-map (kept_at steps) (λ (d : DeviceSpec). kept_scripted_of d.ty) config
 
@@ -29,32 +29,32 @@ outside_of-changed links steps kept kept' d old new change put changed at =
     outside_of-put links steps kept kept' d new put
     ∙ ap (with_scripted (outside_of links (devices_of steps kept)) d) (changed ∙ ap change at)
 
--- a capture fails where that is stated
+-- a capture fails if that is stated
 pub capture_failed : (o o' : Outside) (d : ℕ) (scripted scripted' : ScriptedDevice) → scripted ≡ scripted' → scripted.fails_capture ≡ true →
-    o' ≡ with_scripted o d (record scripted { fails_capture = false }) → capture_answered o d scripted' None ≡ Some o'
+    o' ≡ with_scripted o d (record scripted { fails_capture = false }) → outside_after_capture o d scripted' None ≡ Some o'
 capture_failed o o' d scripted scripted' same flag e =
-    subst (λ s. capture_answered o d s None ≡ Some o') same
+    subst (λ s. outside_after_capture o d s None ≡ Some o') same
     (ap (λ t. if t then Some (with_scripted o d (record scripted { fails_capture = false })) else None) flag ∙ ap (λ o. Some o) (sym e))
 
--- a capture gives what is stated where no failure is
+-- a capture gives what is stated if no failure is
 pub capture_done : (o : Outside) (d n : ℕ) (bytes : List ℕ) (scripted scripted' : ScriptedDevice) → scripted ≡ scripted' → scripted.fails_capture ≡ false →
-    bytes ≡ captured scripted n → length bytes ≡ n → capture_answered o d scripted' (Some bytes) ≡ Some o
+    bytes ≡ captured_bytes scripted n → length bytes ≡ n → outside_after_capture o d scripted' (Some bytes) ≡ Some o
 capture_done o d n bytes scripted scripted' same flag given count =
-    let all : bytes ≡ captured scripted (length bytes) = given ∙ ap (captured scripted) (sym count) in
-    let equal : same_bytes bytes (captured scripted (length bytes)) ≡ true = ap (same_bytes bytes) (sym all) ∙ same_bytes-refl bytes in
-    subst (λ s. capture_answered o d s (Some bytes) ≡ Some o) same
-    (ap (λ t. if not t && same_bytes bytes (captured scripted (length bytes)) then Some o else None) flag ∙ ap (λ t. if t then Some o else None) equal)
+    let all : bytes ≡ captured_bytes scripted (length bytes) = given ∙ ap (captured_bytes scripted) (sym count) in
+    let equal : same_bytes bytes (captured_bytes scripted (length bytes)) ≡ true = ap (same_bytes bytes) (sym all) ∙ same_bytes-refl bytes in
+    subst (λ s. outside_after_capture o d s (Some bytes) ≡ Some o) same
+    (ap (λ t. if not t && same_bytes bytes (captured_bytes scripted (length bytes)) then Some o else None) flag ∙ ap (λ t. if t then Some o else None) equal)
 
--- an emit fails where that is stated
+-- an emit fails if that is stated
 pub emit_failed : (o o' : Outside) (d : ℕ) (scripted scripted' : ScriptedDevice) → scripted ≡ scripted' → scripted.fails_emit ≡ true →
-    o' ≡ with_scripted o d (record scripted { fails_emit = false }) → emit_answered o d scripted' false ≡ Some o'
+    o' ≡ with_scripted o d (record scripted { fails_emit = false }) → outside_after_emit o d scripted' false ≡ Some o'
 emit_failed o o' d scripted scripted' same flag e =
-    subst (λ s. emit_answered o d s false ≡ Some o') same
+    subst (λ s. outside_after_emit o d s false ≡ Some o') same
     (ap (λ t. if t then Some (with_scripted o d (record scripted { fails_emit = false })) else None) flag ∙ ap (λ o. Some o) (sym e))
 
--- a hook call fails where that is stated
+-- a hook call fails if that is stated
 pub hook_failed : (o o' : Outside) (d : ℕ) (scripted scripted' : ScriptedDevice) → scripted ≡ scripted' → scripted.fails_hook ≡ true →
-    o' ≡ with_scripted o d (record scripted { fails_hook = false }) → hook_answered o d scripted' false ≡ Some o'
+    o' ≡ with_scripted o d (record scripted { fails_hook = false }) → outside_after_hook o d scripted' false ≡ Some o'
 hook_failed o o' d scripted scripted' same flag e =
-    subst (λ s. hook_answered o d s false ≡ Some o') same
+    subst (λ s. outside_after_hook o d s false ≡ Some o') same
     (ap (λ t. if t then Some (with_scripted o d (record scripted { fails_hook = false })) else None) flag ∙ ap (λ o. Some o) (sym e))

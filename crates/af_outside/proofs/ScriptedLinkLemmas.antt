@@ -8,8 +8,8 @@ use Rattle.std.specs.declared.option.Option.{Option}
 use Rattle.std.specs.declared.option.Option.TheVariants.{None, Some}
 use Rattle.af_world.specs.declared.script.Step.{Step}
 use Rattle.af_world.specs.declared.script.Step.TheVariants as step
-use Rattle.af_world.specs.Outside.{Outside, ScriptedClient, ScriptedDevice, adjusted, client_answered, fresh_client, opened_at, client_at, stated_of, stepped, with_client}
-use Rattle.af_outside.specs.Tape.{KeptClient, clients_of, outside_of, HasRoomForSteps, sent_by, sent_in}
+use Rattle.af_world.specs.Outside.{Outside, ScriptedClient, ScriptedDevice, with_changed_client, client_after_call, fresh_client, with_open_client, client_at, client_after_step, outside_after_step, with_client}
+use Rattle.af_outside.specs.Tape.{KeptClient, clients_of, outside_of, HasRoomForSteps, bytes_sent_by, sent_in}
 
 -- the client of a link is that of its scripted link
 pub client_at-outside_of : (links : List KeptClient) (devices : List ScriptedDevice) (k : ℕ) (d : KeptClient) → k < length links → client_at (outside_of links devices) k ≡ (get_or links k d).client
@@ -17,7 +17,7 @@ client_at-outside_of [] devices k d below = absurd (omega arith)
 client_at-outside_of (x ∷ links) devices zero d below = refl
 client_at-outside_of (x ∷ links) devices (suc k) d below = client_at-outside_of links devices k d (omega arith)
 
--- no client stands past the scripted links
+-- there is no client past the scripted links
 pub client_at-past : (links : List KeptClient) (devices : List ScriptedDevice) (k : ℕ) → length links ≤ k → client_at (outside_of links devices) k ≡ None
 client_at-past [] devices k past = refl
 client_at-past (x ∷ links) devices zero past = absurd (omega arith)
@@ -38,18 +38,18 @@ slice_get-set_cases (z ∷ xs) zero (suc j) x y e P here there = there e
 slice_get-set_cases (z ∷ xs) (suc k) zero x y e P here there = there e
 slice_get-set_cases (z ∷ xs) (suc k) (suc j) x y e P here there = slice_get-set_cases xs k j x y e P (λ same. here (ap suc same)) there
 
--- the scripted links have room for the steps that are left, when one of them is changed which has room
+-- the scripted links have room for the steps that are left, once one of them is changed that has room
 pub HasRoomForSteps-set : (links : List KeptClient) (k : ℕ) (scripted_link : KeptClient) (before after : List Step) → HasRoomForSteps links before →
-    ((j : ℕ) → sum_by (sent_by j) after ≤ sum_by (sent_by j) before) → sum_by (sent_by k) after ≤ scripted_link.room → HasRoomForSteps (set links k scripted_link) after
+    ((j : ℕ) → sum_by (bytes_sent_by j) after ≤ sum_by (bytes_sent_by j) before) → sum_by (bytes_sent_by k) after ≤ scripted_link.room → HasRoomForSteps (set links k scripted_link) after
 HasRoomForSteps-set links k scripted_link before after room fewer here = record {
-  each = λ j e at. slice_get-set_cases links k j scripted_link e at (sum_by (sent_by j) after ≤ e.room)
-      (λ same is. let P : KeptClient → Type 0 = λ e. sum_by (sent_by j) after ≤ e.room in subst P is (let Q : ℕ → Type 0 = λ i. sum_by (sent_by i) after ≤ scripted_link.room in subst Q (sym same) here))
+  each = λ j e at. slice_get-set_cases links k j scripted_link e at (sum_by (bytes_sent_by j) after ≤ e.room)
+      (λ same is. let P : KeptClient → Type 0 = λ e. sum_by (bytes_sent_by j) after ≤ e.room in subst P is (let Q : ℕ → Type 0 = λ i. sum_by (bytes_sent_by i) after ≤ scripted_link.room in subst Q (sym same) here))
       (λ at. let r = room.each j e at in let f = fewer j in omega arith);
 }
 
 -- the scripted links have room for the steps that are left, when one of them is changed, and has room
 pub HasRoomForSteps-changed : (links : List KeptClient) (k : ℕ) (d new : KeptClient) (before after : List Step) → k < length links → HasRoomForSteps links before →
-    ((j : ℕ) → sum_by (sent_by j) after ≤ sum_by (sent_by j) before) → (sum_by (sent_by k) before ≤ (get_or links k d).room → sum_by (sent_by k) after ≤ new.room) → HasRoomForSteps (slice_set links k new) after
+    ((j : ℕ) → sum_by (bytes_sent_by j) after ≤ sum_by (bytes_sent_by j) before) → (sum_by (bytes_sent_by k) before ≤ (get_or links k d).room → sum_by (bytes_sent_by k) after ≤ new.room) → HasRoomForSteps (slice_set links k new) after
 HasRoomForSteps-changed links k d new before after below room fewer here =
     HasRoomForSteps-set links k new before after room fewer (here (room.each k (get_or links k d) (slice_get-get_or links k d below)))
 
@@ -59,34 +59,34 @@ HasRoomForSteps-kept links k d new steps below room more = HasRoomForSteps-chang
 
 -- what is not sent needs no room
 pub HasRoomForSteps-less : (links : List KeptClient) (step : Step) (steps : List Step) → HasRoomForSteps links (step ∷ steps) → HasRoomForSteps links steps
-HasRoomForSteps-less links step steps room = record { each = λ k e at. let r = room.each k e at in let more = sum_by-cons (sent_by k) step steps in omega arith }
+HasRoomForSteps-less links step steps room = record { each = λ k e at. let r = room.each k e at in let more = sum_by-cons (bytes_sent_by k) step steps in omega arith }
 
 -- a step's bytes take the room that was kept for them
-pub HasRoomForSteps-sent : (links : List KeptClient) (k : ℕ) (step : Step) (d new : KeptClient) (steps : List Step) → k < length links → sent_by k step ≡ length (sent_in step) → HasRoomForSteps links (step ∷ steps) →
+pub HasRoomForSteps-sent : (links : List KeptClient) (k : ℕ) (step : Step) (d new : KeptClient) (steps : List Step) → k < length links → bytes_sent_by k step ≡ length (sent_in step) → HasRoomForSteps links (step ∷ steps) →
     (get_or links k d).room ≤ new.room + length (sent_in step) → HasRoomForSteps (slice_set links k new) steps
 HasRoomForSteps-sent links k step d new steps below sent room more =
     HasRoomForSteps-changed links k d new (step ∷ steps) steps below room
-    (λ j. let all = sum_by-cons (sent_by j) step steps in omega arith)
-    (λ fits. let all = sum_by-cons (sent_by k) step steps in omega arith)
+    (λ j. let all = sum_by-cons (bytes_sent_by j) step steps in omega arith)
+    (λ fits. let all = sum_by-cons (bytes_sent_by k) step steps in omega arith)
 
 -- a change of one scripted link's client by a step
 pub adjusted_here : (links : List KeptClient) (devices : List ScriptedDevice) (k : ℕ) (d new : KeptClient) (change : ScriptedClient → ScriptedClient) → k < length links → new.client ≡ option_map change (get_or links k d).client →
-    outside_of (slice_set links k new) devices ≡ adjusted (outside_of links devices) k change
+    outside_of (slice_set links k new) devices ≡ with_changed_client (outside_of links devices) k change
 adjusted_here links devices k d new change below e =
     outside_of-set links devices k new
     ∙ ap (with_client (outside_of links devices) k) (e ∙ ap (option_map change) (sym (client_at-outside_of links devices k d below)))
 
 -- what a step states of a link is what it does to the outside
-pub stepped-sends : (o : Outside) (k : ℕ) (s : Step) → ((bytes : List ℕ) × (s ≡ step.Send k bytes)) ⊎ (s ≡ step.End k) → adjusted o k (stated_of s) ≡ stepped o s
-stepped-sends o k s (inl p) = subst (λ s. adjusted o k (stated_of s) ≡ stepped o s) (sym p.1) refl
-stepped-sends o k s (inr e) = subst (λ s. adjusted o k (stated_of s) ≡ stepped o s) (sym e) refl
+pub outside_after_step-sends : (o : Outside) (k : ℕ) (s : Step) → ((bytes : List ℕ) × (s ≡ step.Send k bytes)) ⊎ (s ≡ step.End k) → with_changed_client o k (client_after_step s) ≡ outside_after_step o s
+outside_after_step-sends o k s (inl p) = subst (λ s. with_changed_client o k (client_after_step s) ≡ outside_after_step o s) (sym p.1) refl
+outside_after_step-sends o k s (inr e) = subst (λ s. with_changed_client o k (client_after_step s) ≡ outside_after_step o s) (sym e) refl
 
-pub stepped-takes : (o : Outside) (k : ℕ) (room : Option ℕ) (s : Step) → s ≡ step.Room k room → adjusted o k (stated_of s) ≡ stepped o s
-stepped-takes o k room s e = subst (λ s. adjusted o k (stated_of s) ≡ stepped o s) (sym e) refl
+pub outside_after_step-takes : (o : Outside) (k : ℕ) (room : Option ℕ) (s : Step) → s ≡ step.Room k room → with_changed_client o k (client_after_step s) ≡ outside_after_step o s
+outside_after_step-takes o k room s e = subst (λ s. with_changed_client o k (client_after_step s) ≡ outside_after_step o s) (sym e) refl
 
-pub stepped-fails : (o : Outside) (k : ℕ) (s : Step) → (s ≡ step.FailRead k) ⊎ (s ≡ step.FailWrite k) → adjusted o k (stated_of s) ≡ stepped o s
-stepped-fails o k s (inl e) = subst (λ s. adjusted o k (stated_of s) ≡ stepped o s) (sym e) refl
-stepped-fails o k s (inr e) = subst (λ s. adjusted o k (stated_of s) ≡ stepped o s) (sym e) refl
+pub outside_after_step-fails : (o : Outside) (k : ℕ) (s : Step) → (s ≡ step.FailRead k) ⊎ (s ≡ step.FailWrite k) → with_changed_client o k (client_after_step s) ≡ outside_after_step o s
+outside_after_step-fails o k s (inl e) = subst (λ s. with_changed_client o k (client_after_step s) ≡ outside_after_step o s) (sym e) refl
+outside_after_step-fails o k s (inr e) = subst (λ s. with_changed_client o k (client_after_step s) ≡ outside_after_step o s) (sym e) refl
 
 -- no client past the scripted links is set
 pub with_client-past : (links : List KeptClient) (devices : List ScriptedDevice) (k : ℕ) (client : Option ScriptedClient) → length links ≤ k → with_client (outside_of links devices) k client ≡ outside_of links devices
@@ -94,27 +94,27 @@ with_client-past links devices k client past =
     let counted = length-clients links in
     ap (λ (clients : List (Option ScriptedClient)). (let o : Outside = record { clients = clients; devices = devices } in o)) (set_past (clients_of links) k client (omega arith))
 
--- a step that is stated of a link past the scripted links changes nothing
-pub adjusted_past : (links : List KeptClient) (devices : List ScriptedDevice) (k : ℕ) (change : ScriptedClient → ScriptedClient) → length links ≤ k → outside_of links devices ≡ adjusted (outside_of links devices) k change
+-- a step on a link past the scripted links changes nothing
+pub adjusted_past : (links : List KeptClient) (devices : List ScriptedDevice) (k : ℕ) (change : ScriptedClient → ScriptedClient) → length links ≤ k → outside_of links devices ≡ with_changed_client (outside_of links devices) k change
 adjusted_past links devices k change past = sym (with_client-past links devices k _ past)
 
 -- what a scripted link answers is what its link answers
 pub answered_here : (links : List KeptClient) (devices : List ScriptedDevice) (k : ℕ) (d new : KeptClient) (call : ScriptedClient → Option ScriptedClient) → k < length links →
-    client_answered call (get_or links k d).client ≡ Some new.client →
-    option_map (with_client (outside_of links devices) k) (client_answered call (client_at (outside_of links devices) k)) ≡ Some (outside_of (slice_set links k new) devices)
+    client_after_call call (get_or links k d).client ≡ Some new.client →
+    option_map (with_client (outside_of links devices) k) (client_after_call call (client_at (outside_of links devices) k)) ≡ Some (outside_of (slice_set links k new) devices)
 answered_here links devices k d new call below e =
-    ap (option_map (with_client (outside_of links devices) k)) (ap (client_answered call) (client_at-outside_of links devices k d below) ∙ e)
+    ap (option_map (with_client (outside_of links devices) k)) (ap (client_after_call call) (client_at-outside_of links devices k d below) ∙ e)
     ∙ ap (λ (o : Outside). Some o) (sym (outside_of-set links devices k new))
 
 -- a link past the scripted links answers as one that is not open
-pub answered_past : (links : List KeptClient) (devices : List ScriptedDevice) (k : ℕ) (call : ScriptedClient → Option ScriptedClient) → length links ≤ k → client_answered call None ≡ Some None →
-    option_map (with_client (outside_of links devices) k) (client_answered call (client_at (outside_of links devices) k)) ≡ Some (outside_of links devices)
+pub answered_past : (links : List KeptClient) (devices : List ScriptedDevice) (k : ℕ) (call : ScriptedClient → Option ScriptedClient) → length links ≤ k → client_after_call call None ≡ Some None →
+    option_map (with_client (outside_of links devices) k) (client_after_call call (client_at (outside_of links devices) k)) ≡ Some (outside_of links devices)
 answered_past links devices k call past e =
-    ap (option_map (with_client (outside_of links devices) k)) (ap (client_answered call) (client_at-past links devices k past) ∙ e)
+    ap (option_map (with_client (outside_of links devices) k)) (ap (client_after_call call) (client_at-past links devices k past) ∙ e)
     ∙ ap (λ (o : Outside). Some o) (with_client-past links devices k None past)
 
 -- what opening does to a link that is not open
-pub opened_here : (o : Outside) (k : ℕ) (client client' : Option ScriptedClient) → is_some client ≡ false → client' ≡ Some fresh_client → with_client o k client' ≡ opened_at o k client
+pub opened_here : (o : Outside) (k : ℕ) (client client' : Option ScriptedClient) → is_some client ≡ false → client' ≡ Some fresh_client → with_client o k client' ≡ with_open_client o k client
 opened_here o k None client' none e = ap (with_client o k) e
 opened_here o k (Some client) client' none e = absurd cc
 
@@ -125,12 +125,12 @@ slice_get-push_cases (z ∷ xs) zero x y e P here there = there e
 slice_get-push_cases (z ∷ xs) (suc k) x y e P here there = slice_get-push_cases xs k x y e P (λ same. here (ap suc same)) there
 
 -- one more scripted link, which has room
-pub HasRoomForSteps-push : (links links' : List KeptClient) (k : ℕ) (scripted_link : KeptClient) (steps : List Step) → HasRoomForSteps links steps → length links ≡ k → links' ≡ links ++ scripted_link ∷ [] → sum_by (sent_by k) steps ≤ scripted_link.room → HasRoomForSteps links' steps
+pub HasRoomForSteps-push : (links links' : List KeptClient) (k : ℕ) (scripted_link : KeptClient) (steps : List Step) → HasRoomForSteps links steps → length links ≡ k → links' ≡ links ++ scripted_link ∷ [] → sum_by (bytes_sent_by k) steps ≤ scripted_link.room → HasRoomForSteps links' steps
 HasRoomForSteps-push links links' k scripted_link steps room number more here =
     let P : List KeptClient → Type 0 = λ ends. HasRoomForSteps ends steps in
     subst P (sym more) (record {
-      each = λ j e at. slice_get-push_cases links j scripted_link e at (sum_by (sent_by j) steps ≤ e.room)
-          (λ same is. let Q : KeptClient → Type 0 = λ e. sum_by (sent_by j) steps ≤ e.room in subst Q is (let R : ℕ → Type 0 = λ i. sum_by (sent_by i) steps ≤ scripted_link.room in subst R (sym (same ∙ number)) here))
+      each = λ j e at. slice_get-push_cases links j scripted_link e at (sum_by (bytes_sent_by j) steps ≤ e.room)
+          (λ same is. let Q : KeptClient → Type 0 = λ e. sum_by (bytes_sent_by j) steps ≤ e.room in subst Q is (let R : ℕ → Type 0 = λ i. sum_by (bytes_sent_by i) steps ≤ scripted_link.room in subst R (sym (same ∙ number)) here))
           (λ at. room.each j e at);
     })
 

@@ -19,37 +19,37 @@ use Rattle.af_outside.specs.declared.lifecycle_faults.LifecycleFaults.{Lifecycle
 use Rattle.af_io.specs.Observed.{faults_after}
 use Rattle.af_world.specs.Log.{Log}
 use Rattle.af_outside.specs.LifecycleState.{LifecycleState, lifecycle_start}
-use Rattle.af_world.specs.Outside.{Outside, answered_as_stated, scripted_of, stepped, then_outside, wake_of}
-use Rattle.af_outside.specs.TapeState.{TapeState, TapeLeadsTo, TakesStep, Answered, made}
-use Rattle.af_outside.specs.Tape.{KeptClient, HasRoomForSteps, Noted, kept_scripted_of, outside_of, clients_of, sent_by, devices_of}
+use Rattle.af_world.specs.Outside.{Outside, outside_after_happening, scripted_of, outside_after_step, then_outside, wake_of}
+use Rattle.af_outside.specs.TapeState.{TapeState, TapeLeadsTo, TakesStep, Answered, new_tape}
+use Rattle.af_outside.specs.Tape.{KeptClient, HasRoomForSteps, Noted, kept_scripted_of, outside_of, clients_of, bytes_sent_by, devices_of}
 use Rattle.af_outside.proofs.ScriptedDeviceLemmas.{devices_of-start}
 
 -- a happening whose answer leads from one outside to another, if it is noted
 pub Answered-noted : (before : Option Log) (happened : Result Happening OutOfMemory) (after : Option Log) (h : Happening) (o o' : Outside) → Noted before happened after →
-    IfOk happened (λ x. x ≡ h) → answered_as_stated o h ≡ Some o' → Answered before o after o'
+    IfOk happened (λ x. x ≡ h) → outside_after_happening o h ≡ Some o' → Answered before o after o'
 Answered-noted before (Err e) after h o o' noted made leads = subst (λ (a : Option Log). Answered before o a o') (sym noted) tt
 Answered-noted before (Ok x) None h o o' noted made leads = tt
 Answered-noted None (Ok x) (Some after) h o o' noted made leads = absurd noted
 Answered-noted (Some before) (Ok x) (Some after) h o o' noted made leads = (
   x ∷ [],
   noted,
-  ap (λ x. then_outside (answered_as_stated o x) (λ o. Some o)) made ∙ ap (λ a. then_outside a (λ o. Some o)) leads,
+  ap (λ x. then_outside (outside_after_happening o x) (λ o. Some o)) made ∙ ap (λ a. then_outside a (λ o. Some o)) leads,
 )
 
 -- a call that is answered as stated, and noted, leads a tape on
 pub TapeLeadsTo-noted : (old : TapeState) (happened : Result Happening OutOfMemory) (log : Option Log) (h : Happening) (o : Outside) (link_faults device_faults : ℕ) → Noted old.log happened log →
-    IfOk happened (λ x. x ≡ h) → answered_as_stated old.outside h ≡ Some o → old.link_faults ≤ link_faults → old.device_faults ≤ device_faults →
+    IfOk happened (λ x. x ≡ h) → outside_after_happening old.outside h ≡ Some o → old.link_faults ≤ link_faults → old.device_faults ≤ device_faults →
     TapeLeadsTo old (record old { log = log; outside = o; link_faults = link_faults; device_faults = device_faults })
 TapeLeadsTo-noted old happened log h o link_faults device_faults noted made answers links given = record {
   config = refl;
   left = refl;
   link_faults = links;
   device_faults = given;
-  outer = refl;
+  lifecycle = refl;
   answered = Answered-noted old.log happened log h old.outside o noted made answers;
 }
 
--- no answer moves a count of faults down
+-- no answer lowers a count of faults
 pub faults_after-rises : (faults : ℕ) (failed : Bool) → faults < 2 ^ 64 → faults ≤ faults_after faults failed
 faults_after-rises faults false fits = omega arith
 faults_after-rises faults true fits = omega arith
@@ -66,24 +66,24 @@ pub HasRoomForSteps-first : (links : List KeptClient) (step : Step) (steps : Lis
 HasRoomForSteps-first links step steps room = record {
   each = λ k scripted_link at.
       let fits = room.each k scripted_link at in
-      let all = sum_by-cons (sent_by k) step steps in
-      let one = sum_by-cons (sent_by k) step [] in
+      let all = sum_by-cons (bytes_sent_by k) step steps in
+      let one = sum_by-cons (bytes_sent_by k) step [] in
       omega arith;
 }
 
 -- the first step that is left is taken
 pub TakesStep-first : (old : TapeState) (step : Step) (left : List Step) (wake : Wake) (o : Outside) → old.left ≡ step ∷ left → wake ≡ wake_of old.outside step →
-    o ≡ stepped old.outside step → TakesStep old old.left (Some wake) (record old { left = left; outside = o })
+    o ≡ outside_after_step old.outside step → TakesStep old old.left (Some wake) (record old { left = left; outside = o })
 TakesStep-first old step left wake o first woken changed =
     subst (λ steps. TakesStep old steps (Some wake) (record old { left = left; outside = o })) (sym first)
     (woken, ap (λ o. record old { left = left; outside = o }) changed)
 
--- what makes up a tape of which nothing was asked yet
-pub fresh-parts : (config config' : List DeviceSpec) (steps steps' : List Step) (log : Option Log) (links : List KeptClient) (kept : List KeptScriptedDevice) (faults : LifecycleFaults) (outer : LifecycleState) → config' ≡ config → steps' ≡ steps →
-    log ≡ Some [] → clients_of links ≡ replicate most_links None → kept ≡ map (λ d. kept_scripted_of d.ty) config → outer ≡ lifecycle_start faults →
-    (let tape : TapeState = record { config = config'; left = steps'; log = log; outside = outside_of links (devices_of steps' kept); link_faults = 0; device_faults = 0; outer = outer } in tape) ≡ made config steps faults
-fresh-parts config config' steps steps' log links kept faults outer given left told closed start begun =
+-- the parts of a tape of which nothing was asked yet
+pub new_tape-parts : (config config' : List DeviceSpec) (steps steps' : List Step) (log : Option Log) (links : List KeptClient) (kept : List KeptScriptedDevice) (faults : LifecycleFaults) (lifecycle : LifecycleState) → config' ≡ config → steps' ≡ steps →
+    log ≡ Some [] → clients_of links ≡ replicate most_links None → kept ≡ map (λ d. kept_scripted_of d.ty) config → lifecycle ≡ lifecycle_start faults →
+    (let tape : TapeState = record { config = config'; left = steps'; log = log; outside = outside_of links (devices_of steps' kept); link_faults = 0; device_faults = 0; lifecycle = lifecycle } in tape) ≡ new_tape config steps faults
+new_tape-parts config config' steps steps' log links kept faults lifecycle given left told closed start begun =
     let devices : devices_of steps kept ≡ map (λ d. scripted_of d.ty) config = ap (devices_of steps) start ∙ devices_of-start steps config in
     rw (given, left, told, begun)
-    (ap (λ clients. (let tape : TapeState = record { config = config; left = steps; log = Some []; outside = record { clients = clients; devices = devices_of steps kept }; link_faults = 0; device_faults = 0; outer = lifecycle_start faults } in tape)) closed
-    ∙ ap (λ devices. (let tape : TapeState = record { config = config; left = steps; log = Some []; outside = record { clients = replicate most_links None; devices = devices }; link_faults = 0; device_faults = 0; outer = lifecycle_start faults } in tape)) devices)
+    (ap (λ clients. (let tape : TapeState = record { config = config; left = steps; log = Some []; outside = record { clients = clients; devices = devices_of steps kept }; link_faults = 0; device_faults = 0; lifecycle = lifecycle_start faults } in tape)) closed
+    ∙ ap (λ devices. (let tape : TapeState = record { config = config; left = steps; log = Some []; outside = record { clients = replicate most_links None; devices = devices }; link_faults = 0; device_faults = 0; lifecycle = lifecycle_start faults } in tape)) devices)

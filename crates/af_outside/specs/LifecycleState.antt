@@ -18,8 +18,8 @@ was_refused ready.Done = false
 was_refused ready.Failed = true
 was_refused ready.OutOfMemory = false
 
--- What a tape keeps of these calls: which of them are to fail, those that were done, the number of its next wait, and how often
--- a listen and a wait have failed.
+-- What a tape keeps of these calls: which of them fail, those that were done, the number of its next wait, and how often a listen
+-- and a wait have failed.
 pub record LifecycleState : Type 0 where
   pub faults : LifecycleFaults
   pub entries : List Lifecycle
@@ -31,7 +31,7 @@ pub record LifecycleState : Type 0 where
 abbrev pub lifecycle_start : LifecycleFaults → LifecycleState
 lifecycle_start faults = record { faults = faults; entries = []; waits = 0; listen_faults = 0; wait_faults = 0 }
 
--- no call is to fail
+-- no call fails
 abbrev pub no_faults : LifecycleFaults
 no_faults = record { listen = false; attach = None; wait = None }
 
@@ -40,12 +40,12 @@ abbrev pub is_stated : Option ℕ → ℕ → Bool
 is_stated None n = false
 is_stated (Some stated) n = stated == n
 
--- a list that is observed if the log is
+-- a list that is observable if the log is
 abbrev pub told_beside : Option Log → List Lifecycle → Option (List Lifecycle)
 told_beside None entries = None
 told_beside (Some log) entries = Some entries
 
--- an entry is added, and nothing is observed any longer where memory ran out for it
+-- an entry is added; if memory ran out for it, nothing is observable any more
 abbrev pub EntryNoted : Option Log → List Lifecycle → Result Lifecycle OutOfMemory → Option Log → List Lifecycle → Type 0
 EntryNoted log before (Ok entry) log' after = Unchanged log log' × Appended (told_beside log before) (entry ∷ []) (told_beside log' after)
 EntryNoted log before (Err e) log' after = log' ≡ None

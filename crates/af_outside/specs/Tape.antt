@@ -1,5 +1,5 @@
--- What a tape keeps in memory: the scripted links, each with room for all that the steps have still to send, and the
--- scripted devices, whose last ticks stay among its steps.
+-- What a tape keeps in memory: the scripted links, each with room for all that the steps have still to send, and the scripted
+-- devices, whose last ticks are found among its steps.
 use Rattle.std.specs.Prelude.{◌≡◌, ℕ, ◌≤◌, Bool, true, false, List, [], ◌∷◌, length, map, sum_by, if◌then◌else◌, ◌==◌, slice_get}
 use Rattle.std.specs.declared.option.Option.{Option}
 use Rattle.std.specs.declared.option.Option.TheVariants.{None, Some}
@@ -21,12 +21,12 @@ use Rattle.af_io.specs.Observed.{Appended}
 use Rattle.af_world.specs.Log.{Log}
 use Rattle.af_world.specs.Outside.{ScriptedClient, ScriptedDevice, Outside}
 
--- a scripted link: its client, if the link is open, and how many bytes more there is memory for
+-- a scripted link: its client, if the link is open, and for how many more bytes there is memory
 pub record KeptClient : Type 0 where
   pub client : Option ScriptedClient
   pub room : ℕ
 
--- a client that is there where the link is open
+-- a client, if the link is open
 abbrev pub client_where : Bool → ScriptedClient → Option ScriptedClient
 client_where true client = Some client
 client_where false client = None
@@ -59,7 +59,7 @@ abbrev pub stated_at : List Step → Option ℕ → Option (List ℕ)
 stated_at steps None = None
 stated_at steps (Some number) = capture_stated_by (slice_get steps number)
 
--- a device that nothing was stated of
+-- a device of which nothing was stated
 abbrev pub kept_scripted_of : SampleType → KeptScriptedDevice
 kept_scripted_of ty = record { ty = ty; tick = None; fails_capture = false; fails_emit = false; fails_hook = false }
 
@@ -76,11 +76,11 @@ kept_at steps kept = record {
 abbrev pub devices_of : List Step → List KeptScriptedDevice → List ScriptedDevice
 devices_of steps kept = map (kept_at steps) kept
 
--- a device whose next such call is to fail
-abbrev pub failing : DeviceCall → ScriptedDevice → ScriptedDevice
-failing call.Capture scripted = record scripted { fails_capture = true }
-failing call.Emit scripted = record scripted { fails_emit = true }
-failing call.Hook scripted = record scripted { fails_hook = true }
+-- a device whose next such call fails
+abbrev pub failing_device : DeviceCall → ScriptedDevice → ScriptedDevice
+failing_device call.Capture scripted = record scripted { fails_capture = true }
+failing_device call.Emit scripted = record scripted { fails_emit = true }
+failing_device call.Hook scripted = record scripted { fails_hook = true }
 
 -- whether a read failed
 abbrev pub read_failed : LinkGot → Bool
@@ -95,19 +95,19 @@ write_failed (took.Took n) = false
 write_failed took.Failed = true
 
 -- how many bytes a step sends on a link
-abbrev pub sent_by : ℕ → Step → ℕ
-sent_by k (step.Open j) = 0
-sent_by k (step.Send j bytes) = if j == k then length bytes else 0
-sent_by k (step.End j) = 0
-sent_by k (step.Room j room) = 0
-sent_by k (step.Tick d n captured) = 0
-sent_by k (step.Line d change) = 0
-sent_by k (step.FailRead j) = 0
-sent_by k (step.FailWrite j) = 0
-sent_by k (step.FailCapture d) = 0
-sent_by k (step.FailEmit d) = 0
-sent_by k (step.FailHook d) = 0
-sent_by k step.Idle = 0
+abbrev pub bytes_sent_by : ℕ → Step → ℕ
+bytes_sent_by k (step.Open j) = 0
+bytes_sent_by k (step.Send j bytes) = if j == k then length bytes else 0
+bytes_sent_by k (step.End j) = 0
+bytes_sent_by k (step.Room j room) = 0
+bytes_sent_by k (step.Tick d n captured) = 0
+bytes_sent_by k (step.Line d change) = 0
+bytes_sent_by k (step.FailRead j) = 0
+bytes_sent_by k (step.FailWrite j) = 0
+bytes_sent_by k (step.FailCapture d) = 0
+bytes_sent_by k (step.FailEmit d) = 0
+bytes_sent_by k (step.FailHook d) = 0
+bytes_sent_by k step.Idle = 0
 
 -- what a step sends
 abbrev pub sent_in : Step → List ℕ
@@ -126,14 +126,14 @@ sent_in step.Idle = []
 
 -- each scripted link has room for all that the steps send on its link
 pub record HasRoomForSteps (links : List KeptClient) (steps : List Step) : Type 0 where
-  pub each : (k : ℕ) (scripted_link : KeptClient) → slice_get links k ≡ Some scripted_link → sum_by (sent_by k) steps ≤ scripted_link.room
+  pub each : (k : ℕ) (scripted_link : KeptClient) → slice_get links k ≡ Some scripted_link → sum_by (bytes_sent_by k) steps ≤ scripted_link.room
 
--- the log if it is observed
+-- the log, if it is observable
 abbrev pub log_where : Bool → Log → Option Log
 log_where true log = Some log
 log_where false log = None
 
--- a happening is added to the log, which is observed no longer where memory ran out for the happening
+-- a happening is added to the log; if memory ran out for it, the log is no longer observable
 abbrev pub Noted : Option Log → Result Happening OutOfMemory → Option Log → Type 0
 Noted before (Ok happening) after = Appended before (happening ∷ []) after
 Noted before (Err e) after = after ≡ None

@@ -1,4 +1,4 @@
-// What the calls of a tape are in its log: copies of the bytes that they moved, with what was answered.
+// The happenings of a tape's calls, for its log: copies of the bytes that they moved, with the answer.
 ghost use Rattle.std.specs.Prelude.{◌≡◌, ◌≤◌, length, IfOk};
 ghost use Rattle.af_limits.specs.Limits.{output_room};
 ghost use Rattle.af_world.specs.declared.happening.Happening.TheVariants.{Read, Wrote, Captured, Emitted, Hooked};

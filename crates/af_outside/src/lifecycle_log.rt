@@ -1,10 +1,10 @@
-// What a tape keeps of the listens, attaches and waits that were made, and which of them it lets fail.
+// The listens, attaches and waits that were made of a tape, and which of them fail.
 ghost use Rattle.std.specs.Prelude.{◌≡◌, ◌≤◌, ◌∷◌, ◌++◌, [], IfOk};
 ghost use Rattle.std.specs.declared.option.Option.TheVariants.{None, Some};
 ghost use Rattle.af_world.specs.declared.lifecycle.Lifecycle.TheVariants.{Listened, Attached, LineAttached, Waited};
 ghost use Rattle.af_process.specs.Acts.{words_of};
 ghost use Rattle.af_world.specs.Kinds.{told_kind};
-ghost use Rattle.af_io.specs.Observed.{counted, faults_after};
+ghost use Rattle.af_io.specs.Observed.{next_count, faults_after};
 ghost use Rattle.af_outside.specs.LifecycleState.{EntryNoted, is_stated, lifecycle_start};
 
 use crate::logbook::Logbook;
@@ -84,7 +84,7 @@ impl LifecycleLog {
     pub(crate) fn wait_fails(&mut self) -> bool
         ensures fails { result ≡ is_stated self.old.faults.wait self.old.waits }
         ensures rises { self.old.wait_faults ≤ self.new.wait_faults }
-        ensures counts { self.new ≡ record self.old { waits = counted self.old.waits; wait_faults = faults_after self.old.wait_faults result } }
+        ensures counts { self.new ≡ record self.old { waits = next_count self.old.waits; wait_faults = faults_after self.old.wait_faults result } }
     {
         let fails = match self.faults.wait {
             Some(stated) => u64::from(stated) == self.waits,
@@ -117,7 +117,7 @@ pub(crate) fn listen_of(alloc: Global, address: &str) -> Result<Lifecycle, OutOf
     Ok(Lifecycle::Listened(Bytes::copied(alloc, address.as_bytes())?))
 }
 
-// What a kind names, kept.
+// A copy of what a kind names.
 fn kept_kind(alloc: Global, kind: Kind<'_>) -> Result<ToldKind, OutOfMemory>
     ensures { IfOk result (λ told. told ≡ told_kind kind.entry) }
 {

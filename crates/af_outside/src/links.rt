@@ -5,8 +5,8 @@ ghost use Rattle.af_limits.specs.Limits.{most_links, longest_read};
 ghost use Rattle.af_world.specs.declared.happening.Happening.TheVariants.{Read, Wrote, Closed};
 ghost use Rattle.af_world.specs.declared.script.Step.{Step};
 ghost use Rattle.af_world.specs.World.{got_of, took_of, LinkGotFits, TookFits};
-ghost use Rattle.af_world.specs.Outside.{adjusted, answered_as_stated, client_at, stated_of, stepped, wake_of, wake_where_open, ScriptedDevice};
-ghost use Rattle.af_outside.specs.Tape.{HasRoomForSteps, clients_of, outside_of, sent_by, sent_in};
+ghost use Rattle.af_world.specs.Outside.{with_changed_client, outside_after_happening, client_at, client_after_step, outside_after_step, wake_of, wake_where_open, ScriptedDevice};
+ghost use Rattle.af_outside.specs.Tape.{HasRoomForSteps, clients_of, outside_of, bytes_sent_by, sent_in};
 
 use crate::scripted_link::ScriptedLink;
 use crate::{LinkGot, LinkTook, Step, Wake, Why};
@@ -16,7 +16,7 @@ use std::alloc::Global;
 
 // How many bytes a step sends on a link.
 fn bytes_sent(step: &Step, link: u8) -> usize
-    ensures { result ≡ sent_by link step.now }
+    ensures { result ≡ bytes_sent_by link step.now }
 {
     match step {
         Step::Send(to, bytes) if *to == link => bytes.as_slice().len(),
@@ -26,7 +26,7 @@ fn bytes_sent(step: &Step, link: u8) -> usize
 
 // How many bytes the steps send on a link, if memory may hold so many.
 fn all_bytes_sent(steps: &[Step], link: u8) -> Result<usize, OutOfMemory>
-    ensures { IfOk result (λ count. count ≡ sum_by (sent_by link) steps.now) }
+    ensures { IfOk result (λ count. count ≡ sum_by (bytes_sent_by link) steps.now) }
 {
     let mut count = 0usize;
     for step in steps {
@@ -54,7 +54,7 @@ pub(crate) fn closed_links(alloc: Global, steps: &[Step]) -> Result<Vec<Scripted
 pub(crate) fn open(links: &mut [ScriptedLink], link: u8) -> Wake
     ensures wake { result ≡ wake_of (outside_of links.old []) (Step.Open link) }
     ensures outside { (devices : List ScriptedDevice)
-        → outside_of links.new devices ≡ stepped (outside_of links.old devices) (Step.Open link) }
+        → outside_of links.new devices ≡ outside_after_step (outside_of links.old devices) (Step.Open link) }
     ensures room { (steps : List Step) → HasRoomForSteps links.old (Step.Open link ∷ steps) → HasRoomForSteps links.new steps }
 {
     let place = link as usize;
@@ -76,7 +76,7 @@ fn is_open(links: &[ScriptedLink], link: u8) -> bool
     }
 }
 
-// The wake of a step that is stated of a link.
+// The wake of a step on a link, if the link is open.
 fn wake_where_open(links: &[ScriptedLink], link: u8, wake: Wake) -> Wake
     ensures { result ≡ wake_where_open (outside_of links.now []) link wake }
 {
@@ -89,11 +89,11 @@ fn wake_where_open(links: &[ScriptedLink], link: u8, wake: Wake) -> Wake
 
 /// Does what a step states of its link, and gives this wake where the link is open.
 pub(crate) fn adjust(links: &mut [ScriptedLink], link: u8, step: &Step, wake: Wake) -> Wake
-    requires link { sent_by link step.now ≡ length (sent_in step.now) }
+    requires link { bytes_sent_by link step.now ≡ length (sent_in step.now) }
     requires room { HasRoomForSteps links.old (step.now ∷ []) }
     ensures wake { result ≡ wake_where_open (outside_of links.old []) link wake }
     ensures outside { (devices : List ScriptedDevice)
-        → outside_of links.new devices ≡ adjusted (outside_of links.old devices) link (stated_of step.now) }
+        → outside_of links.new devices ≡ with_changed_client (outside_of links.old devices) link (client_after_step step.now) }
     ensures room { (steps : List Step) → HasRoomForSteps links.old (step.now ∷ steps) → HasRoomForSteps links.new steps }
 {
     let wake = wake_where_open(links, link, wake);
@@ -108,7 +108,7 @@ pub(crate) fn adjust(links: &mut [ScriptedLink], link: u8, step: &Step, wake: Wa
 pub(crate) fn read(links: &mut [ScriptedLink], link: u8, into: &mut [u8]) -> LinkGot
     requires { length into.old ≡ longest_read }
     ensures answered { (devices : List ScriptedDevice)
-        → answered_as_stated (outside_of links.old devices) (Read link (got_of result into.new))
+        → outside_after_happening (outside_of links.old devices) (Read link (got_of result into.new))
         ≡ Some (outside_of links.new devices) }
     ensures bound { LinkGotFits result (length into.new) }
     ensures room { (steps : List Step) → HasRoomForSteps links.old steps → HasRoomForSteps links.new steps }
@@ -123,7 +123,7 @@ pub(crate) fn read(links: &mut [ScriptedLink], link: u8, into: &mut [u8]) -> Lin
 /// Answers a write to a link; one that is not open takes all.
 pub(crate) fn write(links: &mut [ScriptedLink], link: u8, piece: &[u8]) -> LinkTook
     ensures answered { (devices : List ScriptedDevice)
-        → answered_as_stated (outside_of links.old devices) (Wrote link (length piece.now) (took_of result piece.now))
+        → outside_after_happening (outside_of links.old devices) (Wrote link (length piece.now) (took_of result piece.now))
         ≡ Some (outside_of links.new devices) }
     ensures bound { TookFits result (length piece.now) }
     ensures room { (steps : List Step) → HasRoomForSteps links.old steps → HasRoomForSteps links.new steps }
@@ -138,7 +138,7 @@ pub(crate) fn write(links: &mut [ScriptedLink], link: u8, piece: &[u8]) -> LinkT
 /// The link is not open from now on.
 pub(crate) fn close(links: &mut [ScriptedLink], link: u8, why: Why)
     ensures answered { (devices : List ScriptedDevice)
-        → answered_as_stated (outside_of links.old devices) (Closed link why) ≡ Some (outside_of links.new devices) }
+        → outside_after_happening (outside_of links.old devices) (Closed link why) ≡ Some (outside_of links.new devices) }
     ensures room { (steps : List Step) → HasRoomForSteps links.old steps → HasRoomForSteps links.new steps }
 {
     let place = link as usize;

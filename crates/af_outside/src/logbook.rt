@@ -1,4 +1,4 @@
-// A log of happenings, which is observed as long as memory was there for each of them.
+// A log of happenings. It is observable as long as there was memory for each of them.
 ghost use Rattle.std.specs.Prelude.{◌≡◌, [], is_some, IfSome};
 ghost use Rattle.std.specs.declared.option.Option.TheVariants.{None, Some};
 ghost use Rattle.af_outside.specs.Tape.{Noted};

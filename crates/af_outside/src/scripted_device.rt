@@ -3,8 +3,8 @@ ghost use Rattle.std.specs.Prelude.{◌≡◌, List, length, map, option_map, sl
 ghost use Rattle.std.specs.declared.option.Option.TheVariants.{Some};
 ghost use Rattle.af_world.specs.declared.script.Step.{Step};
 ghost use Rattle.af_world.specs.World.{captured_of, is_done};
-ghost use Rattle.af_world.specs.Outside.{capture_answered, captured, emit_answered, hook_answered, silent_byte, some_scripted, scripted_at, with_scripted};
-ghost use Rattle.af_outside.specs.Tape.{KeptClient, failing, outside_of, kept_at, kept_scripted_of, devices_of, stated_at, capture_stated_by};
+ghost use Rattle.af_world.specs.Outside.{outside_after_capture, captured_bytes, outside_after_emit, outside_after_hook, silent_byte, some_scripted, scripted_at, with_scripted};
+ghost use Rattle.af_outside.specs.Tape.{KeptClient, failing_device, outside_of, kept_at, kept_scripted_of, devices_of, stated_at, capture_stated_by};
 
 use crate::{Config, Put, Step, silent_byte};
 use af_sample::SampleType;
@@ -46,7 +46,7 @@ impl KeptScriptedDevice {
 
     /// The same device, whose next such call is to fail.
     fn failing(mut self, call: DeviceCall) -> KeptScriptedDevice
-        ensures { (steps : List Step) → kept_at steps result ≡ failing call (kept_at steps self) }
+        ensures { (steps : List Step) → kept_at steps result ≡ failing_device call (kept_at steps self) }
     {
         match call {
             DeviceCall::Capture => self.fails_capture = true,
@@ -58,7 +58,7 @@ impl KeptScriptedDevice {
 
     /// Captures what the last tick states, if that is as many bytes, and else silence.
     fn fill(self, steps: &[Step], into: &mut [u8])
-        ensures { into.new ≡ captured (kept_at steps.now self) (length into.old) }
+        ensures { into.new ≡ captured_bytes (kept_at steps.now self) (length into.old) }
     {
         match stated(steps, self.tick) {
             Some(bytes) if bytes.len() == into.len() => into.copy_from_slice(bytes),
@@ -67,7 +67,7 @@ impl KeptScriptedDevice {
     }
 }
 
-/// The scripted devices of a configuration, of which nothing was stated.
+/// The scripted devices of a configuration. Nothing was stated of them.
 pub(crate) fn new_devices(
     alloc: Global,
     config: &Config,
@@ -99,7 +99,7 @@ pub(crate) fn fail(devices: &mut [KeptScriptedDevice], device: u8, call: DeviceC
     ensures { (links : List KeptClient) (steps : List Step)
         → let old = outside_of links (devices_of steps devices.old) in
         outside_of links (devices_of steps devices.new)
-        ≡ with_scripted old device (failing call (scripted_at old device)) }
+        ≡ with_scripted old device (failing_device call (scripted_at old device)) }
 {
     let scripted = scripted_at(devices, device).failing(call);
     put_scripted(devices, device, scripted);
@@ -114,7 +114,7 @@ pub(crate) fn capture(
 ) -> Put
     ensures { (links : List KeptClient)
         → let old = outside_of links (devices_of steps.now devices.old) in
-        capture_answered old device (scripted_at old device) (captured_of result into.new)
+        outside_after_capture old device (scripted_at old device) (captured_of result into.new)
         ≡ Some (outside_of links (devices_of steps.now devices.new)) }
 {
     let mut scripted = scripted_at(devices, device);
@@ -131,7 +131,7 @@ pub(crate) fn capture(
 pub(crate) fn emit(devices: &mut [KeptScriptedDevice], device: u8) -> Put
     ensures { (links : List KeptClient) (steps : List Step)
         → let old = outside_of links (devices_of steps devices.old) in
-        emit_answered old device (scripted_at old device) (is_done result)
+        outside_after_emit old device (scripted_at old device) (is_done result)
         ≡ Some (outside_of links (devices_of steps devices.new)) }
 {
     let mut scripted = scripted_at(devices, device);
@@ -147,7 +147,7 @@ pub(crate) fn emit(devices: &mut [KeptScriptedDevice], device: u8) -> Put
 pub(crate) fn hook(devices: &mut [KeptScriptedDevice], device: u8) -> Put
     ensures { (links : List KeptClient) (steps : List Step)
         → let old = outside_of links (devices_of steps devices.old) in
-        hook_answered old device (scripted_at old device) (is_done result)
+        outside_after_hook old device (scripted_at old device) (is_done result)
         ≡ Some (outside_of links (devices_of steps devices.new)) }
 {
     let mut scripted = scripted_at(devices, device);
@@ -159,7 +159,7 @@ pub(crate) fn hook(devices: &mut [KeptScriptedDevice], device: u8) -> Put
     Put::Done
 }
 
-// The scripted device at a number. Of one that is not there nothing was stated.
+// The scripted device at a number. If there is none, nothing was stated of it.
 fn scripted_at(devices: &[KeptScriptedDevice], device: u8) -> KeptScriptedDevice
     ensures { (steps : List Step)
         → kept_at steps result ≡ some_scripted (slice_get (devices_of steps devices.now) device) }
@@ -170,7 +170,7 @@ fn scripted_at(devices: &[KeptScriptedDevice], device: u8) -> KeptScriptedDevice
     }
 }
 
-// The scripted device at a number is this one from now on, if the device is there.
+// Replaces the scripted device at a number, if there is one.
 fn put_scripted(devices: &mut [KeptScriptedDevice], device: u8, scripted: KeptScriptedDevice)
     ensures { devices.new ≡ slice_set devices.old device scripted }
 {
@@ -180,7 +180,7 @@ fn put_scripted(devices: &mut [KeptScriptedDevice], device: u8, scripted: KeptSc
     }
 }
 
-// What the step with a number states that a device captures.
+// What a device captures by the step with a number.
 fn stated(steps: &[Step], number: Option<usize>) -> Option<&[u8]>
     ensures { option_map (λ bytes. bytes.now) result ≡ stated_at steps.now number }
 {

@@ -1,9 +1,10 @@
-// A scripted link of a tape: what it has still to give, in memory that is taken once, and what was stated of it.
+// A scripted link of a tape: what it has still to give, and what was stated of it.
+// Layout: one vector of bytes, whose room is taken once. The first `given` of them were given.
 ghost use Rattle.std.specs.Prelude.{◌≡◌, ◌≤◌, ◌+◌, length, is_some, option_map, IfOk};
 ghost use Rattle.std.specs.declared.option.Option.TheVariants.{None, Some};
 ghost use Rattle.af_limits.specs.Limits.{longest_read};
 ghost use Rattle.af_world.specs.World.{got_of, took_of, LinkGotFits, TookFits};
-ghost use Rattle.af_world.specs.Outside.{client_answered, read_from, written_to, fresh_client, stated_of};
+ghost use Rattle.af_world.specs.Outside.{client_after_call, client_after_read, client_after_write, fresh_client, client_after_step};
 ghost use Rattle.af_outside.specs.Tape.{sent_in};
 
 use crate::{LinkGot, LinkTook, Step};
@@ -16,7 +17,7 @@ use std::marker::Model;
 #[derive(Drop)]
 pub(crate) struct ScriptedLink {
     is_open: bool,
-    // all bytes since the link was opened, of which the first were given
+    // all bytes since the link was opened
     bytes: Vec<u8>,
     given: usize,
     ends: bool,
@@ -95,7 +96,7 @@ impl ScriptedLink {
     /// Does what a step states of the link. There is room for what it sends.
     pub(crate) fn adjust(&mut self, step: &Step)
         requires { length (sent_in step.now) ≤ self.old.room }
-        ensures client { self.new.client ≡ option_map (stated_of step.now) self.old.client }
+        ensures client { self.new.client ≡ option_map (client_after_step step.now) self.old.client }
         ensures room { self.old.room ≤ self.new.room + length (sent_in step.now) }
     {
         match step {
@@ -114,7 +115,7 @@ impl ScriptedLink {
     /// Answers a read: with the first bytes that are left, as many as fit, if it is not to fail.
     pub(crate) fn read(&mut self, into: &mut [u8]) -> LinkGot
         requires { length into.old ≡ longest_read }
-        ensures answered { client_answered (read_from (got_of result into.new)) self.old.client ≡ Some self.new.client }
+        ensures answered { client_after_call (client_after_read (got_of result into.new)) self.old.client ≡ Some self.new.client }
         ensures bound { LinkGotFits result (length into.new) }
         ensures room { self.new.room ≡ self.old.room }
     {
@@ -138,7 +139,7 @@ impl ScriptedLink {
 
     /// Answers a write of a piece: as many bytes are taken as there is room for, if it is not to fail.
     pub(crate) fn write(&mut self, piece: &[u8]) -> LinkTook
-        ensures answered { client_answered (written_to (length piece.now) (took_of result piece.now)) self.old.client ≡ Some self.new.client }
+        ensures answered { client_after_call (client_after_write (length piece.now) (took_of result piece.now)) self.old.client ≡ Some self.new.client }
         ensures bound { TookFits result (length piece.now) }
         ensures room { self.new.room ≡ self.old.room }
     {

@@ -4,13 +4,13 @@ ghost use Rattle.std.specs.declared.option.Option.TheVariants.{Some};
 ghost use Rattle.af_limits.specs.Limits.{longest_read, output_room};
 ghost use Rattle.af_world.specs.declared.happening.Happening.TheVariants.{Read, Wrote, Captured, Emitted, Hooked, Woke, Closed};
 ghost use Rattle.af_world.specs.declared.script.Step.{Step};
-ghost use Rattle.af_io.specs.Observed.{counted, faults_after, Appended, FaultCounted, Unchanged};
+ghost use Rattle.af_io.specs.Observed.{next_count, faults_after, Appended, FaultCounted, Unchanged};
 ghost use Rattle.af_world.specs.World.{got_of, took_of, captured_of, is_done, LinkGotFits, TookFits};
 ghost use Rattle.af_process.specs.Acts.{words_of};
-ghost use Rattle.af_world.specs.Outside.{answered_as_stated, spec_has_line, stepped, wake_of, ScriptedDevice};
+ghost use Rattle.af_world.specs.Outside.{outside_after_happening, spec_has_line, outside_after_step, wake_of, ScriptedDevice};
 ghost use Rattle.af_world.specs.Kinds.{told_kind};
 ghost use Rattle.af_world.specs.Lifecycle.{attached, line_attached, listened, waited};
-ghost use Rattle.af_outside.specs.TapeState.{made, TakesStep, TapeLeadsTo, left_after, lifecycle_told, NoCountFalls, wait_answer, wait_fails, waited_outside};
+ghost use Rattle.af_outside.specs.TapeState.{new_tape, TakesStep, TapeLeadsTo, left_after, lifecycle_told, NoCountFalls, wait_answer, wait_fails, waited_outside};
 ghost use Rattle.af_outside.specs.LifecycleState.{is_stated, was_refused};
 ghost use Rattle.af_outside.specs.Tape.{HasRoomForSteps, outside_of, devices_of, read_failed, write_failed};
 
@@ -43,14 +43,14 @@ pub struct Tape {
     devices: Vec<KeptScriptedDevice>,
     link_faults: u64,
     device_faults: u64,
-    outer: LifecycleLog,
+    lifecycle: LifecycleLog,
 }
 
 impl Model for Tape {
     ghost use Rattle.std.specs.Prelude.{◌≡◌, ◌≤◌, length, drop};
     ghost use Rattle.af_outside.specs.TapeState.{TapeState};
     ghost use Rattle.af_world.specs.Kinds.{told_kind};
-    ghost use Rattle.af_io.specs.Observed.{counted};
+    ghost use Rattle.af_io.specs.Observed.{next_count};
     ghost use Rattle.af_world.specs.Lifecycle.{attached, listened, waited};
     ghost use Rattle.af_outside.specs.LifecycleState.{is_stated, was_refused};
     ghost use Rattle.af_outside.specs.Tape.{HasRoomForSteps, outside_of, devices_of};
@@ -64,7 +64,7 @@ impl Model for Tape {
       outside = outside_of a.links.items (devices_of a.steps.items a.devices.items);
       link_faults = a.link_faults;
       device_faults = a.device_faults;
-      outer = a.outer;
+      lifecycle = a.lifecycle;
     } };
 
     ghost invariant = { λ a. (a.taken ≤ length a.steps.items) × HasRoomForSteps a.links.items (drop a.taken a.steps.items) };
@@ -77,9 +77,9 @@ impl Tape {
         alloc: Global,
         config: &Config,
         steps: &[Step],
-        outer: LifecycleFaults,
+        faults: LifecycleFaults,
     ) -> Result<Tape, OutOfMemory>
-        ensures { IfOk result (λ tape. tape ≡ made config.now.items steps.now outer) }
+        ensures { IfOk result (λ tape. tape ≡ new_tape config.now.items steps.now faults) }
     {
         let links = links::closed_links(alloc, steps)?;
         let devices = new_devices(alloc, config)?;
@@ -93,7 +93,7 @@ impl Tape {
             devices,
             link_faults: 0,
             device_faults: 0,
-            outer: LifecycleLog::new(alloc, outer),
+            lifecycle: LifecycleLog::new(alloc, faults),
         })
     }
 
@@ -115,10 +115,10 @@ impl Tape {
     }
 
     /// All listens, attaches and waits that were done so far, in order, if the log is observed.
-    pub fn outer(&self) -> &[Lifecycle]
-        ensures { result.now ≡ self.now.outer.entries }
+    pub fn lifecycle(&self) -> &[Lifecycle]
+        ensures { result.now ≡ self.now.lifecycle.entries }
     {
-        self.outer.entries()
+        self.lifecycle.entries()
     }
 
     /// Whether the log is observed, and the list of listens, attaches and waits with it: always, but after memory ran out for
@@ -175,7 +175,7 @@ fn take_step(
     ensures wake { (devices : List ScriptedDevice) → result ≡ wake_of (outside_of links.old devices) step.now }
     ensures outside { (steps : List Step) → slice_get steps number ≡ Some step.now
         → outside_of links.new (devices_of steps devices.new)
-        ≡ stepped (outside_of links.old (devices_of steps devices.old)) step.now }
+        ≡ outside_after_step (outside_of links.old (devices_of steps devices.old)) step.now }
     ensures room { (steps : List Step) → HasRoomForSteps links.old (step.now ∷ steps) → HasRoomForSteps links.new steps }
 {
     match step {
@@ -241,7 +241,7 @@ impl World for Tape {
         ensures bound { LinkGotFits result (length into.new) }
         ensures cause { result ≡ LinkGot.Failed → FaultCounted self.old.link_faults self.new.link_faults }
         ensures leads { TapeLeadsTo self.old self.new }
-        ensures answered { answered_as_stated self.old.outside (Read link (got_of result into.new)) ≡ Some self.new.outside }
+        ensures answered { outside_after_happening self.old.outside (Read link (got_of result into.new)) ≡ Some self.new.outside }
         ensures faults { self.new.link_faults ≡ faults_after self.old.link_faults (read_failed result) }
         ensures rest { self.new ≡ record self.old {
           log = self.new.log;
@@ -262,7 +262,7 @@ impl World for Tape {
         ensures bound { TookFits result (length piece.now) }
         ensures cause { result ≡ LinkTook.Failed → FaultCounted self.old.link_faults self.new.link_faults }
         ensures leads { TapeLeadsTo self.old self.new }
-        ensures answered { answered_as_stated self.old.outside (Wrote link (length piece.now) (took_of result piece.now)) ≡ Some self.new.outside }
+        ensures answered { outside_after_happening self.old.outside (Wrote link (length piece.now) (took_of result piece.now)) ≡ Some self.new.outside }
         ensures faults { self.new.link_faults ≡ faults_after self.old.link_faults (write_failed result) }
         ensures rest { self.new ≡ record self.old {
           log = self.new.log;
@@ -279,7 +279,7 @@ impl World for Tape {
     fn close(&mut self, link: u8, why: Why)
         ensures log { Appended self.old.log (Closed link why ∷ []) self.new.log }
         ensures leads { TapeLeadsTo self.old self.new }
-        ensures answered { answered_as_stated self.old.outside (Closed link why) ≡ Some self.new.outside }
+        ensures answered { outside_after_happening self.old.outside (Closed link why) ≡ Some self.new.outside }
         ensures rest { self.new ≡ record self.old {
           log = self.new.log;
           outside = self.new.outside;
@@ -294,7 +294,7 @@ impl World for Tape {
         ensures log { Appended self.old.log (Captured device frames (captured_of result into.new) ∷ []) self.new.log }
         ensures cause { result ≡ Put.Failed → FaultCounted self.old.device_faults self.new.device_faults }
         ensures leads { TapeLeadsTo self.old self.new }
-        ensures answered { answered_as_stated self.old.outside (Captured device frames (captured_of result into.new)) ≡ Some self.new.outside }
+        ensures answered { outside_after_happening self.old.outside (Captured device frames (captured_of result into.new)) ≡ Some self.new.outside }
         ensures faults { self.new.device_faults ≡ faults_after self.old.device_faults (not (is_done result)) }
         ensures rest { self.new ≡ record self.old {
           log = self.new.log;
@@ -314,7 +314,7 @@ impl World for Tape {
         ensures log { Appended self.old.log (Emitted device sound.now (is_done result) ∷ []) self.new.log }
         ensures cause { result ≡ Put.Failed → FaultCounted self.old.device_faults self.new.device_faults }
         ensures leads { TapeLeadsTo self.old self.new }
-        ensures answered { answered_as_stated self.old.outside (Emitted device sound.now (is_done result)) ≡ Some self.new.outside }
+        ensures answered { outside_after_happening self.old.outside (Emitted device sound.now (is_done result)) ≡ Some self.new.outside }
         ensures faults { self.new.device_faults ≡ faults_after self.old.device_faults (not (is_done result)) }
         ensures rest { self.new ≡ record self.old {
           log = self.new.log;
@@ -332,7 +332,7 @@ impl World for Tape {
         ensures log { Appended self.old.log (Hooked device off (is_done result) ∷ []) self.new.log }
         ensures cause { result ≡ Put.Failed → FaultCounted self.old.device_faults self.new.device_faults }
         ensures leads { TapeLeadsTo self.old self.new }
-        ensures answered { answered_as_stated self.old.outside (Hooked device off (is_done result)) ≡ Some self.new.outside }
+        ensures answered { outside_after_happening self.old.outside (Hooked device off (is_done result)) ≡ Some self.new.outside }
         ensures faults { self.new.device_faults ≡ faults_after self.old.device_faults (not (is_done result)) }
         ensures rest { self.new ≡ record self.old {
           log = self.new.log;
@@ -347,7 +347,7 @@ impl World for Tape {
     }
 }
 
-// Whether a device stands so in a configuration.
+// Whether a device of a configuration is stated like this.
 fn is_device(config: &Config, device: u8, spec: &DeviceSpec) -> bool
     ensures { IsTrue result ↔ (slice_get config.now.items device ≡ Some spec.now) }
 {
@@ -365,70 +365,71 @@ fn is_same(one: &DeviceSpec, other: &DeviceSpec) -> bool
 }
 
 impl Live for Tape {
-    ghost use Rattle.af_outside.specs.TapeLaws.{TapeLeadsTo-listen_faults, TapeLeadsTo-wait_faults, TapeLeadsTo-outer, Tape-tells_both};
+    ghost use Rattle.af_outside.specs.TapeLaws.{TapeLeadsTo-listen_faults, TapeLeadsTo-wait_faults, TapeLeadsTo-lifecycle, Tape-tells_both};
 
-    ghost listen_faults = { λ tape. tape.outer.listen_faults };
+    ghost listen_faults = { λ tape. tape.lifecycle.listen_faults };
 
-    ghost wait_faults = { λ tape. tape.outer.wait_faults };
+    ghost wait_faults = { λ tape. tape.lifecycle.wait_faults };
 
-    ghost outer = { lifecycle_told };
+    ghost lifecycle = { lifecycle_told };
 
     ghost listen_faults_apart = { TapeLeadsTo-listen_faults };
 
     ghost wait_faults_apart = { TapeLeadsTo-wait_faults };
 
-    ghost outer_apart = { TapeLeadsTo-outer };
+    ghost lifecycle_apart = { TapeLeadsTo-lifecycle };
 
     ghost tells_both = { Tape-tells_both };
 
     fn listen(&mut self, alloc: Global, address: &str) -> Ready
         ensures log { Unchanged self.old.log self.new.log }
-        ensures outer { Appended (lifecycle_told self.old) (listened result address.now) (lifecycle_told self.new) }
-        ensures cause { result ≡ Ready.Failed → FaultCounted self.old.outer.listen_faults self.new.outer.listen_faults }
+        ensures lifecycle { Appended (lifecycle_told self.old) (listened result address.now) (lifecycle_told self.new) }
+        ensures cause { result ≡ Ready.Failed → FaultCounted self.old.lifecycle.listen_faults self.new.lifecycle.listen_faults }
         ensures counts { NoCountFalls self.old self.new }
-        ensures answer { result ≡ (if self.old.outer.faults.listen then Ready.Failed else Ready.Done) }
+        ensures answer { result ≡ (if self.old.lifecycle.faults.listen then Ready.Failed else Ready.Done) }
         ensures rest { self.new ≡ record self.old {
           log = self.new.log;
-          outer = record self.old.outer {
-            entries = self.new.outer.entries;
-            listen_faults = faults_after self.old.outer.listen_faults self.old.outer.faults.listen;
+          lifecycle = record self.old.lifecycle {
+            entries = self.new.lifecycle.entries;
+            listen_faults = faults_after self.old.lifecycle.listen_faults self.old.lifecycle.faults.listen;
           };
         } }
     {
-        if self.outer.listen_fails() {
+        if self.lifecycle.listen_fails() {
             return Ready::Failed;
         }
-        self.outer
+        self.lifecycle
             .note(listen_of(alloc, address), &mut self.logbook);
         Ready::Done
     }
 
     fn attach(&mut self, alloc: Global, device: u8, spec: &DeviceSpec, kind: Kind<'_>) -> Ready
         ensures log { Unchanged self.old.log self.new.log }
-        ensures outer { Appended (lifecycle_told self.old) (attached result device spec.now (told_kind kind.entry)) (lifecycle_told self.new) }
+        ensures lifecycle { Appended (lifecycle_told self.old) (attached result device spec.now (told_kind kind.entry)) (lifecycle_told self.new) }
         ensures cause { result ≡ Ready.Failed → FaultCounted self.old.device_faults self.new.device_faults }
         ensures counts { NoCountFalls self.old self.new }
-        ensures answer { (result ≡ Ready.Done) ↔ ((slice_get self.old.config device ≡ Some spec.now) × (is_stated self.old.outer.faults.attach device ≡ false)) }
+        ensures answer { (result ≡ Ready.Done) ↔ ((slice_get self.old.config device ≡ Some spec.now) × (is_stated self.old.lifecycle.faults.attach device ≡ false)) }
         ensures memory { result ≢ Ready.OutOfMemory }
         ensures faults { self.new.device_faults ≡ faults_after self.old.device_faults (was_refused result) }
         ensures rest { self.new ≡ record self.old {
           log = self.new.log;
           device_faults = self.new.device_faults;
-          outer = record self.old.outer { entries = self.new.outer.entries };
+          lifecycle = record self.old.lifecycle { entries = self.new.lifecycle.entries };
         } }
     {
-        if !is_device(&self.config, device, spec) || self.outer.attach_fails(device) {
+        if !is_device(&self.config, device, spec) || self.lifecycle.attach_fails(device) {
             self.device_faults = faults_after(self.device_faults, true);
             return Ready::Failed;
         }
-        self.outer
+        self.lifecycle
             .note(attach_of(alloc, device, spec, kind), &mut self.logbook);
         Ready::Done
     }
 
     fn attach_line(&mut self, _alloc: Global, device: u8, program: LineProgram<'_>) -> Ready
         ensures log { Unchanged self.old.log self.new.log }
-        ensures outer { Appended (lifecycle_told self.old) (line_attached result device program.entry.restarts (words_of program.entry.words.now)) (lifecycle_told self.new) }
+        ensures lifecycle { Appended (lifecycle_told self.old) (line_attached result device program.entry.restarts (words_of program.entry.words.now))
+            (lifecycle_told self.new) }
         ensures cause { result ≡ Ready.Failed → FaultCounted self.old.device_faults self.new.device_faults }
         ensures counts { NoCountFalls self.old self.new }
         ensures answer { (result ≡ Ready.Done) ↔ (spec_has_line self.old.config device ≡ true) }
@@ -437,43 +438,44 @@ impl Live for Tape {
         ensures rest { self.new ≡ record self.old {
           log = self.new.log;
           device_faults = self.new.device_faults;
-          outer = record self.old.outer { entries = self.new.outer.entries };
+          lifecycle = record self.old.lifecycle { entries = self.new.lifecycle.entries };
         } }
     {
         if !has_line(self.config.as_slice(), device) {
             self.device_faults = faults_after(self.device_faults, true);
             return Ready::Failed;
         }
-        self.outer
+        self.lifecycle
             .note(Ok(line_attach_of(device, program)), &mut self.logbook);
         Ready::Done
     }
 
     fn wait(&mut self, more: bool) -> Waited
         ensures log { Unchanged self.old.log self.new.log }
-        ensures outer { Appended (lifecycle_told self.old) (waited more result) (lifecycle_told self.new) }
-        ensures cause { result ≡ Waited.Failed → FaultCounted self.old.outer.wait_faults self.new.outer.wait_faults }
+        ensures lifecycle { Appended (lifecycle_told self.old) (waited more result) (lifecycle_told self.new) }
+        ensures cause { result ≡ Waited.Failed → FaultCounted self.old.lifecycle.wait_faults self.new.lifecycle.wait_faults }
         ensures counts { NoCountFalls self.old self.new }
         ensures answer { result ≡ wait_answer self.old }
         ensures rest { self.new ≡ record self.old {
           left = left_after self.old;
           log = self.new.log;
           outside = waited_outside self.old;
-          outer = record self.old.outer {
-            entries = self.new.outer.entries;
-            waits = counted self.old.outer.waits;
-            wait_faults = faults_after self.old.outer.wait_faults (wait_fails self.old);
+          lifecycle = record self.old.lifecycle {
+            entries = self.new.lifecycle.entries;
+            waits = next_count self.old.lifecycle.waits;
+            wait_faults = faults_after self.old.lifecycle.wait_faults (wait_fails self.old);
           };
         } }
     {
-        if self.outer.wait_fails() {
+        if self.lifecycle.wait_fails() {
             return Waited::Failed;
         }
         let wake = match self.step() {
             Some(wake) => wake,
             None => Wake::Stop,
         };
-        self.outer.note(Ok(wait_of(more, wake)), &mut self.logbook);
+        self.lifecycle
+            .note(Ok(wait_of(more, wake)), &mut self.logbook);
         Waited::Woke(wake)
     }
 }

@@ -60,7 +60,7 @@ whole_bytes ty channels n count = by_count (λ c. n % frame_bytes ty c ≡ 0 →
     two Lin16 e = record { samples = omega (arith, e); frames = omega (arith, e) }
     two Lin32 e = record { samples = omega (arith, e); frames = omega (arith, e) }
 
--- no more frames than bytes, and no more bytes in them
+-- at most as many frames as bytes, and at most as many bytes in them
 pub few_frames : (ty : SampleType) (channels n : ℕ) → IsChannelCount channels → (n / frame_bytes ty channels ≤ n) × (n / frame_bytes ty channels * frame_bytes ty channels ≤ n)
 few_frames ty channels n count = by_count (λ c. (n / frame_bytes ty c ≤ n) × (n / frame_bytes ty c * frame_bytes ty c ≤ n)) (one ty) (two ty) channels count
   where
@@ -76,7 +76,7 @@ few_frames ty channels n count = by_count (λ c. (n / frame_bytes ty c ≤ n) ×
     two Lin16 = (omega arith, omega arith)
     two Lin32 = (omega arith, omega arith)
 
--- Frames that fit into a message: their bytes by samples, no more of these than may be, and whole frames of them.
+-- Frames that fit into a message: their bytes by samples, at most as many as may be, and whole frames.
 pub record FramesFit (ty : SampleType) (channels frames : ℕ) : Type 0 where
   pub bytes : frames * channels * width_of ty ≡ frames * frame_bytes ty channels
   pub few : frames * channels ≤ longest_record

@@ -1,4 +1,4 @@
--- A request that a frame of at most 16384 bytes asks has at most 16368 bytes of samples.
+-- A request in a frame of at most 16384 bytes has at most 16368 bytes of samples.
 use Rattle.std.proofs.Common.{◌≡◌, ℕ, ℤ, ◌+◌, ◌*◌, ◌-◌, ◌≤◌, ◌==◌, Bool, true, false, cond, List, length, drop, take, option_and_then, IfSome, refl, sym, subst, arith, length-drop}
 use Rattle.std.proofs.lemmas.List.{length-take}
 use Rattle.std.specs.declared.option.Option.{Option}
@@ -33,7 +33,7 @@ at_once (code.QueryControls device) p q c h = refl
 at_once (code.HookSwitch device off) p q c h = absurd (h device off refl)
 at_once (code.QueryPhone device) p q c h = refl
 
--- what a frame asks by a row, if it is one, has room
+-- what a frame asks for by a row, if it is one, has room
 abbrev Fits : List ℕ → Option Row → Type 0
 Fits frame o = IfSome (option_and_then (asked_by frame) o) FitsFrame
 

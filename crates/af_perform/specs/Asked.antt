@@ -1,4 +1,4 @@
--- What requests ask, by the structs that hold it.
+-- The requests that the structs of the code hold.
 use Rattle.std.specs.Prelude.{Bool, true, false}
 use Rattle.af_request.specs.Asked.{Asked, change_ac, create_ac, hook_switch, play_run, record_run, set_controls}
 use Rattle.af_perform.specs.declared.context_requests.NewContext.{NewContext}
@@ -22,7 +22,7 @@ new_play n = play_run n.quiet n.ac n.start.0 n.bytes.now
 abbrev pub new_record : NewRecord → Asked
 new_record n = record_run n.blocking n.ac n.start.0 n.bytes
 
--- whether a request leaves all but its link as it is: plays and records may wait, and controls and hooks are those of devices
+-- whether a request changes only its own link: plays and records may be deferred, and controls and hooks belong to devices
 abbrev pub is_done_at_once : Asked → Bool
 is_done_at_once (play_run quiet ac start bytes) = false
 is_done_at_once (record_run blocking ac start bytes) = false

@@ -1,4 +1,4 @@
-// A request that waited completes.
+// A deferred request completes.
 ghost use Rattle.std.specs.Prelude.{◌≡◌, ◌≤◌, ◌<◌, length};
 ghost use Rattle.af_limits.specs.Limits.{event_limit};
 ghost use Rattle.af_state.specs.Deferred.{deferred_of_record};
@@ -10,7 +10,7 @@ use crate::play::accept;
 use crate::record::answer_record;
 use af_state::{DeferredRequest, DeferredWork, Device, Play, Record, ServedLink, Work};
 
-// A record that waited for a device is answered.
+// Answers a deferred record.
 fn complete_record(
     device: u8,
     asked: Record,

@@ -4,8 +4,8 @@ ghost use Rattle.std.specs.declared.option.Option.TheVariants.{None};
 ghost use Rattle.af_limits.specs.Limits.{perform_limit};
 ghost use Rattle.af_sample.specs.Gains.{gain_of};
 ghost use Rattle.af_request.specs.Asked.{free_ac};
-ghost use Rattle.af_model.specs.ContextRequests.{creation_refusal, described, create, change_refusal, change, is_match, named_preempt};
-ghost use Rattle.af_model.specs.Perform.{performed};
+ghost use Rattle.af_model.specs.ContextRequests.{creation_refusal, requested_context, create, change_refusal, change, is_match, named_preempt};
+ghost use Rattle.af_model.specs.Perform.{request_effect};
 ghost use Rattle.af_state.specs.Kept.{kept_channels_at};
 ghost use Rattle.af_state.specs.SharedState.{StepsDevices, ChangesLink};
 ghost use Rattle.af_perform.specs.Asked.{new_context, new_settings};
@@ -41,7 +41,7 @@ pub struct NewSettings {
     pub record_gain: i16,
 }
 
-// The channels of a device, if it is there.
+// The channels of a device, if it exists.
 fn channels_at(device: u8, devices: &[Device]) -> Option<u8>
     ensures { result ≡ kept_channels_at devices.now device }
 {
@@ -49,7 +49,7 @@ fn channels_at(device: u8, devices: &[Device]) -> Option<u8>
     Some(device.channels())
 }
 
-// Whether so many channels are those of a device, if it is there.
+// Whether a device exists and has so many channels.
 fn is_match(own: Option<u8>, channels: u8) -> bool
     ensures { result ≡ is_match own channels }
 {
@@ -59,7 +59,7 @@ fn is_match(own: Option<u8>, channels: u8) -> bool
     }
 }
 
-// The settings of a new context on a device with its own channels, if it is there, before the context's number is looked at.
+// Why a context on a device cannot be created, by its settings. The number of the context is looked at later.
 fn creation_refusal(own: Option<u8>, asked: NewContext) -> Option<Refusal>
     ensures { result ≡
         creation_refusal own asked.device asked.ty asked.channels asked.preempt asked.play_gain asked.record_gain }
@@ -86,7 +86,7 @@ fn creation_refusal(own: Option<u8>, asked: NewContext) -> Option<Refusal>
     ])
 }
 
-// A gain, or none where the decibels are out of range.
+// A gain, or none if the decibels are out of range.
 fn gain_or_none(decibels: i16) -> Gain
     ensures { result ≡ unwrap_or (gain_of decibels) (pos 0) }
 {
@@ -95,7 +95,7 @@ fn gain_or_none(decibels: i16) -> Gain
 
 // The context that a request describes.
 fn described(asked: NewContext) -> Context
-    ensures { result ≡ described asked.device asked.ac asked.ty asked.preempt asked.play_gain asked.record_gain }
+    ensures { result ≡ requested_context asked.device asked.ac asked.ty asked.preempt asked.play_gain asked.record_gain }
 {
     Context {
         ac: asked.ac,
@@ -107,7 +107,7 @@ fn described(asked: NewContext) -> Context
     }
 }
 
-// One context more, if the number is free and there is room.
+// Creates a context, if the number is free and there is room.
 fn create(context: Context, link: &mut ServedLink, work: &mut Work)
     requires room { length link.old.pending ≤ perform_limit }
     ensures step { ChangesLink (create context) link.old link.new }
@@ -123,7 +123,7 @@ fn create(context: Context, link: &mut ServedLink, work: &mut Work)
 /// CreateAC.
 pub fn create_ac(asked: NewContext, devices: &[Device], link: &mut ServedLink, work: &mut Work)
     requires room { length link.old.pending ≤ perform_limit }
-    ensures step { (k : ℕ) → StepsDevices (performed k (new_context asked)) devices.now link.old devices.now link.new }
+    ensures step { (k : ℕ) → StepsDevices (request_effect k (new_context asked)) devices.now link.old devices.now link.new }
     ensures rest { link.new.rest ≡ link.old.rest }
 {
     match creation_refusal(channels_at(asked.device, devices), asked) {
@@ -132,7 +132,7 @@ pub fn create_ac(asked: NewContext, devices: &[Device], link: &mut ServedLink, w
     }
 }
 
-// The fields that the mask names are looked at.
+// Why the fields that the mask names cannot be changed.
 fn change_refusal(link: &ServedLink, asked: NewSettings) -> Option<Refusal>
     ensures { result ≡ change_refusal link.now.contexts asked.mask asked.ac asked.preempt asked.play_gain asked.record_gain }
 {
@@ -152,14 +152,14 @@ fn change_refusal(link: &ServedLink, asked: NewSettings) -> Option<Refusal>
     ])
 }
 
-// Whether plays preempt from now on, where the mask names it.
+// The stated preemption, if the mask names it.
 fn named_preempt(mask: u8, preempt: u8) -> Option<bool>
     ensures { result ≡ named_preempt mask preempt }
 {
     names(mask, 4).then_some(preempt == 1)
 }
 
-// The fields that the mask names are changed.
+// Changes the fields that the mask names.
 fn change(asked: NewSettings, link: &mut ServedLink, work: &mut Work)
     requires room { length link.old.pending ≤ perform_limit }
     requires passes { change_refusal link.old.contexts asked.mask asked.ac asked.preempt asked.play_gain asked.record_gain
@@ -179,7 +179,7 @@ fn change(asked: NewSettings, link: &mut ServedLink, work: &mut Work)
 /// ChangeAC.
 pub fn change_ac(asked: NewSettings, link: &mut ServedLink, work: &mut Work)
     requires room { length link.old.pending ≤ perform_limit }
-    ensures step { (k : ℕ) → ChangesLink (performed k (new_settings asked)) link.old link.new }
+    ensures step { (k : ℕ) → ChangesLink (request_effect k (new_settings asked)) link.old link.new }
     ensures rest { link.new.rest ≡ link.old.rest }
 {
     match change_refusal(link, asked) {
@@ -191,7 +191,7 @@ pub fn change_ac(asked: NewSettings, link: &mut ServedLink, work: &mut Work)
 /// FreeAC.
 pub fn free_ac(ac: u32, link: &mut ServedLink, work: &mut Work)
     requires room { length link.old.pending ≤ perform_limit }
-    ensures step { (k : ℕ) → ChangesLink (performed k (free_ac ac)) link.old link.new }
+    ensures step { (k : ℕ) → ChangesLink (request_effect k (free_ac ac)) link.old link.new }
     ensures rest { link.new.rest ≡ link.old.rest }
 {
     match link.free(ac) {

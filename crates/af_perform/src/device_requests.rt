@@ -2,20 +2,20 @@
 ghost use Rattle.std.specs.Prelude.{◌≡◌, ℕ, ◌≤◌, ◌<◌, List, length, slice_get, option_map, ◌==◌, if◌then◌else◌};
 ghost use Rattle.std.specs.declared.option.Option.TheVariants.{None, Some};
 ghost use Rattle.af_limits.specs.Limits.{perform_limit};
-ghost use Rattle.af_phone.specs.Lines.{wanting};
+ghost use Rattle.af_phone.specs.Lines.{with_wanted_hook};
 ghost use Rattle.af_request.specs.Answer.{plain};
 ghost use Rattle.af_request.specs.Asked.{select_events, query_controls, hook_switch, query_phone};
 ghost use Rattle.af_request.specs.Opcodes as opcodes;
 ghost use Rattle.af_model.specs.State.{DeviceState};
-ghost use Rattle.af_model.specs.Reply.{replied};
+ghost use Rattle.af_model.specs.Reply.{reply_with};
 ghost use Rattle.af_model.specs.Checks.{names};
 ghost use Rattle.af_model.specs.Play.{in_devices};
-ghost use Rattle.af_model.specs.DeviceRequests.{controls_refusal, select, set_device_controls, switch_refusal, wanting_hook, with_named};
-ghost use Rattle.af_model.specs.Perform.{performed};
+ghost use Rattle.af_model.specs.DeviceRequests.{controls_refusal, select, set_device_controls, switch_refusal, with_device_hook, with_named};
+ghost use Rattle.af_model.specs.Perform.{request_effect};
 ghost use Rattle.af_perform.specs.Asked.{new_controls};
 ghost use Rattle.af_perform.specs.Lines.{line_at};
 ghost use Rattle.af_state.specs.Deferrals.{KeptDeferral};
-ghost use Rattle.af_state.specs.SharedState.{kept, StepsDevices, StepsLinkFor, ChangesLink};
+ghost use Rattle.af_state.specs.SharedState.{kept_shared_state, StepsDevices, StepsLinkFor, ChangesLink};
 
 use crate::checks::{
     check, check_gain, first_refusal, is_missing, named_gain, names, no_device, no_line,
@@ -50,7 +50,7 @@ fn line_at(device: u8, devices: &[Device]) -> Result<Phone, Refusal>
     }
 }
 
-// The mask of the events of a device is replaced.
+// Replaces the mask of events of a device.
 fn select(device: u8, mask: u32, link: &mut ServedLink, work: &mut Work)
     requires room { length link.old.pending ≤ perform_limit }
     ensures step { ChangesLink (select device mask) link.old link.new }
@@ -69,7 +69,8 @@ pub fn select_events(
     work: &mut Work,
 )
     requires room { length link.old.pending ≤ perform_limit }
-    ensures step { (k : ℕ) → StepsDevices (performed k (select_events device mask)) devices.now link.old devices.now link.new }
+    ensures step { (k : ℕ) → StepsDevices (request_effect k (select_events device mask))
+        devices.now link.old devices.now link.new }
     ensures rest { link.new.rest ≡ link.old.rest }
 {
     match line_at(device, devices) {
@@ -78,7 +79,7 @@ pub fn select_events(
     }
 }
 
-// The fields that the mask names are looked at.
+// Why the fields that the mask names cannot be changed.
 fn controls_refusal(asked: NewControls) -> Option<Refusal>
     ensures { result ≡ controls_refusal asked.mask asked.input_on asked.output_on asked.input_gain asked.output_gain }
 {
@@ -106,7 +107,7 @@ fn controls_refusal(asked: NewControls) -> Option<Refusal>
     ])
 }
 
-// A switch that the mask names, or as it was.
+// The asked switch if the mask names it, or else the old one.
 fn named_switch(mask: u8, bit: u8, asked: u8, old: bool) -> bool
     ensures { result ≡ (if names mask bit then asked == 1 else old) }
 {
@@ -125,14 +126,14 @@ fn with_named(asked: NewControls, old: Controls) -> Controls
     }
 }
 
-// The controls of a device that is there are changed.
+// Changes the controls of an existing device.
 fn control(asked: NewControls, devices: &mut [Device], link: &mut ServedLink, work: &mut Work)
     requires room { length link.old.pending ≤ perform_limit }
     requires there { asked.device < length devices.old }
     requires passes { controls_refusal asked.mask asked.input_on asked.output_on asked.input_gain asked.output_gain ≡ None }
     ensures step { (k : ℕ) (ks : List KeptDeferral) → StepsLinkFor asked.device
         (set_device_controls k asked.device asked.mask asked.input_on asked.output_on asked.input_gain asked.output_gain)
-        (kept devices.old ks) link.old (kept devices.new ks) link.new }
+        (kept_shared_state devices.old ks) link.old (kept_shared_state devices.new ks) link.new }
     ensures rest { link.new.rest ≡ link.old.rest }
 {
     let device = &mut devices[usize::from(asked.device)];
@@ -149,7 +150,7 @@ pub fn set_controls(
     work: &mut Work,
 )
     requires room { length link.old.pending ≤ perform_limit }
-    ensures step { (k : ℕ) → StepsDevices (performed k (new_controls asked)) devices.old link.old devices.new link.new }
+    ensures step { (k : ℕ) → StepsDevices (request_effect k (new_controls asked)) devices.old link.old devices.new link.new }
     ensures rest { link.new.rest ≡ link.old.rest }
 {
     if is_missing(asked.device, devices) {
@@ -165,7 +166,7 @@ pub fn set_controls(
 /// QueryControls.
 pub fn query_controls(device: u8, devices: &[Device], link: &mut ServedLink, work: &mut Work)
     requires room { length link.old.pending ≤ perform_limit }
-    ensures step { (k : ℕ) → StepsDevices (performed k (query_controls device)) devices.now link.old devices.now link.new }
+    ensures step { (k : ℕ) → StepsDevices (request_effect k (query_controls device)) devices.now link.old devices.now link.new }
     ensures rest { link.new.rest ≡ link.old.rest }
 {
     if is_missing(device, devices) {
@@ -180,7 +181,7 @@ pub fn query_controls(device: u8, devices: &[Device], link: &mut ServedLink, wor
     );
 }
 
-// Why a hook is not switched.
+// Why a hook cannot be moved.
 fn switch_refusal(device: u8, off: u32, line: Phone) -> Option<Refusal>
     ensures { result ≡ switch_refusal device off line }
 {
@@ -190,21 +191,22 @@ fn switch_refusal(device: u8, off: u32, line: Phone) -> Option<Refusal>
     ])
 }
 
-// A line whose hook is wanted off, or on.
+// A line with another wanted hook.
 fn wanting(off: bool, line: Option<Line>) -> Option<Line>
-    ensures { result ≡ option_map (wanting off) line }
+    ensures { result ≡ option_map (with_wanted_hook off) line }
 {
     let mut line = line?;
     line.want(off);
     Some(line)
 }
 
-// The hook of a device that is there, and has a line, is wanted off or on.
+// Sets the wanted hook of an existing device with a line.
 fn want_hook(device: u8, off: bool, devices: &mut [Device], link: &mut ServedLink, work: &mut Work)
     requires room { length link.old.pending ≤ perform_limit }
     requires there { device < length devices.old }
-    ensures step { (k : ℕ) (ks : List KeptDeferral) → StepsLinkFor device (λ s p. replied opcodes.hook_switch plain
-        (in_devices device (wanting_hook k off) p)) (kept devices.old ks) link.old (kept devices.new ks) link.new }
+    ensures step { (k : ℕ) (ks : List KeptDeferral) → StepsLinkFor device (λ s p. reply_with opcodes.hook_switch plain
+        (in_devices device (with_device_hook k off) p))
+        (kept_shared_state devices.old ks) link.old (kept_shared_state devices.new ks) link.new }
     ensures rest { link.new.rest ≡ link.old.rest }
 {
     let device = &mut devices[usize::from(device)];
@@ -221,7 +223,7 @@ pub fn hook_switch(
     work: &mut Work,
 )
     requires room { length link.old.pending ≤ perform_limit }
-    ensures step { (k : ℕ) → StepsDevices (performed k (hook_switch device off)) devices.old link.old devices.new link.new }
+    ensures step { (k : ℕ) → StepsDevices (request_effect k (hook_switch device off)) devices.old link.old devices.new link.new }
     ensures rest { link.new.rest ≡ link.old.rest }
 {
     match line_at(device, devices) {
@@ -236,7 +238,7 @@ pub fn hook_switch(
 /// QueryPhone.
 pub fn query_phone(device: u8, devices: &[Device], link: &mut ServedLink, work: &mut Work)
     requires room { length link.old.pending ≤ perform_limit }
-    ensures step { (k : ℕ) → StepsDevices (performed k (query_phone device)) devices.now link.old devices.now link.new }
+    ensures step { (k : ℕ) → StepsDevices (request_effect k (query_phone device)) devices.now link.old devices.now link.new }
     ensures rest { link.new.rest ≡ link.old.rest }
 {
     match line_at(device, devices) {

@@ -3,7 +3,7 @@ ghost use Rattle.std.specs.Prelude.{◌≡◌, ℕ, ◌≤◌, IsTrue, length};
 ghost use Rattle.af_limits.specs.Limits.{perform_limit};
 ghost use Rattle.af_request.specs.Asked.{get_time, request_meaning};
 ghost use Rattle.af_request.specs.Requests.{FitsFrame};
-ghost use Rattle.af_model.specs.Perform.{performed, perform};
+ghost use Rattle.af_model.specs.Perform.{request_effect, perform};
 ghost use Rattle.af_state.specs.SharedState.{StepsLink, StepsDevices, Leaves, MayAsk};
 ghost use Rattle.af_perform.specs.Asked.{is_done_at_once};
 
@@ -17,10 +17,10 @@ use crate::record::{NewRecord, perform_record};
 use af_request::{Reply, Request, opcode};
 use af_state::{Device, ServedLink, SharedState, Work};
 
-// The time of a device is replied, or the device is not there.
+// Replies the time of a device, or refuses one that does not exist.
 fn get_time(device: u8, devices: &[Device], link: &mut ServedLink, work: &mut Work)
     requires room { length link.old.pending ≤ perform_limit }
-    ensures step { (k : ℕ) → StepsDevices (performed k (get_time device)) devices.now link.old devices.now link.new }
+    ensures step { (k : ℕ) → StepsDevices (request_effect k (get_time device)) devices.now link.old devices.now link.new }
     ensures rest { link.new.rest ≡ link.old.rest }
 {
     if is_missing(device, devices) {
@@ -31,11 +31,11 @@ fn get_time(device: u8, devices: &[Device], link: &mut ServedLink, work: &mut Wo
     link.reply(opcode::GET_TIME, &Reply::Time { time }, &mut work.message);
 }
 
-// What a request does that leaves all but its link as it is.
+// Performs a request that changes only its own link.
 fn done_at_once(request: &Request<'_>, devices: &[Device], link: &mut ServedLink, work: &mut Work)
     requires room { length link.old.pending ≤ perform_limit }
     ensures step { (k : ℕ) → IsTrue (is_done_at_once (request_meaning request.now)) →
-        StepsDevices (performed k (request_meaning request.now)) devices.now link.old devices.now link.new }
+        StepsDevices (request_effect k (request_meaning request.now)) devices.now link.old devices.now link.new }
     ensures rest { link.new.rest ≡ link.old.rest }
 {
     match *request {
@@ -81,7 +81,7 @@ fn done_at_once(request: &Request<'_>, devices: &[Device], link: &mut ServedLink
         Request::SelectEvents { device, mask } => select_events(device, mask, devices, link, work),
         Request::QueryControls { device } => query_controls(device, devices, link, work),
         Request::QueryPhone { device } => query_phone(device, devices, link, work),
-        // Plays and records may wait, and the others change devices.
+        // Plays and records may be deferred, and the others change devices.
         Request::PlayRun { .. }
         | Request::RecordRun { .. }
         | Request::SetControls { .. }
@@ -89,18 +89,18 @@ fn done_at_once(request: &Request<'_>, devices: &[Device], link: &mut ServedLink
     }
 }
 
-// What a request does.
+// Performs a request.
 fn done(
     number: u8,
     request: &Request<'_>,
-    environment: &mut SharedState,
+    shared: &mut SharedState,
     link: &mut ServedLink,
     work: &mut Work,
 )
-    requires asks { MayAsk number environment.old link.old }
+    requires asks { MayAsk number shared.old link.old }
     requires samples { FitsFrame (request_meaning request.now) }
-    ensures step { StepsLink (performed number (request_meaning request.now)) environment.old link.old environment.new link.new }
-    ensures leaves { Leaves number environment.old link.old environment.new link.new }
+    ensures step { StepsLink (request_effect number (request_meaning request.now)) shared.old link.old shared.new link.new }
+    ensures leaves { Leaves number shared.old link.old shared.new link.new }
 {
     match *request {
         Request::PlayRun {
@@ -115,7 +115,7 @@ fn done(
                 start: time,
                 bytes: samples,
             };
-            perform_play(number, &asked, environment, link, work)
+            perform_play(number, &asked, shared, link, work)
         }
         Request::RecordRun {
             blocking,
@@ -129,7 +129,7 @@ fn done(
                 start: time,
                 bytes: nbytes,
             };
-            perform_record(number, asked, environment, link, work)
+            perform_record(number, asked, shared, link, work)
         }
         Request::SetControls {
             device,
@@ -147,12 +147,12 @@ fn done(
                 input_gain,
                 output_gain,
             };
-            set_controls(asked, &mut environment.devices, link, work)
+            set_controls(asked, &mut shared.devices, link, work)
         }
         Request::HookSwitch { device, off } => {
-            hook_switch(device, off, &mut environment.devices, link, work)
+            hook_switch(device, off, &mut shared.devices, link, work)
         }
-        _ => done_at_once(request, &environment.devices, link, work),
+        _ => done_at_once(request, &shared.devices, link, work),
     }
 }
 
@@ -160,15 +160,15 @@ fn done(
 pub fn perform(
     number: u8,
     request: &Request<'_>,
-    environment: &mut SharedState,
+    shared: &mut SharedState,
     link: &mut ServedLink,
     work: &mut Work,
 )
-    requires asks { MayAsk number environment.old link.old }
+    requires asks { MayAsk number shared.old link.old }
     requires samples { FitsFrame (request_meaning request.now) }
-    ensures step { StepsLink (perform number (request_meaning request.now)) environment.old link.old environment.new link.new }
-    ensures leaves { Leaves number environment.old link.old environment.new link.new }
+    ensures step { StepsLink (perform number (request_meaning request.now)) shared.old link.old shared.new link.new }
+    ensures leaves { Leaves number shared.old link.old shared.new link.new }
 {
     link.count();
-    done(number, request, environment, link, work);
+    done(number, request, shared, link, work);
 }

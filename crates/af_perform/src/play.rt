@@ -8,7 +8,7 @@ ghost use Rattle.af_request.specs.Answer.{played};
 ghost use Rattle.af_request.specs.Opcodes as opcodes;
 ghost use Rattle.af_model.specs.Reply.{reply_message};
 ghost use Rattle.af_model.specs.Play.{play_refusal, sent_sound, start_play};
-ghost use Rattle.af_model.specs.Perform.{performed};
+ghost use Rattle.af_model.specs.Perform.{request_effect};
 ghost use Rattle.af_state.specs.Deferred.{deferred_of_play};
 ghost use Rattle.af_state.specs.Kept.{OfDeviceAt};
 ghost use Rattle.af_state.specs.Deferrals.{CanComplete};
@@ -55,7 +55,7 @@ fn play_refusal(context: &Context, channels: u8, bytes: usize) -> Option<Refusal
     )
 }
 
-// The samples that a client sends by a context, with the gain that the context has now, come to stand at the front of `samples`.
+// Fills the front of `samples` with what a client sends by a context, with the gain that the context has now.
 fn read_sound(context: &Context, bytes: &[u8], samples: &mut [i16])
     requires few { length bytes.now ≤ length samples.old }
     requires whole { length bytes.now % width_of context.now.ty ≡ 0 }
@@ -67,7 +67,7 @@ fn read_sound(context: &Context, bytes: &[u8], samples: &mut [i16])
     gain_run(sound, context.play_gain);
 }
 
-// A play is replied to with the device's time, unless it is quiet.
+// Replies the device's time to a play, unless it is quiet.
 fn tell_played(quiet: bool, time: DevTime, link: &mut ServedLink, message: &mut [u8])
     requires room { length link.old.pending ≤ event_limit }
     requires size { length message.old ≡ longest_message }
@@ -97,50 +97,50 @@ pub fn accept(play: &Play<'_>, devices: &mut [Device], link: &mut ServedLink, me
     tell_played(play.quiet, time, link, message);
 }
 
-// A play that ends within the horizon is accepted now, and any other waits.
+// Accepts a play that ends within the horizon, and defers any other.
 fn accept_or_defer(
     number: u8,
     play: &Play<'_>,
-    environment: &mut SharedState,
+    shared: &mut SharedState,
     link: &mut ServedLink,
     message: &mut [u8],
 )
-    requires asks { MayAsk number environment.old link.old }
+    requires asks { MayAsk number shared.old link.old }
     requires size { length message.old ≡ longest_message }
     requires few { length play.now.sound.now ≤ longest_play }
-    requires there { play.now.device < length environment.old.devices }
-    requires whole { OfDeviceAt environment.old.devices play.now.device (λ d. AreWholeFrames d.next.channels play.now.sound.now) }
+    requires there { play.now.device < length shared.old.devices }
+    requires whole { OfDeviceAt shared.old.devices play.now.device (λ d. AreWholeFrames d.next.channels play.now.sound.now) }
     ensures step { (c : Context) (bytes : List ℕ) → IsSoundOf play.now c bytes →
         StepsLinkFor c.device (start_play number play.now.quiet c play.now.start.0 bytes)
-        environment.old link.old environment.new link.new }
-    ensures leaves { Leaves number environment.old link.old environment.new link.new }
+        shared.old link.old shared.new link.new }
+    ensures leaves { Leaves number shared.old link.old shared.new link.new }
 {
-    let device = &environment.devices[usize::from(play.device)];
+    let device = &shared.devices[usize::from(play.device)];
     let frames = (play.sound.len() / usize::from(device.channels())) as u32;
     if frames <= device.frames_within(play.start) {
-        accept(play, &mut environment.devices, link, message);
+        accept(play, &mut shared.devices, link, message);
     } else {
         let left = device.play_due_in(play.start, frames);
-        environment.waits.begin_play(number, left, play);
+        shared.waits.begin_play(number, left, play);
     }
 }
 
-// The bytes of a play become samples, by its context. Its device is there, and they are whole frames.
+// Turns the bytes of a play into samples, by its context. Its device exists, and they are whole frames.
 fn convert_play(
     number: u8,
     asked: &ContextPlay<'_>,
-    environment: &mut SharedState,
+    shared: &mut SharedState,
     link: &mut ServedLink,
     work: &mut Work,
 )
-    requires asks { MayAsk number environment.old link.old }
+    requires asks { MayAsk number shared.old link.old }
     requires few { length asked.now.bytes.now ≤ longest_play }
-    requires there { asked.now.context.device < length environment.old.devices }
-    requires whole { OfDeviceAt environment.old.devices asked.now.context.device
+    requires there { asked.now.context.device < length shared.old.devices }
+    requires whole { OfDeviceAt shared.old.devices asked.now.context.device
         (λ d. WholeBytes asked.now.context.ty d.next.channels (length asked.now.bytes.now)) }
     ensures step { StepsLinkFor asked.now.context.device (start_play_of number asked.now)
-        environment.old link.old environment.new link.new }
-    ensures leaves { Leaves number environment.old link.old environment.new link.new }
+        shared.old link.old shared.new link.new }
+    ensures leaves { Leaves number shared.old link.old shared.new link.new }
 {
     read_sound(&asked.context, asked.bytes, &mut work.samples);
     let n = asked.bytes.len() / asked.context.ty.width();
@@ -151,31 +151,31 @@ fn convert_play(
         sound: &work.samples[..n],
         preempt: asked.context.preempt,
     };
-    accept_or_defer(number, &play, environment, link, &mut work.message);
+    accept_or_defer(number, &play, shared, link, &mut work.message);
 }
 
-// The device of a play is to be there, and its bytes whole frames.
+// Checks that the device of a play exists, and that its bytes are whole frames.
 fn check_play(
     number: u8,
     asked: &ContextPlay<'_>,
-    environment: &mut SharedState,
+    shared: &mut SharedState,
     link: &mut ServedLink,
     work: &mut Work,
 )
-    requires asks { MayAsk number environment.old link.old }
+    requires asks { MayAsk number shared.old link.old }
     requires few { length asked.now.bytes.now ≤ longest_play }
     ensures step { StepsLink (with_named_device opcodes.play asked.now.context.device (play_by_context number asked.now))
-        environment.old link.old environment.new link.new }
-    ensures leaves { Leaves number environment.old link.old environment.new link.new }
+        shared.old link.old shared.new link.new }
+    ensures leaves { Leaves number shared.old link.old shared.new link.new }
 {
-    if is_missing(asked.context.device, &environment.devices) {
+    if is_missing(asked.context.device, &shared.devices) {
         link.refuse(opcode::PLAY, no_device(asked.context.device));
         return;
     }
-    let channels = environment.devices[usize::from(asked.context.device)].channels();
+    let channels = shared.devices[usize::from(asked.context.device)].channels();
     match play_refusal(&asked.context, channels, asked.bytes.len()) {
         Some(refusal) => link.refuse(opcode::PLAY, refusal),
-        None => convert_play(number, asked, environment, link, work),
+        None => convert_play(number, asked, shared, link, work),
     }
 }
 
@@ -183,14 +183,14 @@ fn check_play(
 pub fn perform_play(
     number: u8,
     asked: &NewPlay<'_>,
-    environment: &mut SharedState,
+    shared: &mut SharedState,
     link: &mut ServedLink,
     work: &mut Work,
 )
-    requires asks { MayAsk number environment.old link.old }
+    requires asks { MayAsk number shared.old link.old }
     requires few { length asked.now.bytes.now ≤ longest_play }
-    ensures step { StepsLink (performed number (new_play asked.now)) environment.old link.old environment.new link.new }
-    ensures leaves { Leaves number environment.old link.old environment.new link.new }
+    ensures step { StepsLink (request_effect number (new_play asked.now)) shared.old link.old shared.new link.new }
+    ensures leaves { Leaves number shared.old link.old shared.new link.new }
 {
     match link.context(asked.ac) {
         Some(context) => {
@@ -200,7 +200,7 @@ pub fn perform_play(
                 start: asked.start,
                 bytes: asked.bytes,
             };
-            check_play(number, &asked, environment, link, work);
+            check_play(number, &asked, shared, link, work);
         }
         None => link.refuse(opcode::PLAY, no_context(asked.ac)),
     }

@@ -7,7 +7,7 @@ ghost use Rattle.af_sample.specs.Channels.{IsChannelCount};
 ghost use Rattle.af_sample.specs.SampleTypes.{frame_bytes};
 ghost use Rattle.af_model.specs.State.{DeviceState};
 ghost use Rattle.af_model.specs.Record.{give_record, given_frames, record_refusal, recorded_bytes, start_record};
-ghost use Rattle.af_model.specs.Perform.{performed};
+ghost use Rattle.af_model.specs.Perform.{request_effect};
 ghost use Rattle.af_state.specs.Kept.{OfDeviceAt, StandsForDevice};
 ghost use Rattle.af_state.specs.SharedState.{StepsLink, StepsLinkFor, ChangesLink, Leaves, MayAsk};
 ghost use Rattle.af_perform.specs.Asked.{new_record};
@@ -39,7 +39,7 @@ pub struct ContextRecord {
     pub bytes: u32,
 }
 
-// A record has at most 16000 bytes, in whole frames.
+// Refuses a record with more than 16000 bytes, or with bytes that are not whole frames.
 fn record_refusal(context: &Context, channels: u8, bytes: u32) -> Option<Refusal>
     requires { IsChannelCount channels }
     ensures { result ≡ record_refusal channels context.now bytes }
@@ -51,7 +51,7 @@ fn record_refusal(context: &Context, channels: u8, bytes: u32) -> Option<Refusal
     ])
 }
 
-// How many frames a record gives, of which so many are before now: all, or, of one that does not block, those.
+// How many frames a record gives: all, or, if it does not block, those before now, of which there are `before`.
 fn given_frames(blocking: bool, before: u32, frames: u32) -> u32
     ensures given { result ≡ (if blocking then frames else min before frames) }
     ensures few { result ≤ frames }
@@ -59,7 +59,7 @@ fn given_frames(blocking: bool, before: u32, frames: u32) -> u32
     if blocking { frames } else { before.min(frames) }
 }
 
-// The frames of a record come to stand in the message that answers it, and their samples at the front of `samples`.
+// Reads the frames of a record into the message that answers it. Their samples stand at the front of `samples`.
 fn read_frames(asked: Record, device: &Device, samples: &mut [i16], message: &mut [u8])
     requires fits { asked.frames * frame_bytes asked.context.ty device.now.next.channels ≤ longest_record }
     requires samples { length samples.old ≡ longest_frame }
@@ -89,7 +89,7 @@ pub fn answer_record(asked: Record, device: &Device, link: &mut ServedLink, work
     link.reply_recorded(device.time(), size, &mut work.message);
 }
 
-// A record is answered with all of its frames, or, if it does not block, with those before now.
+// Answers a record with all of its frames, or, if it does not block, with those before now.
 fn answer_available(asked: Record, device: &Device, link: &mut ServedLink, work: &mut Work)
     requires room { length link.old.pending ≤ perform_limit }
     requires fits { asked.frames * frame_bytes asked.context.ty device.now.next.channels ≤ longest_record }
@@ -103,62 +103,62 @@ fn answer_available(asked: Record, device: &Device, link: &mut ServedLink, work:
     answer_record(Record { frames, ..asked }, device, link, work);
 }
 
-// A record waits where it blocks and has a frame that is not before now.
+// A record is deferred if it blocks and has a frame that is not before now.
 fn is_to_wait(blocking: bool, before: u32, frames: u32) -> bool
     ensures { result ≡ (blocking && nat_lt before frames) }
 {
     blocking && before < frames
 }
 
-// A record waits, or is answered now.
+// Defers a record, or answers it now.
 fn answer_or_defer(
     number: u8,
     asked: Record,
-    environment: &mut SharedState,
+    shared: &mut SharedState,
     link: &mut ServedLink,
     work: &mut Work,
 )
-    requires asks { MayAsk number environment.old link.old }
-    requires there { asked.context.device < length environment.old.devices }
+    requires asks { MayAsk number shared.old link.old }
+    requires there { asked.context.device < length shared.old.devices }
     requires few { asked.frames ≤ longest_record }
-    requires fits { OfDeviceAt environment.old.devices asked.context.device
+    requires fits { OfDeviceAt shared.old.devices asked.context.device
         (λ d. asked.frames * frame_bytes asked.context.ty d.next.channels ≤ longest_record) }
-    ensures step { (bytes : ℕ) → OfDeviceAt environment.old.devices asked.context.device (IsRecordOn asked bytes) →
+    ensures step { (bytes : ℕ) → OfDeviceAt shared.old.devices asked.context.device (IsRecordOn asked bytes) →
         StepsLinkFor asked.context.device (start_record number asked.blocking asked.context asked.start.0 bytes)
-        environment.old link.old environment.new link.new }
-    ensures leaves { Leaves number environment.old link.old environment.new link.new }
+        shared.old link.old shared.new link.new }
+    ensures leaves { Leaves number shared.old link.old shared.new link.new }
 {
-    let device = &environment.devices[usize::from(asked.context.device)];
+    let device = &shared.devices[usize::from(asked.context.device)];
     if is_to_wait(
         asked.blocking,
         device.frames_before(asked.start),
         asked.frames,
     ) {
         let left = device.record_due_in(asked.start, asked.frames);
-        environment.waits.begin_record(number, left, asked);
+        shared.waits.begin_record(number, left, asked);
     } else {
         answer_available(asked, device, link, work);
     }
 }
 
-// The device of a record is to be there, and its bytes whole frames, and not too many.
+// Checks that the device of a record exists, and that its bytes are whole frames and not too many.
 fn check_record(
     number: u8,
     asked: ContextRecord,
-    environment: &mut SharedState,
+    shared: &mut SharedState,
     link: &mut ServedLink,
     work: &mut Work,
 )
-    requires asks { MayAsk number environment.old link.old }
+    requires asks { MayAsk number shared.old link.old }
     ensures step { StepsLink (with_named_device opcodes.record asked.context.device (record_by_context number asked))
-        environment.old link.old environment.new link.new }
-    ensures leaves { Leaves number environment.old link.old environment.new link.new }
+        shared.old link.old shared.new link.new }
+    ensures leaves { Leaves number shared.old link.old shared.new link.new }
 {
-    if is_missing(asked.context.device, &environment.devices) {
+    if is_missing(asked.context.device, &shared.devices) {
         link.refuse(opcode::RECORD, no_device(asked.context.device));
         return;
     }
-    let channels = environment.devices[usize::from(asked.context.device)].channels();
+    let channels = shared.devices[usize::from(asked.context.device)].channels();
     match record_refusal(&asked.context, channels, asked.bytes) {
         Some(refusal) => link.refuse(opcode::RECORD, refusal),
         None => {
@@ -169,7 +169,7 @@ fn check_record(
                 start: asked.start,
                 frames,
             };
-            answer_or_defer(number, asked, environment, link, work);
+            answer_or_defer(number, asked, shared, link, work);
         }
     }
 }
@@ -178,13 +178,13 @@ fn check_record(
 pub fn perform_record(
     number: u8,
     asked: NewRecord,
-    environment: &mut SharedState,
+    shared: &mut SharedState,
     link: &mut ServedLink,
     work: &mut Work,
 )
-    requires asks { MayAsk number environment.old link.old }
-    ensures step { StepsLink (performed number (new_record asked)) environment.old link.old environment.new link.new }
-    ensures leaves { Leaves number environment.old link.old environment.new link.new }
+    requires asks { MayAsk number shared.old link.old }
+    ensures step { StepsLink (request_effect number (new_record asked)) shared.old link.old shared.new link.new }
+    ensures leaves { Leaves number shared.old link.old shared.new link.new }
 {
     match link.context(asked.ac) {
         Some(context) => {
@@ -194,7 +194,7 @@ pub fn perform_record(
                 start: asked.start,
                 bytes: asked.bytes,
             };
-            check_record(number, asked, environment, link, work);
+            check_record(number, asked, shared, link, work);
         }
         None => link.refuse(opcode::RECORD, no_context(asked.ac)),
     }

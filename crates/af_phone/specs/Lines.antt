@@ -1,4 +1,4 @@
--- Telephone lines: what changes on them, the events that tell it, and the hook.
+-- Telephone lines: their changes, the events for these, and the hook.
 use Rattle.std.specs.Prelude.{ℕ, Bool, true, false, not, ◌==◌, if◌then◌else◌, Option, Some, None, List, codes, bit_and}
 use Rattle.std.specs.List.{list_any}
 use Rattle.af_wire.specs.declared.event.EventKind.{EventKind}
@@ -26,13 +26,13 @@ is_change (Digit code) = is_digit code
 abbrev pub quiet_line : Phone
 quiet_line = record { wanted_off = false; given_off = false; ringing = false; current = false; dead = false }
 
--- a line behind a change, whether it is live or dead: a digit leaves it as it is
-abbrev pub changed : LineChange → Phone → Phone
-changed (Ring on) line = record line { ringing = on }
-changed (Current on) line = record line { current = on }
-changed (Digit code) line = line
+-- a line after a change, whether it is live or dead; a digit does not change it
+abbrev pub line_after_change : LineChange → Phone → Phone
+line_after_change (Ring on) line = record line { ringing = on }
+line_after_change (Current on) line = record line { current = on }
+line_after_change (Digit code) line = line
 
--- the kind of the event that tells a change
+-- the kind of the event for a change
 abbrev pub event_kind_of : LineChange → EventKind
 event_kind_of (Ring on) = kind.Ring
 event_kind_of (Current on) = kind.Current
@@ -42,30 +42,30 @@ event_kind_of (Digit code) = kind.Digit
 abbrev pub flag_value : Bool → ℕ
 flag_value on = if on then 1 else 0
 
--- the value of the event that tells a change
+-- the value of the event for a change
 abbrev pub value_of : LineChange → ℕ
 value_of (Ring on) = flag_value on
 value_of (Current on) = flag_value on
 value_of (Digit code) = code
 
 -- a line whose hook is wanted off, or on
-abbrev pub wanting : Bool → Phone → Phone
-wanting off line = record line { wanted_off = off }
+abbrev pub with_wanted_hook : Bool → Phone → Phone
+with_wanted_hook off line = record line { wanted_off = off }
 
--- where one hook, off or on, is wanted and another given: the wanted one
+-- the wanted hook, if the actual hook is another
 abbrev pub hook_between : Bool → Bool → Option Bool
 hook_between true false = Some true
 hook_between false true = Some false
 hook_between _ _ = None
 
--- the hook that a line is still to be given: none where it is dead
+-- the wanted hook of a line, if its actual hook is another; None if the line is dead
 abbrev pub hook_due : Phone → Option Bool
 hook_due line = if line.dead then None else hook_between line.wanted_off line.given_off
 
--- a line behind a try to give it the wanted hook: one that failed leaves it dead
-abbrev pub hooked : Bool → Phone → Phone
-hooked true line = record line { given_off = line.wanted_off }
-hooked false line = record line { dead = true }
+-- a line after a call for its wanted hook: if the call failed, it is dead
+abbrev pub line_after_hook : Bool → Phone → Phone
+line_after_hook true line = record line { given_off = line.wanted_off }
+line_after_hook false line = record line { dead = true }
 
 -- whether a mask of events selects a kind: it has the bit of the kind
 abbrev pub selects : ℕ → EventKind → Bool

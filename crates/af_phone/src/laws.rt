@@ -3,25 +3,25 @@ ghost use Rattle.std.specs.Prelude.{◌≡◌, ◌≢◌, ◌↔◌, true, false
 ghost use Rattle.af_wire.specs.Event.{detail_of};
 ghost use Rattle.af_wire.specs.declared.event.EventKind.{EventKind};
 ghost use Rattle.af_request.specs.declared.reply.Phone.{Phone};
-ghost use Rattle.af_phone.specs.Lines.{changed, hooked, hook_due, selects, wanting};
+ghost use Rattle.af_phone.specs.Lines.{line_after_change, line_after_hook, hook_due, selects, with_wanted_hook};
 ghost use Rattle.af_phone.specs.declared.line.LineChange.{LineChange};
 
 /// A hook moves once, whatever was wanted before: none is due where the last wish is the hook that the line has, none
 /// after a try, and one where a live line is wanted otherwise.
 pub fn a_hook_is_given_once()
-    ensures back { (line : Phone) (off : Bool) → hook_due (wanting line.given_off (wanting off line)) ≡ None }
-    ensures tried { (line : Phone) (done : Bool) → hook_due (hooked done line) ≡ None }
-    ensures other { (line : Phone) (off : Bool) → line.dead ≡ false → off ≢ line.given_off → hook_due (wanting off line) ≡ Some off }
+    ensures back { (line : Phone) (off : Bool) → hook_due (with_wanted_hook line.given_off (with_wanted_hook off line)) ≡ None }
+    ensures tried { (line : Phone) (done : Bool) → hook_due (line_after_hook done line) ≡ None }
+    ensures other { (line : Phone) (off : Bool) → line.dead ≡ false → off ≢ line.given_off → hook_due (with_wanted_hook off line) ≡ Some off }
 {}
 
 /// What changes on a line and what is wanted of it revive no dead line and move no hook.
 pub fn only_a_try_moves_the_hook()
     ensures changes { (line : Phone) (change : LineChange) →
-        ((changed change line).dead ≡ line.dead) × ((changed change line).given_off ≡ line.given_off)
-        × (hook_due (changed change line) ≡ hook_due line) }
+        ((line_after_change change line).dead ≡ line.dead) × ((line_after_change change line).given_off ≡ line.given_off)
+        × (hook_due (line_after_change change line) ≡ hook_due line) }
     ensures wishes { (line : Phone) (off : Bool) →
-        ((wanting off line).dead ≡ line.dead) × ((wanting off line).given_off ≡ line.given_off) }
-    ensures dead { (line : Phone) (done : Bool) → line.dead ≡ true → (hooked done line).dead ≡ true }
+        ((with_wanted_hook off line).dead ≡ line.dead) × ((with_wanted_hook off line).given_off ≡ line.given_off) }
+    ensures dead { (line : Phone) (done : Bool) → line.dead ≡ true → (line_after_hook done line).dead ≡ true }
 {}
 
 /// Each kind of event has a bit of its own in a mask, which is the detail of its message.

@@ -1,7 +1,7 @@
 // A device's telephone line.
 ghost use Rattle.std.specs.Prelude.{◌≡◌, ◌↔◌, ◌⊎◌, true, IsTrue, IsNone, IfSome};
 ghost use Rattle.af_wire.specs.Event.{is_value};
-ghost use Rattle.af_phone.specs.Lines.{changed, hooked, hook_due, is_change, is_digit, event_kind_of, quiet_line, selects, value_of, wanting};
+ghost use Rattle.af_phone.specs.Lines.{line_after_change, line_after_hook, hook_due, is_change, is_digit, event_kind_of, quiet_line, selects, value_of, with_wanted_hook};
 
 use af_request::Phone;
 use af_wire::EventKind;
@@ -86,7 +86,7 @@ impl Line {
     /// The line changes, dead or live. It answers the kind and the value of the event that tells it. A code that is no
     /// digit's is told like one, and changes nothing either.
     pub fn change(&mut self, change: LineChange) -> (EventKind, u32)
-        ensures line { self.new ≡ changed change self.old }
+        ensures line { self.new ≡ line_after_change change self.old }
         ensures kind { result.0 ≡ event_kind_of change }
         ensures value { result.1 ≡ value_of change }
         ensures stated { IsTrue (is_value result.0 result.1) }
@@ -101,7 +101,7 @@ impl Line {
 
     /// The hook is wanted off, or on.
     pub fn want(&mut self, off: bool)
-        ensures { self.new ≡ wanting off self.old }
+        ensures { self.new ≡ with_wanted_hook off self.old }
     {
         self.phone.wanted_off = off;
     }
@@ -120,7 +120,7 @@ impl Line {
 
     /// A try to give the line the wanted hook was done, or has failed: then the line is dead.
     pub fn hooked(&mut self, done: bool)
-        ensures { self.new ≡ hooked done self.old }
+        ensures { self.new ≡ line_after_hook done self.old }
     {
         if done {
             self.phone.given_off = self.phone.wanted_off;

@@ -1,4 +1,4 @@
--- What is told of child programs: the acts, which children they show to run, and what the answers of a spawner are in them.
+-- The acts of child programs: which children they show to run, and the answers of a spawner in them.
 use Rattle.std.specs.Prelude.{◌≡◌, ⊤, ℕ, ℤ, ◌+◌, ◌==◌, ◌||◌, Bool, true, false, if◌then◌else◌, IsTrue, List, [], ◌∷◌, map}
 use Rattle.std.specs.List.{fold}
 use Rattle.std.specs.declared.option.Option.{Option}
@@ -20,7 +20,7 @@ use Rattle.af_process.specs.declared.spawner.Started.TheVariants as started
 use Rattle.af_process.specs.declared.spawner.Finished.{Finished}
 use Rattle.af_process.specs.declared.spawner.Finished.TheVariants as ended
 
--- an act as it is told of: of words their bytes alone
+-- an act as clauses see it; of a command line it has only the bytes
 pub data Told : Type 0 where
   noted : List ℕ → Told
   began : List (List ℕ) → BeganGot → Told
@@ -31,11 +31,11 @@ pub data Told : Type 0 where
 abbrev pub words_of : ArrayVec ArrayString → List (List ℕ)
 words_of words = map (λ (word : ArrayString). word.bytes) words.items
 
-abbrev pub told : Act → Told
-told (act.Noted sound) = noted sound
-told (act.Began words got) = began (words_of words) got
-told (act.Given child offered done) = given child offered done
-told (act.Finished child status) = finished child status
+abbrev pub told_of : Act → Told
+told_of (act.Noted sound) = noted sound
+told_of (act.Began words got) = began (words_of words) got
+told_of (act.Given child offered done) = given child offered done
+told_of (act.Finished child status) = finished child status
 
 -- Answers
 
@@ -54,7 +54,7 @@ status_of ended.Failed = None
 
 -- Children
 
--- how many children there are behind an act
+-- how many children there are after an act
 abbrev pub children_after : ℕ → Told → ℕ
 children_after n (noted sound) = n
 children_after n (began words (got.Child child)) = n + 1
@@ -67,13 +67,13 @@ children_after n (finished child status) = n
 abbrev pub children_in : List Told → ℕ
 children_in acts = fold children_after 0 acts
 
--- how many children were started, behind a start with this answer
+-- how many children were started, after a start with this answer
 abbrev pub started_after : ℕ → Started → ℕ
 started_after n (started.Child child) = n + 1
 started_after n started.Failed = n
 started_after n started.OutOfMemory = n
 
--- whether a child runs behind an act: from its start on, until it is finished, whatever that answers
+-- whether a child runs after an act: from its start on, until it is finished, whatever the answer
 abbrev pub runs_after : ℕ → Bool → Told → Bool
 runs_after child runs (noted sound) = runs
 runs_after child runs (began words (got.Child c)) = (c == child) || runs
@@ -86,12 +86,12 @@ runs_after child runs (finished c status) = if c == child then false else runs
 abbrev pub runs_in : ℕ → List Told → Bool
 runs_in child acts = fold (runs_after child) false acts
 
--- if the acts are observed, they show that a child runs
+-- if the acts are observable, they show that a child runs
 abbrev pub RunsWhereTold : ℕ → Option (List Told) → Type 0
 RunsWhereTold child None = ⊤
 RunsWhereTold child (Some acts) = IsTrue (runs_in child acts)
 
--- if the acts are observed, a child that is started has the next number
+-- if the acts are observable, a child that is started has the next number
 abbrev pub IsNextChild : Option (List Told) → Started → Type 0
 IsNextChild None _ = ⊤
 IsNextChild (Some acts) (started.Child child) = child ≡ children_in acts
@@ -100,12 +100,12 @@ IsNextChild (Some acts) started.OutOfMemory = ⊤
 
 -- Notes
 
--- acts that are observed, or not
+-- acts that are observable, or not
 abbrev pub told_where : Bool → List Act → Option (List Told)
-told_where true acts = Some (map told acts)
+told_where true acts = Some (map told_of acts)
 told_where false acts = None
 
--- an act is added, and the acts are observed no longer where memory ran out for it
+-- an act is added; if memory ran out for it, the acts are no longer observable
 abbrev pub ActNoted : Option (List Told) → Result Act OutOfMemory → Option (List Told) → Type 0
-ActNoted before (Ok act) after = Appended before (told act ∷ []) after
+ActNoted before (Ok act) after = Appended before (told_of act ∷ []) after
 ActNoted before (Err e) after = after ≡ None

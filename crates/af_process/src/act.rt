@@ -1,4 +1,4 @@
-// What was done with child programs.
+// An act: what was done with child programs.
 ghost use Rattle.std.specs.Prelude.{◌≡◌};
 
 use af_io::Bytes;

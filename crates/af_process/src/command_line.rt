@@ -1,4 +1,4 @@
-// The words of a command line, kept.
+// A command line, kept.
 ghost use Rattle.std.specs.Prelude.{◌≡◌};
 ghost use Rattle.af_process.specs.Acts.{words_of};
 

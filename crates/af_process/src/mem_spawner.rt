@@ -1,9 +1,9 @@
-// Child programs in memory, of which chosen calls fail.
+// Child programs in memory, whose calls fail as listed.
 ghost use Rattle.std.specs.Prelude.{◌≡◌, ◌≢◌, ◌↔◌, ◌⊎◌, ◌≤◌, ◌^◌, ◌-◌, [], ◌∷◌, map, is_some, IsTrue, Contains, IfOk, IfSome};
 ghost use Rattle.std.specs.declared.option.Option.TheVariants.{None, Some};
 ghost use Rattle.arrayvec.specs.ArrayVec.{array_vec_len};
-ghost use Rattle.af_io.specs.Observed.{Appended, CountsOneFault, counted, faults_after};
-ghost use Rattle.af_process.specs.Acts.{told, noted, began, given, finished, began_got, status_of, is_given, words_of, started_after, IsNextChild, RunsWhereTold};
+ghost use Rattle.af_io.specs.Observed.{Appended, CountsOneFault, next_count, faults_after};
+ghost use Rattle.af_process.specs.Acts.{told_of, noted, began, given, finished, began_got, status_of, is_given, words_of, started_after, IsNextChild, RunsWhereTold};
 ghost use Rattle.af_process.specs.Memory.{status_at, ended_after};
 
 use crate::notes::{self, Notes};
@@ -68,7 +68,7 @@ impl MemSpawner {
 
     /// All acts so far, in order, if they are observed.
     pub fn acts(&self) -> &[Act]
-        ensures { IfSome self.now.acts (λ acts. acts ≡ map told result.now) }
+        ensures { IfSome self.now.acts (λ acts. acts ≡ map told_of result.now) }
     {
         self.notes.acts()
     }
@@ -103,7 +103,7 @@ impl Spawner for MemSpawner {
         ensures faults { CountsOneFault (result ≡ Started.Failed) self.old.faults self.new.faults }
         ensures failed { (result ≡ Started.Failed) ↔ (Contains self.old.fails self.old.calls ⊎ (self.old.started ≡ 2 ^ 32 - 1)) }
         ensures child { result ≢ Started.Failed → result ≡ Started.Child self.old.started }
-        ensures calls { self.new.calls ≡ counted self.old.calls }
+        ensures calls { self.new.calls ≡ next_count self.old.calls }
         ensures rest { self.new ≡ record self.old { acts = self.new.acts; calls = self.new.calls; faults = self.new.faults; started = started_after self.old.started result } }
     {
         let number = self.started;
@@ -124,7 +124,7 @@ impl Spawner for MemSpawner {
         ensures acts { Appended self.old.acts (given child bytes.now (is_given result) ∷ []) self.new.acts }
         ensures faults { CountsOneFault (result ≡ Put.Failed) self.old.faults self.new.faults }
         ensures failed { (result ≡ Put.Failed) ↔ Contains self.old.fails self.old.calls }
-        ensures calls { self.new.calls ≡ counted self.old.calls }
+        ensures calls { self.new.calls ≡ next_count self.old.calls }
         ensures rest { self.new ≡ record self.old { acts = self.new.acts; calls = self.new.calls; faults = self.new.faults } }
     {
         let fails = next_fails(self.fails.as_slice(), &mut self.calls);
@@ -140,7 +140,7 @@ impl Spawner for MemSpawner {
         ensures faults { CountsOneFault (result ≡ Finished.Failed) self.old.faults self.new.faults }
         ensures failed { (result ≡ Finished.Failed) ↔ Contains self.old.fails self.old.calls }
         ensures status { result ≢ Finished.Failed → result ≡ Finished.Ended (status_at self.old.statuses self.old.ended) }
-        ensures calls { self.new.calls ≡ counted self.old.calls }
+        ensures calls { self.new.calls ≡ next_count self.old.calls }
         ensures rest { self.new ≡ record self.old { acts = self.new.acts; calls = self.new.calls; faults = self.new.faults; ended = ended_after self.old.ended result } }
     {
         let fails = next_fails(self.fails.as_slice(), &mut self.calls);
@@ -162,10 +162,10 @@ impl Spawner for MemSpawner {
     }
 }
 
-// Counts a call, and says whether it fails, since its number is listed.
+// Counts a call. The answer is whether it fails, since its number is listed.
 fn next_fails(fails: &[u64], calls: &mut u64) -> bool
     ensures fails { IsTrue result ↔ Contains fails.now calls.old }
-    ensures number { calls.new ≡ counted calls.old }
+    ensures number { calls.new ≡ next_count calls.old }
 {
     let fails = fails.contains(calls);
     *calls = calls.saturating_add(1);

@@ -1,7 +1,7 @@
-// The acts of a spawner, which are observed as long as memory was there for each of them.
+// The acts of a spawner. They are observable as long as there was memory for each of them.
 ghost use Rattle.std.specs.Prelude.{◌≡◌, [], map, is_some, IfOk, IfSome};
 ghost use Rattle.std.specs.declared.option.Option.TheVariants.{None, Some};
-ghost use Rattle.af_process.specs.Acts.{told, noted, began, given, words_of, ActNoted};
+ghost use Rattle.af_process.specs.Acts.{told_of, noted, began, given, words_of, ActNoted};
 
 use crate::{Act, BeganGot, Words, copied_words};
 use af_io::Bytes;
@@ -44,7 +44,7 @@ impl Notes {
     }
 
     pub(crate) fn acts(&self) -> &[Act]
-        ensures { IfSome self.now (λ acts. acts ≡ map told result.now) }
+        ensures { IfSome self.now (λ acts. acts ≡ map told_of result.now) }
     {
         self.acts.as_slice()
     }
@@ -67,7 +67,7 @@ impl Notes {
 
 // The act of a sound that is noted.
 pub(crate) fn noted(alloc: Global, sound: &[u8]) -> Result<Act, OutOfMemory>
-    ensures { IfOk result (λ act. told act ≡ noted sound.now) }
+    ensures { IfOk result (λ act. told_of act ≡ noted sound.now) }
 {
     Ok(Act::Noted {
         sound: Bytes::copied(alloc, sound)?,
@@ -76,7 +76,7 @@ pub(crate) fn noted(alloc: Global, sound: &[u8]) -> Result<Act, OutOfMemory>
 
 // The act of a piece that a child was offered.
 pub(crate) fn given(alloc: Global, child: u32, bytes: &[u8], done: bool) -> Result<Act, OutOfMemory>
-    ensures { IfOk result (λ act. told act ≡ given child bytes.now done) }
+    ensures { IfOk result (λ act. told_of act ≡ given child bytes.now done) }
 {
     Ok(Act::Given {
         child,
@@ -87,7 +87,7 @@ pub(crate) fn given(alloc: Global, child: u32, bytes: &[u8], done: bool) -> Resu
 
 // The act of a start.
 pub(crate) fn began(words: &Words, got: BeganGot) -> Act
-    ensures { told result ≡ began (words_of words.now) got }
+    ensures { told_of result ≡ began (words_of words.now) got }
 {
     Act::Began {
         words: copied_words(words),

@@ -31,7 +31,7 @@ fn place_of<P: OpenProcess + Drop>(children: &[RunningChild<P>], number: u32) ->
     None
 }
 
-/// The command line of these words. What the program writes goes nowhere, but for its errors, which go where ours go.
+/// The command line of these words. What the program writes goes nowhere, except its errors, which go where ours go.
 fn command_of(alloc: Global, words: &Words) -> Result<Command, AllocError>
     requires { 1 ≤ array_vec_len words.now }
     ensures { IfOk result (λ command. command_program command ∷ command_args command ≡ words_of words.now) }

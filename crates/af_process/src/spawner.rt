@@ -1,4 +1,4 @@
-// Child programs, as a caller has them.
+// The trait of what runs child programs.
 ghost use Rattle.std.specs.Prelude.{◌≡◌, ◌≤◌, ◌^◌, ◌-◌, ℕ, List, [], ◌∷◌};
 ghost use Rattle.std.specs.declared.option.Option.{Option};
 ghost use Rattle.arrayvec.specs.ArrayVec.{array_vec_len};
@@ -44,8 +44,8 @@ pub trait Spawner {
         ensures started { started self.new ≡ started self.old }
         ensures count { faults self.old ≤ faults self.new };
 
-    /// Starts a child. Children are numbered 0, 1, .. in the order of their starts, at most 2^32 - 1 of them. A start beyond these
-    /// fails.
+    /// Starts a child. Children are numbered 0, 1, .. in the order of their starts, at most 2^32 - 1 of them. A start beyond
+    /// these fails.
     fn start(&mut self, alloc: Global, words: &Words) -> Started
         requires { 1 ≤ array_vec_len words.now }
         ensures acts { Appended (acts self.old) (began (words_of words.now) (began_got result) ∷ []) (acts self.new) }

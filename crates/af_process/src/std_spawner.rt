@@ -1,4 +1,4 @@
-// Child programs of the system, which tell no acts and count their faults.
+// Child programs of the system. Their acts are not observable, and their faults are counted.
 ghost use Rattle.std.specs.Prelude.{◌≡◌, ◌≤◌, ◌^◌, ◌-◌, ℕ};
 ghost use Rattle.std.specs.declared.option.Option.TheVariants.{None};
 ghost use Rattle.arrayvec.specs.ArrayVec.{array_vec_len};
@@ -23,7 +23,7 @@ use std::process::Processes;
 #[derive(Drop)]
 pub struct StdSpawner<R: Processes + Drop> {
     rt: R,
-    // none before the first start, which hands in what takes memory
+    // none before the first start, which brings the allocator
     children: Option<Vec<RunningChild<R::Started>>>,
     started: u32,
     faults: u64,

@@ -4,9 +4,9 @@ use Rattle.std.proofs.lemmas.Bool.{leb-true}
 use Rattle.std.specs.declared.option.Option.{Option}
 use Rattle.std.specs.declared.option.Option.TheVariants.{None, Some}
 use Rattle.af_program.specs.declared.starts.Starts.{Starts}
-use Rattle.af_program.specs.Waits.{Start, StartsFit, NextFits, IsLateEnough, starts_ended, wait_after, may_come, comes_by, begun_once_more, after_end, next_wait, moment_after, short_life, shortest_wait, longest_wait}
+use Rattle.af_program.specs.Waits.{Start, StartsFit, NextFits, IsLateEnough, starts_after_end, wait_after, may_come, comes_by, begun_once_more, after_end, next_wait, moment_after, short_life, shortest_wait, longest_wait}
 
--- the wait where more than one start was tried
+-- the wait if more than one start was tried
 next_wait-more : (short : Bool) (tried wait : ℕ) → 2 ≤ tried → nat_lt 1 tried && short ≡ short
 next_wait-more short tried wait more = grind arith
 
@@ -47,7 +47,7 @@ left-true false b both = both
 may-begin : (s : Starts) (at : ℕ) → may_come s at ≡ true → s.tried ≤ s.restarts
 may-begin s at may = leb-true s.tried s.restarts (left-true (nat_le s.tried s.restarts) (comes_by s.next at) may)
 
--- one more start keeps to what starts keep to
+-- one more start keeps to the rules of starts
 pub begun-fits : (s : Starts) (starts : List Start) (at : ℕ) (end : Option ℕ) → s.tried ≡ length starts → may_come s at ≡ true → NextFits s None starts → StartsFit s.restarts starts →
     StartsFit s.restarts (record { began = at; ended = end } ∷ starts)
 begun-fits s starts at end tried may next fits =
@@ -63,15 +63,15 @@ next-failed s at starts tried next =
 
 -- a program ends
 
-pub as-many : (starts : List Start) (at : ℕ) → length starts ≡ length (starts_ended starts at)
+pub as-many : (starts : List Start) (at : ℕ) → length starts ≡ length (starts_after_end starts at)
 as-many [] at = refl
 as-many (start ∷ earlier) at = refl
 
-pub ended-fits : (restarts : ℕ) (starts : List Start) (at : ℕ) → StartsFit restarts starts → StartsFit restarts (starts_ended starts at)
+pub ended-fits : (restarts : ℕ) (starts : List Start) (at : ℕ) → StartsFit restarts starts → StartsFit restarts (starts_after_end starts at)
 ended-fits restarts [] at fits = fits
 ended-fits restarts (start ∷ earlier) at fits = record { most = fits.most; spaced = fits.spaced }
 
-pub next-ended : (s : Starts) (began at : ℕ) (starts : List Start) → s.tried ≡ length starts → NextFits s (Some began) starts → NextFits (after_end s began at) None (starts_ended starts at)
+pub next-ended : (s : Starts) (began at : ℕ) (starts : List Start) → s.tried ≡ length starts → NextFits s (Some began) starts → NextFits (after_end s began at) None (starts_after_end starts at)
 next-ended s began at [] tried next = grind arith
 next-ended s began at (start ∷ earlier) tried next =
     let more : s.tried ≡ length earlier + 1 = grind arith in

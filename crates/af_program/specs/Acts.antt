@@ -1,4 +1,4 @@
--- What is told of a program and of the device before it: the acts, and what the answers of a program are in them.
+-- The acts of a program and of its device, and the answers of a program in them.
 use Rattle.std.specs.Prelude.{◌≡◌, ◌≤◌, ⊤, ℕ, Bool, true, false, IsTrue, IsFalse, List, [], ◌∷◌, take}
 use Rattle.std.specs.List.{fold}
 use Rattle.std.specs.declared.option.Option.{Option}
@@ -10,7 +10,7 @@ use Rattle.af_program.specs.declared.program.Gave.TheVariants as gives
 use Rattle.af_program.specs.declared.program.Took.{Took}
 use Rattle.af_program.specs.declared.program.Took.TheVariants as takes
 
--- An act: a start at a moment, by the bytes of each word, with what it came to; bytes that the program gave, or took; its end, at a
+-- An act: a start at a moment, by the bytes of each word, with its outcome; bytes that the program gave, or took; its end, at a
 -- moment; the sound that the device captured in a tick, or emitted.
 pub data ToldAct : Type 0 where
   launched : ℕ → List (List ℕ) → Launched → ToldAct
@@ -32,13 +32,13 @@ took_acts (takes.Bytes n) bytes = took (take n bytes) ∷ []
 took_acts takes.NoRoom bytes = []
 took_acts takes.Ended bytes = []
 
--- at least a byte came, and no more than there was room for
+-- at least one byte came, and at most as many as there was room for
 abbrev pub GaveFits : Gave → ℕ → Type 0
 GaveFits (gives.Bytes n) room = (1 ≤ n) × (n ≤ room)
 GaveFits gives.NotYet room = ⊤
 GaveFits gives.Ended room = ⊤
 
--- at least a byte was taken, and no more than there were
+-- at least one byte was taken, and at most as many as there were
 abbrev pub TookFits : Took → ℕ → Type 0
 TookFits (takes.Bytes n) offered = (1 ≤ n) × (n ≤ offered)
 TookFits takes.NoRoom offered = ⊤
@@ -60,17 +60,17 @@ runs_after runs (emitted sound) = runs
 abbrev pub runs_in : List ToldAct → Bool
 runs_in acts = fold runs_after false acts
 
--- if the acts are observed, they show that it runs
+-- if the acts are observable, they show that it runs
 abbrev pub RunsWhereTold : Option (List ToldAct) → Type 0
 RunsWhereTold None = ⊤
 RunsWhereTold (Some acts) = IsTrue (runs_in acts)
 
--- if the acts are observed, they show that it does not run
+-- if the acts are observable, they show that it does not run
 abbrev pub IdlesWhereTold : Option (List ToldAct) → Type 0
 IdlesWhereTold None = ⊤
 IdlesWhereTold (Some acts) = IsFalse (runs_in acts)
 
--- if the acts are observed, there are none
+-- if the acts are observable, there are none
 abbrev pub TellsNothing : Option (List ToldAct) → Type 0
 TellsNothing None = ⊤
 TellsNothing (Some acts) = acts ≡ []

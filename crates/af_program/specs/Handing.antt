@@ -1,4 +1,4 @@
--- What goes between a program and the queues before and behind it.
+-- Bytes go between a program and the queues before and after it.
 use Rattle.std.specs.Prelude.{◌≡◌, ◌≤◌, ℕ, List, [], ◌∷◌, ◌++◌, length, take, drop}
 use Rattle.std.specs.declared.option.Option.{Option}
 use Rattle.af_io.specs.Observed.{Appended, Unchanged}
@@ -8,7 +8,7 @@ use Rattle.af_program.specs.declared.program.Took.{Took}
 use Rattle.af_program.specs.declared.program.Took.TheVariants as takes
 use Rattle.af_program.specs.Acts.{ToldAct, gave, took}
 
--- what was taken stands at the end of a queue
+-- what was taken is at the end of a queue
 abbrev pub TakesInto : Gave → List ℕ → List ℕ → Option (List ToldAct) → Option (List ToldAct) → Type 0
 TakesInto (gives.Bytes n) before after acts acts' = (bytes : List ℕ) × (after ≡ before ++ bytes) × Appended acts (gave bytes ∷ []) acts'
 TakesInto gives.NotYet before after acts acts' = (after ≡ before) × Unchanged acts acts'

@@ -1,4 +1,4 @@
--- A program in memory, which plays what it is told to.
+-- A program in memory, which answers by a plan.
 use Rattle.std.specs.Prelude.{ℕ, Bool, zero, suc, List, min}
 use Rattle.std.specs.declared.option.Option.{Option}
 use Rattle.std.specs.declared.option.Option.TheVariants.{None, Some}
@@ -8,9 +8,9 @@ use Rattle.af_program.specs.declared.program.Took.{Took}
 use Rattle.af_program.specs.declared.program.Took.TheVariants as takes
 use Rattle.af_program.specs.Acts.{ToldAct}
 
--- A program in memory: the acts so far, if they are observed, whether it runs, the numbers of its starts that are to fail, the bytes
--- that it has not given, what each take gives and each give takes at most (None: it gives or takes none any more), and the numbers of
--- its next start, of its next take and of its next give.
+-- A program in memory: the acts so far, if they are observable; whether it runs; the numbers of its starts that fail; the bytes
+-- that it has not given; what each take gives and each give takes at most (None: it gives or takes none any more); and the
+-- numbers of its next start, of its next take and of its next give.
 pub record MemProgramState : Type 0 where
   pub acts : Option (List ToldAct)
   pub runs : Bool
@@ -33,7 +33,8 @@ abbrev pub gave_some : ℕ → Gave
 gave_some zero = gives.NotYet
 gave_some (suc n) = gives.Bytes (suc n)
 
--- what a take answers, by what is stated for it, how many bytes are left and for how many there is room: none past what is stated
+-- the answer of a take, by what is stated for it, how many bytes are left and for how many there is room; after all that is
+-- stated, a take gives none
 abbrev pub gave_of : Option (Option ℕ) → ℕ → ℕ → Gave
 gave_of None left room = gives.NotYet
 gave_of (Some None) left room = gives.Ended
@@ -44,7 +45,7 @@ abbrev pub took_some : ℕ → Took
 took_some zero = takes.NoRoom
 took_some (suc n) = takes.Bytes (suc n)
 
--- what a give answers, by what is stated for it and how many bytes are offered: all past what is stated
+-- the answer of a give, by what is stated for it and how many bytes are offered; after all that is stated, a give takes all
 abbrev pub took_of : Option (Option ℕ) → ℕ → Took
 took_of None offered = took_some offered
 took_of (Some None) offered = takes.Ended

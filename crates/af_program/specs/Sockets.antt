@@ -11,8 +11,8 @@ use Rattle.af_program.specs.declared.program.Took.TheVariants as takes
 use Rattle.af_program.specs.declared.ways.Ways.{Ways}
 use Rattle.af_program.specs.declared.ways.Ways.TheVariants as way
 
--- A program of the system: which ways it has, the size that is asked for of the buffer before its input, whether it runs, how many
--- that were ended are looked after, why a start failed last, and with which status the one that was ended last has ended, if that is
+-- A program of the system: which ways it has; the size that is asked for of the buffer before its input; whether it runs; how
+-- many that were told to end are looked after; why the last start failed; and the status of the one that ended last, if it is
 -- known.
 pub record SocketProgramState : Type 0 where
   pub ways : Ways

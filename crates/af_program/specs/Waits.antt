@@ -4,15 +4,15 @@ use Rattle.std.specs.declared.option.Option.{Option}
 use Rattle.std.specs.declared.option.Option.TheVariants.{None, Some}
 use Rattle.af_program.specs.declared.starts.Starts.{Starts}
 
--- a start that was tried: its moment, and that at which its program was ended. One that failed ends as it begins.
+-- a start that was tried: its moment, and the moment at which its program was ended; a start that failed ends as it begins
 pub record Start : Type 0 where
   pub began : ℕ
   pub ended : Option ℕ
 
 -- the latest start has ended
-abbrev pub starts_ended : List Start → ℕ → List Start
-starts_ended [] at = []
-starts_ended (start ∷ starts) at = record start { ended = Some at } ∷ starts
+abbrev pub starts_after_end : List Start → ℕ → List Start
+starts_after_end [] at = []
+starts_after_end (start ∷ starts) at = record start { ended = Some at } ∷ starts
 
 -- a second, and a minute: the shortest wait for a start, and the longest
 abbrev pub shortest_wait : ℕ
@@ -29,8 +29,8 @@ abbrev pub life_until : ℕ → Option ℕ → ℕ
 life_until began None = 0
 life_until began (Some ended) = ended - began
 
--- The wait after the latest of these starts has ended, of which the latest stands first: a second after the first of all and after a
--- program that lived for ten seconds; else twice the wait before it, up to a minute.
+-- The wait after the latest of these starts has ended: a second after the very first one, and after a program that lived for ten
+-- seconds; else twice the wait before it, up to a minute. The latest start stands first.
 abbrev pub wait_after : List Start → ℕ
 wait_after [] = 0
 wait_after (start ∷ []) = shortest_wait
@@ -39,7 +39,7 @@ wait_after (start ∷ (before ∷ earlier)) =
     then min (2 * wait_after (before ∷ earlier)) longest_wait
     else shortest_wait
 
--- a start at this moment comes once the one before it has ended, and no earlier than the wait after that
+-- a start comes once the one before it has ended, and not before the wait after that
 abbrev pub IsLateEnough : ℕ → List Start → Type 0
 IsLateEnough at [] = ⊤
 IsLateEnough at (before ∷ earlier) = (ended : ℕ) × (before.ended ≡ Some ended) × (ended + wait_after (before ∷ earlier) ≤ at)
@@ -71,7 +71,7 @@ no_starts restarts = record { restarts = restarts; tried = 0; wait = 0; next = S
 abbrev pub is_left : Starts → Bool
 is_left s = nat_le s.tried s.restarts && is_some s.next
 
--- from which moment on the next may come, if one is left
+-- the moment from which the next start may come, if one is left
 abbrev pub next_start : Starts → Option ℕ
 next_start s = if is_left s then s.next else None
 
@@ -93,8 +93,8 @@ after_end s began ended =
     let wait = next_wait s.tried s.wait (ended - began) in
     record s { wait = wait; next = moment_after ended wait }
 
--- The program that runs was started at this moment, or none runs. When the next start may come it is late enough, and the wait is the one
--- after the latest end.
+-- The program that runs was started at this moment, or none runs. The next start may come only when it is late enough, and the
+-- wait is the one after the latest end.
 abbrev pub NextFits : Starts → Option ℕ → List Start → Type 0
 NextFits s None starts = (s.wait ≡ wait_after starts) × ((at : ℕ) → may_come s at ≡ true → IsLateEnough at starts)
 NextFits s (Some began) [] = ⊥

@@ -1,4 +1,4 @@
-// What was done with a program in memory.
+// An act: what was done with a program in memory.
 use crate::Launched;
 use af_io::Bytes;
 use af_process::Words;

@@ -1,4 +1,4 @@
-// Programs that were ended, until they have.
+// Programs that were told to end, until they have.
 ghost use Rattle.std.specs.Prelude.{◌≡◌, ◌↔◌, ◌≤◌, ◌<◌, ◌+◌, IsTrue};
 ghost use Rattle.std.specs.Vec.{vec_len, vec_capacity};
 

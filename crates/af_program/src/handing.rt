@@ -1,12 +1,12 @@
-// What goes between a program and the queues before and behind it.
+// Bytes go between a program and the queues before and after it.
 ghost use Rattle.std.specs.Prelude.{◌≡◌, ◌<◌, length};
 ghost use Rattle.af_program.specs.Acts.{RunsWhereTold};
 ghost use Rattle.af_program.specs.Handing.{TakesInto, GivesFrom};
 
 use crate::{Gave, Program, Queue, Took};
 
-/// Takes what a program that runs gives to the end of a queue, as far as there is room. It comes through a buffer that is as long as the
-/// room of the queue. NotYet also says that there is no room. Ended says that the program gives nothing any more.
+/// Takes what a program that runs gives to the end of a queue, as far as there is room. It comes through a buffer that is as long
+/// as the room of the queue. NotYet also says that there is no room. Ended says that the program gives nothing any more.
 pub fn take_into<P: Program, const ROOM: usize>(
     program: &mut P,
     buffer: &mut [u8],
@@ -28,8 +28,8 @@ pub fn take_into<P: Program, const ROOM: usize>(
     gave
 }
 
-/// Gives a program that runs what stands in a queue, at least a byte, as far as it takes it. What it took leaves the queue. Ended says that
-/// the program takes nothing any more.
+/// Gives a program that runs what stands in a queue, at least a byte, as far as it takes it. What it took leaves the queue. Ended
+/// says that the program takes nothing any more.
 pub fn give_from<P: Program, const ROOM: usize>(program: &mut P, queue: &mut Queue<ROOM>) -> Took
     requires some { 0 < length queue.old }
     requires runs { RunsWhereTold (P.acts program.old) }

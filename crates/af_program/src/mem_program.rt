@@ -1,12 +1,12 @@
-// A program in memory, which plays what it is told to.
+// A program in memory, which answers by a plan.
 ghost use Rattle.std.specs.Prelude.{◌≡◌, ◌≢◌, ◌↔◌, ◌≤◌, ◌<◌, [], ◌∷◌, ◌++◌, false, length, take, drop, map, is_some, slice_get, Contains, IfOk, IfSome, IsTrue, IsFalse};
 ghost use Rattle.std.specs.declared.option.Option.TheVariants.{Some};
 ghost use Rattle.arrayvec.specs.ArrayVec.{array_vec_len};
-ghost use Rattle.af_io.specs.Observed.{Appended, counted};
+ghost use Rattle.af_io.specs.Observed.{Appended, next_count};
 ghost use Rattle.af_process.specs.Acts.{words_of};
 ghost use Rattle.af_program.specs.Acts.{launched, ended, captured, emitted, gave_acts, took_acts, runs_after, GaveFits, TookFits, IdlesWhereTold, RunsWhereTold};
 ghost use Rattle.af_program.specs.Memory.{gave_count, gave_of, took_of};
-ghost use Rattle.af_program.specs.Notes.{told};
+ghost use Rattle.af_program.specs.Notes.{told_of};
 
 use crate::notes::{self, Notes};
 use crate::{Act, Gave, Launched, Program, ProgramSockets, Took};
@@ -28,8 +28,8 @@ pub struct Plan<'a> {
     pub takes: &'a [Option<u32>],
 }
 
-/// Keeps every act, and plays a plan. A take past those of the plan gives nothing yet, and a give past those of the plan takes all.
-/// Starts, takes and gives are counted from 0, over all starts. Their counts stand still at 2^64 - 1.
+/// Keeps every act, and plays a plan. A take past those of the plan gives nothing yet, and a give past those of the plan takes
+/// all. Starts, takes and gives are counted from 0, over all starts. Their counts stand still at 2^64 - 1.
 #[derive(Drop)]
 pub struct MemProgram {
     notes: Notes,
@@ -88,7 +88,7 @@ impl MemProgram {
 
     /// All acts so far, in order, if they are observed.
     pub fn acts(&self) -> &[Act]
-        ensures { IfSome self.now.acts (λ acts. acts ≡ map told result.now) }
+        ensures { IfSome self.now.acts (λ acts. acts ≡ map told_of result.now) }
     {
         self.notes.acts()
     }
@@ -139,7 +139,7 @@ impl Program for MemProgram {
         ensures acts { Appended self.old.acts (launched at (words_of words.now) result ∷ []) self.new.acts }
         ensures failed { (result ≡ Launched.Failed) ↔ Contains self.old.fails self.old.starts }
         ensures runs { result ≢ Launched.Failed → result ≡ Launched.Runs }
-        ensures rest { self.new ≡ record self.old { acts = self.new.acts; runs = runs_after self.old.runs (launched at (words_of words.now) result); starts = counted self.old.starts } }
+        ensures rest { self.new ≡ record self.old { acts = self.new.acts; runs = runs_after self.old.runs (launched at (words_of words.now) result); starts = next_count self.old.starts } }
     {
         let fails = self.fails.contains(&self.starts);
         self.starts = self.starts.saturating_add(1);
@@ -162,7 +162,7 @@ impl Program for MemProgram {
         ensures gave { result ≡ gave_of (slice_get self.old.gives self.old.take_calls) (length self.old.left) (length into.old) }
         ensures bytes { into.new ≡ take (gave_count result) self.old.left ++ drop (gave_count result) into.old }
         ensures left { self.new.left ≡ drop (gave_count result) self.old.left }
-        ensures rest { self.new ≡ record self.old { acts = self.new.acts; left = self.new.left; take_calls = counted self.old.take_calls } }
+        ensures rest { self.new ≡ record self.old { acts = self.new.acts; left = self.new.left; take_calls = next_count self.old.take_calls } }
     {
         let most = match next_stated(self.gives.as_slice(), &mut self.take_calls) {
             None => return Gave::NotYet,
@@ -187,7 +187,7 @@ impl Program for MemProgram {
         ensures bound { TookFits result (length bytes.now) }
         ensures acts { Appended self.old.acts (took_acts result bytes.now) self.new.acts }
         ensures took { result ≡ took_of (slice_get self.old.takes self.old.give_calls) (length bytes.now) }
-        ensures rest { self.new ≡ record self.old { acts = self.new.acts; give_calls = counted self.old.give_calls } }
+        ensures rest { self.new ≡ record self.old { acts = self.new.acts; give_calls = next_count self.old.give_calls } }
     {
         let count = match next_stated(self.takes.as_slice(), &mut self.give_calls) {
             None => bytes.len(),
@@ -216,10 +216,10 @@ impl Program for MemProgram {
     {}
 }
 
-// Counts a call, and gives what is stated for the one with its number.
+// Counts a call, and gives what the plan states for its number.
 fn next_stated(stated: &[Option<u32>], calls: &mut u64) -> Option<Option<u32>>
     ensures stated { result ≡ slice_get stated.now calls.old }
-    ensures number { calls.new ≡ counted calls.old }
+    ensures number { calls.new ≡ next_count calls.old }
 {
     let next = stated.get(*calls as usize).copied();
     *calls = calls.saturating_add(1);

@@ -1,8 +1,8 @@
-// The acts of a program, which are observed as long as memory was there for each of them.
+// The acts of a program. They are observable as long as there was memory for each of them.
 ghost use Rattle.std.specs.Prelude.{◌≡◌, [], map, is_some, IfOk, IfSome};
 ghost use Rattle.std.specs.declared.option.Option.TheVariants.{None, Some};
 ghost use Rattle.af_program.specs.Acts.{launched, gave, took, captured, emitted};
-ghost use Rattle.af_program.specs.Notes.{told, ActNoted};
+ghost use Rattle.af_program.specs.Notes.{told_of, ActNoted};
 ghost use Rattle.af_process.specs.Acts.{words_of};
 
 use crate::{Act, Launched};
@@ -48,7 +48,7 @@ impl Notes {
     }
 
     pub(crate) fn acts(&self) -> &[Act]
-        ensures { IfSome self.now (λ acts. acts ≡ map told result.now) }
+        ensures { IfSome self.now (λ acts. acts ≡ map told_of result.now) }
     {
         self.acts.as_slice()
     }
@@ -71,7 +71,7 @@ impl Notes {
 
 // The act of a start.
 pub(crate) fn launched(at: u64, words: &Words, came_to: Launched) -> Act
-    ensures { told result ≡ launched at (words_of words.now) came_to }
+    ensures { told_of result ≡ launched at (words_of words.now) came_to }
 {
     Act::Launched {
         at,
@@ -82,7 +82,7 @@ pub(crate) fn launched(at: u64, words: &Words, came_to: Launched) -> Act
 
 // The act of bytes that the program gave.
 pub(crate) fn gave(alloc: Global, bytes: &[u8]) -> Result<Act, OutOfMemory>
-    ensures { IfOk result (λ act. told act ≡ gave bytes.now) }
+    ensures { IfOk result (λ act. told_of act ≡ gave bytes.now) }
 {
     Ok(Act::Gave {
         bytes: Bytes::copied(alloc, bytes)?,
@@ -91,7 +91,7 @@ pub(crate) fn gave(alloc: Global, bytes: &[u8]) -> Result<Act, OutOfMemory>
 
 // The act of bytes that the program took.
 pub(crate) fn took(alloc: Global, bytes: &[u8]) -> Result<Act, OutOfMemory>
-    ensures { IfOk result (λ act. told act ≡ took bytes.now) }
+    ensures { IfOk result (λ act. told_of act ≡ took bytes.now) }
 {
     Ok(Act::Took {
         bytes: Bytes::copied(alloc, bytes)?,
@@ -100,7 +100,7 @@ pub(crate) fn took(alloc: Global, bytes: &[u8]) -> Result<Act, OutOfMemory>
 
 // The act of a sound that was captured.
 pub(crate) fn captured(alloc: Global, sound: &[u8]) -> Result<Act, OutOfMemory>
-    ensures { IfOk result (λ act. told act ≡ captured sound.now) }
+    ensures { IfOk result (λ act. told_of act ≡ captured sound.now) }
 {
     Ok(Act::Captured {
         sound: Bytes::copied(alloc, sound)?,
@@ -109,7 +109,7 @@ pub(crate) fn captured(alloc: Global, sound: &[u8]) -> Result<Act, OutOfMemory>
 
 // The act of a sound that was emitted.
 pub(crate) fn emitted(alloc: Global, sound: &[u8]) -> Result<Act, OutOfMemory>
-    ensures { IfOk result (λ act. told act ≡ emitted sound.now) }
+    ensures { IfOk result (λ act. told_of act ≡ emitted sound.now) }
 {
     Ok(Act::Emitted {
         sound: Bytes::copied(alloc, sound)?,

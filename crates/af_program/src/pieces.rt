@@ -1,4 +1,4 @@
-// Pieces that go over a stream which does not block, in one call each.
+// Pieces go over a stream which does not block, in one call each.
 ghost use Rattle.std.specs.Io.KnownBytes.{Keeps};
 ghost use Rattle.std.specs.Prelude.{◌<◌, length};
 ghost use Rattle.af_program.specs.Sockets.{GivesOn, TakesOn};
@@ -6,7 +6,7 @@ ghost use Rattle.af_program.specs.Sockets.{GivesOn, TakesOn};
 use crate::{Gave, Took};
 use std::io::{ErrorKind, Read, Write};
 
-// A call, and at most 1000 more where it is interrupted.
+// A call, and at most 1000 more if it is interrupted.
 const ATTEMPTS: u32 = 1001;
 
 /// Takes what a reader gives.

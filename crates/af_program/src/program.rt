@@ -1,4 +1,4 @@
-// A program, as a caller has it.
+// The trait of a program that gives and takes bytes, and never blocks.
 ghost use Rattle.std.specs.Prelude.{◌≤◌, ◌<◌, List, length, [], ◌∷◌};
 ghost use Rattle.std.specs.declared.option.Option.{Option};
 ghost use Rattle.arrayvec.specs.ArrayVec.{array_vec_len};
@@ -32,8 +32,8 @@ pub enum Took {
     Ended,
 }
 
-/// The descriptors of the sockets between a program that runs and its user, so that these can be waited for: to its standard input, and
-/// from its standard output. A program in memory has none.
+/// The descriptors of the sockets between a program that runs and its user, so that these can be waited for: to its standard
+/// input, and from its standard output. A program in memory has none.
 #[derive(Clone, Copy, Debug, PartialEq, Eq)]
 pub struct ProgramSockets {
     pub input: Option<RawFd>,

@@ -1,4 +1,4 @@
-// Whoever gives the programs of devices.
+// The trait of what makes the programs of devices.
 ghost use Rattle.std.specs.Prelude.{IfOk};
 ghost use Rattle.std.specs.declared.option.Option.TheVariants.{None};
 ghost use Rattle.af_program.specs.Acts.{TellsNothing};
@@ -14,7 +14,7 @@ use std::process::Processes;
 pub trait Programs {
     type Made: Program + Drop;
 
-    /// A program that was not started. Bytes go these ways. About so many may lie before its standard input.
+    /// A program that was not started. Bytes go these ways. About so many may wait before its standard input.
     fn program(
         &mut self,
         alloc: Global,
@@ -50,7 +50,7 @@ impl<'a, R: Processes + Net> Programs for SocketPrograms<'a, R> {
     }
 }
 
-/// Programs in memory, each of which plays the same plan.
+/// Programs in memory, which all play the same plan.
 #[derive(Drop)]
 pub struct MemPrograms<'a> {
     plan: Plan<'a>,

@@ -1,11 +1,13 @@
-// Bytes that come in at the end and leave at the front, with room that is taken once.
+// A queue of bytes.
+// Layout: one vector, whose room is taken once. Its first byte is the next to leave, and the bytes that stay move to the front.
 ghost use Rattle.std.specs.Prelude.{◌≡◌, ◌+◌, ◌≤◌, [], ◌++◌, length, drop, IfOk};
 
 use af_time::OutOfMemory;
 use std::alloc::Global;
 use std::marker::Model;
 
-/// Bytes in order, at most `ROOM` of them: those that a program gave, until they are used, or those that it is owed, until it takes them.
+/// Bytes in order, at most `ROOM` of them: those that a program gave, until they are used, or those that it is owed, until it
+/// takes them.
 #[derive(Drop)]
 pub struct Queue<const ROOM: usize> {
     bytes: Vec<u8>,

@@ -1,4 +1,4 @@
-// A program of the system, which tells no acts.
+// A program of the system. Its acts are not observable.
 ghost use Rattle.std.specs.Prelude.{◌≡◌, ◌≢◌, ◌≤◌, ◌<◌, ◌+◌, ◌&&◌, true, false, is_some, length, IfOk, IsTrue, IsFalse, IsSome};
 ghost use Rattle.std.specs.declared.option.Option.TheVariants.{None, Some};
 ghost use Rattle.arrayvec.specs.ArrayVec.{array_vec_len};
@@ -23,19 +23,19 @@ use std::process::{OpenProcess, Processes};
 /// How many programs that were ended are looked after at once.
 const MOST_ENDING: usize = 8;
 
-/// Starts a program, whose name is looked up in `PATH`, over sockets that do not block: one to its standard input, one from its standard
-/// output, or both. Its standard error is that of this program.
+/// Starts a program, whose name is looked up in `PATH`, over sockets that do not block: one to its standard input, one from its
+/// standard output, or both. Its standard error is that of this program.
 ///
-/// A take or give makes one call of the system, and at most 1000 more where it is interrupted. An error is told as an end. A program that
-/// was ended has its sockets closed. Where eight of those that were ended have not yet, a start fails, and so does one while the program
-/// runs. Where this is dropped the programs are left, and the sockets are closed.
+/// A take or give makes one call of the system, and at most 1000 more where it is interrupted. An error is told as an end. A
+/// program that was ended has its sockets closed. Where eight of those that were ended have not yet, a start fails, and so does
+/// one while the program runs. Where this is dropped the programs are left, and the sockets are closed.
 #[derive(Drop)]
 pub struct SocketProgram<R: Processes + Net + Drop> {
     rt: R,
     ways: Ways,
     input_bytes: u32,
     running: Option<Running<R::Started>>,
-    // those that were ended, in this order
+    // those that were told to end, in this order
     ending: Vec<Ending<R::Started>>,
     reason: Option<Reason>,
     ended: Option<i32>,
@@ -57,14 +57,14 @@ impl<R: Processes + Net + Drop> Model for SocketProgram<R> {
       ended = a.ended;
     } };
 
-    // there is room for the program that runs among those that were ended
+    // there is room for the program that runs among those that were told to end
     ghost invariant = { λ a. (8 ≤ vec_capacity a.ending) × (vec_len a.ending ≤ 8) × (IsTrue (is_some a.running) → vec_len a.ending < 8) × IfSome a.running (λ ways. ways ≡ a.ways) };
 }
 
 impl<R: Processes + Net + Drop> SocketProgram<R> {
-    /// A program that was not started, of this runtime. Bytes go these ways. The buffer of the socket to its standard input has about so
-    /// many bytes, as the system rounds them: Linux has at least 2,304, and small pieces take more of it than they have bytes. A
-    /// program that is not given bytes has none. It asks nothing of the system.
+    /// A program that was not started, of this runtime. Bytes go these ways. The buffer of the socket to its standard input has
+    /// about so many bytes, as the system rounds them: Linux has at least 2,304, and small pieces take more of it than they have
+    /// bytes. A program that is not given bytes has none. It asks nothing of the system.
     pub fn new(
         alloc: Global,
         rt: R,
@@ -91,8 +91,8 @@ impl<R: Processes + Net + Drop> SocketProgram<R> {
         self.reason
     }
 
-    /// The status of the program that was ended last, if it has ended and that was seen: as a shell tells it, so 128 and the signal where
-    /// a signal ended it.
+    /// The status of the program that was ended last, if it has ended and that was seen: as a shell tells it, so 128 and the
+    /// signal where a signal ended it.
     pub fn ended(&self) -> Option<i32>
         ensures { result ≡ self.now.ended }
     {

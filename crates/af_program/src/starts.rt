@@ -10,8 +10,8 @@ const LONGEST_WAIT: u64 = 60_000_000_000;
 /// A program that lived for less than this makes the next wait longer.
 const SHORT_LIFE: u64 = 10_000_000_000;
 
-/// How many starts there may be beyond the first; how many were tried; the wait after the latest that has ended; and the moment from which
-/// on the next may come, if there is one. Moments and waits are in nanoseconds.
+/// How many starts there may be beyond the first; how many were tried; the wait after the latest that has ended; and the moment
+/// from which on the next may come, if there is one. Moments and waits are in nanoseconds.
 #[derive(Clone, Copy)]
 pub struct Starts {
     pub restarts: u32,
@@ -75,7 +75,8 @@ impl Starts {
         self.tried += 1;
     }
 
-    /// The program that was started at a moment has ended at another. Where the wait after that goes past 2^64 - 1, no start is left.
+    /// The program that was started at a moment has ended at another. Where the wait after that goes past 2^64 - 1, no start is
+    /// left.
     pub fn end(&mut self, began: u64, ended: u64)
         requires { self.old.wait ≤ longest_wait }
         ensures ended { self.new ≡ after_end self.old began ended }

@@ -20,8 +20,8 @@ abbrev pub start_time : ℕ
 start_time = 4294960000
 
 -- the one device: `lin16 8000 4294960000 line`
-abbrev pub exercised : List DeviceSpec
-exercised = record { ty = Lin16; rate = 8000; start = start_time; channels = 1; line = true } ∷ []
+abbrev pub exercised_devices : List DeviceSpec
+exercised_devices = record { ty = Lin16; rate = 8000; start = start_time; channels = 1; line = true } ∷ []
 
 -- the links
 abbrev pub links : List ℕ
@@ -42,11 +42,11 @@ unfoldable pub first_steps : List Step
 first_steps = map step.Open links ++ map (λ link. step.Send link (greeting link)) links
 
 -- the same bytes n times
-abbrev pub repeated : ℕ → List ℕ → List ℕ
-repeated zero bytes = []
-repeated (suc n) bytes = bytes ++ repeated n bytes
+abbrev pub copies_of : ℕ → List ℕ → List ℕ
+copies_of zero bytes = []
+copies_of (suc n) bytes = bytes ++ copies_of n bytes
 
--- a device time n frames before another, and then so many on
+-- a device time so many frames after the one that is n frames before another
 abbrev pub time_about : ℕ → ℕ → ℕ → ℕ
 time_about time before on = ((time + (2 ^ 32 - before)) % 2 ^ 32 + on) % 2 ^ 32
 
@@ -56,7 +56,7 @@ tick_frames y = 1 + y % 512
 
 -- a tick of 1 to 512 frames, in which each captured sample has the same pattern
 unfoldable pub tick_drawn : ℕ → Step
-tick_drawn y = step.Tick 0 (tick_frames y) (Some (repeated (tick_frames y) (to_be_bytes w16 (y / 512 % 65536))))
+tick_drawn y = step.Tick 0 (tick_frames y) (Some (copies_of (tick_frames y) (to_be_bytes w16 (y / 512 % 65536))))
 
 -- the bytes of a sample between -10000 and 10000
 abbrev pub sample_bytes : ℕ → List ℕ
@@ -64,9 +64,9 @@ sample_bytes y = to_be_bytes w16 (cast_unsigned w16 (pos (y % 20001) -ℤ pos 10
 
 -- a Play with a reply, of 100 equal samples, that begins 2000 frames before the device's time or up to 35999 frames later
 unfoldable pub play_drawn : ℕ → ℕ → Asked
-play_drawn y time = play_run false 1 (time_about time 2000 (y % 36000)) (repeated 100 (sample_bytes y))
+play_drawn y time = play_run false 1 (time_about time 2000 (y % 36000)) (copies_of 100 (sample_bytes y))
 
--- a Record of 50 frames that waits for them, and begins 1000 frames before the device's time or up to 1999 frames later
+-- a Record of 50 frames that blocks, and begins 1000 frames before the device's time or up to 1999 frames later
 unfoldable pub record_drawn : ℕ → ℕ → Asked
 record_drawn y time = record_run true 1 (time_about time 1000 (y % 2000)) 100
 
@@ -92,7 +92,7 @@ step_chosen choice link y time =
     else if choice == 6 then digit_drawn y
     else room_drawn link y
 
--- the step of a turn at a device time: x says which link it is of and which step, y what it has
+-- the step of a turn at a device time: x gives its kind and its link, and y its values
 unfoldable pub turn_step : ℕ → ℕ → ℕ → Step
 turn_step x y time = step_chosen (x / 4 % 8) (x % 4) y time
 
@@ -102,27 +102,27 @@ frames_ticked (step.Tick device frames captured) = frames
 frames_ticked _ = 0
 
 -- the word that a generator draws
-unfoldable pub drawn : Lcg → ℕ
-drawn g = (pcg32 g).0
+unfoldable pub drawn_word : Lcg → ℕ
+drawn_word g = (pcg32 g).0
 
--- the generator behind a draw
-unfoldable pub moved_on : Lcg → Lcg
-moved_on g = (pcg32 g).1
+-- the generator after a draw
+unfoldable pub generator_after : Lcg → Lcg
+generator_after g = (pcg32 g).1
 
 -- the generator of a seed
-unfoldable pub seeded : ℕ → Lcg
-seeded seed = pcg32_of_seed (pcg32_seed 16 seed)
+unfoldable pub seeded_generator : ℕ → Lcg
+seeded_generator seed = pcg32_of_seed (pcg32_seed 16 seed)
 
 -- the step that a generator draws at a device time: first x, and then y
 abbrev pub step_drawn : Lcg → ℕ → Step
-step_drawn g time = turn_step (drawn g) (drawn (moved_on g)) time
+step_drawn g time = turn_step (drawn_word g) (drawn_word (generator_after g)) time
 
 -- n steps that a generator draws, from a device time on
 abbrev pub steps_drawn : ℕ → Lcg → ℕ → List Step
 steps_drawn zero g time = []
 steps_drawn (suc turns) g time =
-    step_drawn g time ∷ steps_drawn turns (moved_on (moved_on g)) ((time + frames_ticked (step_drawn g time)) % 2 ^ 32)
+    step_drawn g time ∷ steps_drawn turns (generator_after (generator_after g)) ((time + frames_ticked (step_drawn g time)) % 2 ^ 32)
 
 -- the script of a seed and n turns
-unfoldable pub generated : ℕ → ℕ → StatedScript
-generated seed turns = record { config = exercised; steps = first_steps ++ steps_drawn turns (seeded seed) start_time }
+unfoldable pub generated_script : ℕ → ℕ → StatedScript
+generated_script seed turns = record { config = exercised_devices; steps = first_steps ++ steps_drawn turns (seeded_generator seed) start_time }

@@ -1,4 +1,4 @@
-// The script of an exercise is made of the words that a generator draws.
+// The script of an exercise, made of the numbers that a generator draws.
 ghost use Rattle.std.specs.Prelude.{◌≡◌, ◌≤◌, ◌<◌, ◌*◌, ◌++◌, ℕ, length, All, IfOk, OnOk};
 ghost use Rattle.af_limits.specs.Limits.{most_devices, longest_frame, longest_play};
 ghost use Rattle.af_sample.specs.Channels.{IsChannelCount};
@@ -7,7 +7,7 @@ ghost use Rattle.af_request.specs.Asked.{request_meaning};
 ghost use Rattle.af_request.specs.Requests.{request_bytes, FitsFrame};
 ghost use Rattle.af_wire.specs.declared.order.Order.TheVariants.{Big};
 ghost use Rattle.af_world.specs.Outside.{IsStep};
-ghost use Rattle.af_random.specs.Exercise.{generated, exercised, first_steps, greeting, repeated, preempts, seeded, steps_drawn, start_time, sample_bytes, drawn, moved_on, turn_step, tick_drawn, play_drawn, record_drawn, sends, digit_drawn, room_drawn, frames_ticked};
+ghost use Rattle.af_random.specs.Exercise.{generated_script, exercised_devices, first_steps, greeting, copies_of, preempts, seeded_generator, steps_drawn, start_time, sample_bytes, drawn_word, generator_after, turn_step, tick_drawn, play_drawn, record_drawn, sends, digit_drawn, room_drawn, frames_ticked};
 
 use af_io::Bytes;
 use af_limits::LONGEST_FRAME;
@@ -30,11 +30,11 @@ const START_TIME: u32 = 4294960000;
 /// The links of an exercise.
 const LINKS: [u8; 4] = [0, 1, 2, 3];
 
-/// Makes the script of an exercise: four links that greet, and then a step for each of n turns, 1 to 10000, each of
-/// which is drawn by a generator of this seed.
+/// Makes the script of an exercise: four links that greet, and then a step for each of n turns, 1 to 10000. A generator of this
+/// seed draws each step.
 pub fn make_script(alloc: Global, seed: u64, turns: u32) -> Result<Script, OutOfMemory>
     requires { (1 ≤ turns) × (turns ≤ 10000) }
-    ensures script { IfOk result (λ s. generated seed turns ≡ record { config = s.config.items; steps = s.steps }) }
+    ensures script { IfOk result (λ s. generated_script seed turns ≡ record { config = s.config.items; steps = s.steps }) }
     ensures devices { IfOk result (λ s. (1 ≤ length s.config.items) × (length s.config.items ≤ most_devices)) }
     ensures rates { IfOk result (λ s. All (λ device. IsListedRate device.rate) s.config.items) }
     ensures channels { IfOk result (λ s. All (λ device. IsChannelCount device.channels) s.config.items) }
@@ -56,8 +56,8 @@ fn all_steps(
     room: &mut [u8],
 ) -> Result<Vec<Step>, OutOfMemory>
     requires { longest_frame ≤ length room.old }
-    ensures value { IfOk result (λ steps. steps.items ≡ first_steps ++ steps_drawn turns (seeded seed) start_time) }
-    ensures fits { IfOk result (λ steps. All (IsStep exercised) steps.items) }
+    ensures value { IfOk result (λ steps. steps.items ≡ first_steps ++ steps_drawn turns (seeded_generator seed) start_time) }
+    ensures fits { IfOk result (λ steps. All (IsStep exercised_devices) steps.items) }
 {
     let mut steps = greetings(alloc, room)?;
     let mut generator = seeded(seed);
@@ -73,25 +73,25 @@ fn all_steps(
 }
 
 /// The generator of a seed.
-#[tactic(auto, unfolding(crate::specs::Exercise::seeded))]
+#[tactic(auto, unfolding(crate::specs::Exercise::seeded_generator))]
 fn seeded(seed: u64) -> Pcg32
-    ensures { result ≡ seeded seed }
+    ensures { result ≡ seeded_generator seed }
 {
     Pcg32::seed_from_u64(seed)
 }
 
 /// The next word that a generator draws.
-#[tactic(auto, unfolding(crate::specs::Exercise::drawn, crate::specs::Exercise::moved_on))]
+#[tactic(auto, unfolding(crate::specs::Exercise::drawn_word, crate::specs::Exercise::generator_after))]
 fn draw(generator: &mut Pcg32) -> u32
-    ensures value { result ≡ drawn generator.old }
-    ensures behind { generator.new ≡ moved_on generator.old }
+    ensures value { result ≡ drawn_word generator.old }
+    ensures behind { generator.new ≡ generator_after generator.old }
 {
     generator.next_word()
 }
 
 /// The one device of an exercise.
 fn device() -> Config
-    ensures { result.items ≡ exercised }
+    ensures { result.items ≡ exercised_devices }
 {
     let mut config = ArrayVec::new();
     config.push(DeviceSpec {
@@ -179,7 +179,7 @@ fn step_of_turn(
 ) -> Result<Step, OutOfMemory>
     requires { longest_frame ≤ length room.old }
     ensures value { IfOk result (λ s. s ≡ turn_step x y time.0) }
-    ensures fits { IfOk result (λ s. IsStep exercised s) }
+    ensures fits { IfOk result (λ s. IsStep exercised_devices s) }
 {
     let link = (x % 4) as u8;
     match x / 4 % 8 {
@@ -199,7 +199,7 @@ fn step_of_turn(
 #[tactic(auto, unfolding(crate::specs::Exercise::tick_drawn))]
 fn tick(alloc: Global, y: u32) -> Result<Step, OutOfMemory>
     ensures value { IfOk result (λ s. s ≡ tick_drawn y) }
-    ensures fits { IfOk result (λ s. IsStep exercised s) }
+    ensures fits { IfOk result (λ s. IsStep exercised_devices s) }
 {
     let frames = 1 + y % 512;
     let pattern = (y / 512 % 65536) as u16;
@@ -210,7 +210,7 @@ fn tick(alloc: Global, y: u32) -> Result<Step, OutOfMemory>
 /// A Play of 100 equal samples, from 2000 frames before the device's time on.
 #[tactic(auto, unfolding(crate::specs::Exercise::play_drawn))]
 fn play(y: u32, time: DevTime, samples: &[u8]) -> Request<'_>
-    requires samples { samples.now ≡ repeated 100 (sample_bytes y) }
+    requires samples { samples.now ≡ copies_of 100 (sample_bytes y) }
     requires few { length samples.now ≤ longest_play }
     ensures value { request_meaning result ≡ play_drawn y time.0 }
     ensures fits { FitsFrame (request_meaning result) }
@@ -223,7 +223,7 @@ fn play(y: u32, time: DevTime, samples: &[u8]) -> Request<'_>
     }
 }
 
-/// The bytes of the sample of a Play, which lies between -10000 and 10000.
+/// The bytes of the sample of a Play, from -10000 to 10000.
 fn sample_bytes(y: u32) -> [u8; 2]
     ensures { result ≡ sample_bytes y }
 {
@@ -249,7 +249,7 @@ fn record(y: u32, time: DevTime) -> Request<'static>
 #[tactic(auto, unfolding(crate::specs::Exercise::digit_drawn))]
 fn digit(y: u32) -> Step
     ensures value { result ≡ digit_drawn y }
-    ensures fits { IsStep exercised result }
+    ensures fits { IsStep exercised_devices result }
 {
     Step::Line(0, LineChange::Digit(b'0' + (y % 10) as u8))
 }
@@ -259,7 +259,7 @@ fn digit(y: u32) -> Step
 fn make_room(link: u8, y: u32) -> Step
     requires { link < 4 }
     ensures value { result ≡ room_drawn link y }
-    ensures fits { IsStep exercised result }
+    ensures fits { IsStep exercised_devices result }
 {
     if y % 16 == 0 {
         Step::Room(link, Some(100))
@@ -279,7 +279,7 @@ fn send(
     requires room { longest_frame ≤ length room.old }
     requires link { link < 4 }
     ensures value { IfOk result (λ s. s ≡ sends link (request_meaning request.now)) }
-    ensures fits { IfOk result (λ s. IsStep exercised s) }
+    ensures fits { IfOk result (λ s. IsStep exercised_devices s) }
 {
     let length = write_request(Order::Big, request, room);
     Ok(Step::Send(link, Bytes::copied(alloc, &room[..length])?))
@@ -287,7 +287,7 @@ fn send(
 
 /// The same two bytes n times.
 fn repeated(alloc: Global, count: u32, pattern: [u8; 2]) -> Result<Vec<u8>, OutOfMemory>
-    ensures value { IfOk result (λ bytes. bytes.items ≡ repeated count pattern) }
+    ensures value { IfOk result (λ bytes. bytes.items ≡ copies_of count pattern) }
     ensures size { IfOk result (λ bytes. length bytes.items ≡ count * 2) }
 {
     let mut bytes = Vec::new(alloc);

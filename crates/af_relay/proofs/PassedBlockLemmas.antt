@@ -1,67 +1,20 @@
--- Blocks that are passed, one behind the other.
-use Rattle.std.proofs.Common.{◌≡◌, ℕ, false, zero, suc, ◌-◌, ◌<◌, List, ◌++◌, ap, ◌∙◌, subst, refl, arith}
-use Rattle.std.specs.Prelude.{Result, Ok}
+-- Blocks that are passed, one after the other.
+use Rattle.std.proofs.Common.{◌≡◌, ℕ, false, zero, suc, ◌-◌, ◌<◌, List, ap, ◌∙◌, subst, refl, arith}
+use Rattle.std.specs.Prelude.{Result}
 use Rattle.std.specs.declared.option.Option.{Option}
-use Rattle.std.specs.declared.option.Option.TheVariants.{None, Some}
+use Rattle.std.specs.declared.option.Option.TheVariants.{None}
 use Rattle.af_time.specs.declared.DevTime.{DevTime}
 use Rattle.af_sample.specs.declared.sample_type.SampleType.{SampleType}
 use Rattle.af_sample.specs.SampleTypes.{frame_bytes}
-use Rattle.af_io.specs.Observed.{Appended}
 use Rattle.af_request.specs.Asked.{free_ac, get_time, play_run}
 use Rattle.af_lib.specs.Calls.{as_done, as_time, Recorded}
-use Rattle.af_tool.specs.declared.end.ToolEnd.{ToolEnd}
+use Rattle.af_toolkit.specs.declared.end.ToolEnd.{ToolEnd}
 use Rattle.af_cli.specs.declared.job.PassJob.{PassJob}
 use Rattle.af_relay.specs.declared.pass.RelayPace.{RelayPace}
 use Rattle.af_relay.specs.declared.pass.RelayProgress.{RelayProgress}
-use Rattle.af_tool.specs.Trace.{ClientState}
+use Rattle.af_toolkit.specs.Trace.{ClientState}
 use Rattle.af_relay.specs.RelayParts.{RelayPart, ObservedRelayPart}
 use Rattle.af_relay.specs.Pass.{RelayTrace, as_word, asks_from, asks_to, begins_both, ends_contexts, after_block, passes, passes_block, moment_of, pace_of, to_context}
-use Rattle.af_io.proofs.AppendedLemmas.{appended_on}
-use Rattle.af_relay.proofs.RelayPartLemmas.{both_behind_came, doing_both, doing_both_twice}
-
--- a part of a relay has come to another, which is what is left of it
-pub record ReachesBoth {X : Type 0} (part : RelayPart X) (now : ClientState → ClientState → RelayPart X)
-    (left_from : Option (List ℕ)) (wire_from : List ℕ → ClientState) (from from' : Option (List ℕ))
-    (left_to : Option (List ℕ)) (wire_to : List ℕ → ClientState) (to to' : Option (List ℕ)) : Type 0 where
-  pub v : List ℕ
-  pub w : List ℕ
-  pub told_from : left_from ≡ Some v
-  pub told_to : left_to ≡ Some w
-  pub sends_from : List ℕ
-  pub sends_to : List ℕ
-  pub goes : (next : X → ClientState → ClientState → RelayTrace) → part next ≡ doing_both sends_from sends_to (now (wire_from v) (wire_to w) next)
-  pub link_from : Appended from sends_from from'
-  pub link_to : Appended to sends_to to'
-
-module _ {X : Type 0} {part : RelayPart X} {now : ClientState → ClientState → RelayPart X} {lf : Option (List ℕ)} {wf : List ℕ → ClientState} {s s' : Option (List ℕ)} {lt : Option (List ℕ)} {wt : List ℕ → ClientState} {t t' : Option (List ℕ)} (r : ReachesBoth part now lf wf s s' lt wt t t') where
-  -- what is left comes to an end
-  pub reached_both : (result : Result X ToolEnd) {lf' : Option (List ℕ)} {wf' : List ℕ → ClientState} {s'' : Option (List ℕ)} {lt' : Option (List ℕ)} {wt' : List ℕ → ClientState} {t'' : Option (List ℕ)} →
-      ObservedRelayPart (now (wf r.v) (wt r.w)) result lf' wf' s' s'' lt' wt' t' t'' → ObservedRelayPart part result lf' wf' s s'' lt' wt' t t''
-  reached_both result {lf'} {wf'} {s''} {lt'} {wt'} {t''} g = record {
-    sends_from = r.sends_from ++ g.sends_from;
-    sends_to = r.sends_to ++ g.sends_to;
-    came = both_behind_came part (now (wf r.v) (wt r.w)) result lf' wf' lt' wt' r.sends_from r.sends_to g.sends_from g.sends_to r.goes g.came;
-    link_from = appended_on s s' s'' r.sends_from g.sends_from r.link_from g.link_from;
-    link_to = appended_on t t' t'' r.sends_to g.sends_to r.link_to g.link_to;
-  }
-
-  -- a step more: what is left begins with a part that came to a value
-  pub reaches_both_on : {Y : Type 0} (first : RelayPart Y) (second : Y → ClientState → ClientState → RelayPart X) (y : Y) {lf' : Option (List ℕ)} {wf' : List ℕ → ClientState} {s'' : Option (List ℕ)} {lt' : Option (List ℕ)} {wt' : List ℕ → ClientState} {t'' : Option (List ℕ)} →
-      ((next : X → ClientState → ClientState → RelayTrace) → now (wf r.v) (wt r.w) next ≡ first (λ y v w. second y v w next)) → ObservedRelayPart first (Ok y) lf' wf' s' s'' lt' wt' t' t'' →
-      ReachesBoth part (second y) lf' wf' s s'' lt' wt' t t''
-  reaches_both_on first second y {wf'} {s''} {wt'} {t''} is g = record {
-    v = g.came.0;
-    w = g.came.1;
-    told_from = g.came.2;
-    told_to = g.came.3;
-    sends_from = r.sends_from ++ g.sends_from;
-    sends_to = r.sends_to ++ g.sends_to;
-    goes = λ next.
-        r.goes next ∙ ap (doing_both r.sends_from r.sends_to) (is next ∙ g.came.4 (λ y v w. second y v w next))
-        ∙ doing_both_twice r.sends_from r.sends_to g.sends_from g.sends_to (second y (wf' g.came.0) (wt' g.came.1) next);
-    link_from = appended_on s s' s'' r.sends_from g.sends_from r.link_from g.link_from;
-    link_to = appended_on t t' t'' r.sends_to g.sends_to r.link_to g.link_to;
-  }
 
 -- what is left of passing n blocks
 abbrev pub left_to_pass : ℕ → PassJob → RelayPace → RelayProgress → ClientState → ClientState → RelayPart RelayProgress
@@ -80,7 +33,7 @@ pub passes_next : (n : ℕ) (job : PassJob) (pace : RelayPace) (passed : RelayPr
 passes_next zero job pace passed v w next some = absurd (omega (arith, some))
 passes_next (suc n) job pace passed v w next some = let less : suc n - 1 ≡ n = omega arith in rw less (passes_some n job pace passed v w next)
 
--- behind the recorded samples, and behind the other server's time
+-- what follows the recorded samples, and the other server's time
 abbrev pub behind_time : PassJob → RelayPace → RelayProgress → Recorded → DevTime → ClientState → ClientState → RelayPart RelayProgress
 behind_time job pace passed r now v w = λ next.
     let place = moment_of passed.due now pace.delay pace.slack in
@@ -89,7 +42,7 @@ behind_time job pace passed r now v w = λ next.
 abbrev pub behind_record : PassJob → RelayPace → RelayProgress → Recorded → ClientState → ClientState → RelayPart RelayProgress
 behind_record job pace passed r v w = λ next. asks_to (get_time job.to_device) as_word w (λ now w. behind_time job pace passed r now v w next)
 
--- the second context, and behind it
+-- the second context, and what follows it
 abbrev pub behind_first : PassJob → SampleType → (channels : ℕ) → ClientState → ClientState → RelayPart DevTime
 behind_first job ty channels v w = λ next. asks_to (to_context job ty channels) as_done w (λ _ w. asks_from (get_time job.from_device) as_time v (λ now v. next now v w))
 
@@ -113,7 +66,7 @@ pace_named job rate channels is bytes same = is ∙ ap (λ n. pace_of job n rate
 abbrev pub behind_freed : ClientState → ClientState → RelayPart (Unit {0})
 behind_freed v w = λ next. asks_to (free_ac 1) as_done w (λ _ w. next tt v w)
 
--- all blocks are passed, and behind them
+-- all blocks are passed, and what follows them
 abbrev pub behind_passed : RelayProgress → ClientState → ClientState → RelayPart ℕ
 behind_passed passed v w = λ next. ends_contexts v w (λ _ v w. next passed.resynced v w)
 

@@ -19,18 +19,18 @@ use Rattle.af_request.specs.Replies.{IsDeviceInfo}
 use Rattle.af_request.proofs.ReplyRoundTrips.{rate_below}
 use Rattle.af_lib.specs.declared.fault.ConnFault.{ConnFault}
 use Rattle.af_lib.specs.Calls.{as_done, as_recorded, as_time, Recorded}
-use Rattle.af_tool.specs.declared.end.ToolEnd.{ToolEnd}
-use Rattle.af_tool.specs.declared.end.ToolEnd.TheVariants as end
+use Rattle.af_toolkit.specs.declared.end.ToolEnd.{ToolEnd}
+use Rattle.af_toolkit.specs.declared.end.ToolEnd.TheVariants as end
 use Rattle.af_cli.specs.declared.job.PassJob.{PassJob}
 use Rattle.af_relay.specs.RelayParts.{ObservedRelayTrace}
-use Rattle.af_tool.specs.Ends.{is_outer}
+use Rattle.af_toolkit.specs.Ends.{is_outer}
 use Rattle.af_relay.specs.declared.pass.RelayPace.{RelayPace}
 use Rattle.af_relay.specs.declared.pass.RelayProgress.{RelayProgress}
 use Rattle.af_relay.specs.declared.pass.PlayMoment.{PlayMoment}
-use Rattle.af_tool.proofs.ToolEndLemmas.{finish_done}
-use Rattle.af_tool.specs.Trace.{ClientState, answer_on, after_reply, channel_mismatch, done, mismatch}
+use Rattle.af_toolkit.proofs.ToolEndLemmas.{finish_done}
+use Rattle.af_toolkit.specs.Trace.{ClientState, answer_on, after_reply, channel_mismatch, done, mismatch}
 use Rattle.af_cli.specs.Ranges.{IsPaced}
-use Rattle.af_relay.specs.Pass.{RelayTrace, after, apass_trace, as_word, asks_by, asks_from, asks_to, of_one_shape, begins_both, ends_both, ends_contexts, from_context, has_drifted, in_step, none_passed, on_one, passed_between, after_block, passed_text, passes, passes_block, moment_of, relayed_by, sending_from, sending_to, to_context}
+use Rattle.af_relay.specs.Pass.{RelayTrace, time_after, apass_trace, as_word, asks_by, asks_from, asks_to, of_one_shape, begins_both, ends_both, ends_contexts, from_context, has_drifted, in_step, no_progress, on_one, passed_between, after_block, passed_text, passes, passes_block, moment_of, relay_after_answer, sends_first_from, sends_first_to, to_context}
 use Rattle.af_relay.specs.Relayed.{AreTold, IsRelayed, PassedBlock, Relayed, is_moved, is_same_time, moves, pace_from, play_requests, record_replies, record_requests, reply_then, samples_of, type_from}
 use Rattle.af_relay.specs.Pair.{pair_of}
 use Rattle.af_relay.specs.Results.{ApassRan}
@@ -43,19 +43,19 @@ pub record WasAnswered {X : Type 0} (sending : List ℕ → RelayTrace → Relay
   pub good : r ≡ Ok value
   pub is : relay ≡ sending bytes (next value w)
 
-pub answered_from : {X : Type 0} (bytes : List ℕ) (r : Result X ConnFault) (w : ClientState) (next : X → ClientState → RelayTrace) → (sending_from bytes (relayed_by r w next)).finish ≡ done → WasAnswered sending_from bytes r w next (sending_from bytes (relayed_by r w next))
+pub answered_from : {X : Type 0} (bytes : List ℕ) (r : Result X ConnFault) (w : ClientState) (next : X → ClientState → RelayTrace) → (sends_first_from bytes (relay_after_answer r w next)).finish ≡ done → WasAnswered sends_first_from bytes r w next (sends_first_from bytes (relay_after_answer r w next))
 answered_from bytes (Ok x) w next is = record { value = x; good = refl; is = refl }
 answered_from bytes (Err fault) w next is = cc
 
-pub answered_to : {X : Type 0} (bytes : List ℕ) (r : Result X ConnFault) (w : ClientState) (next : X → ClientState → RelayTrace) → (sending_to bytes (relayed_by r w next)).finish ≡ done → WasAnswered sending_to bytes r w next (sending_to bytes (relayed_by r w next))
+pub answered_to : {X : Type 0} (bytes : List ℕ) (r : Result X ConnFault) (w : ClientState) (next : X → ClientState → RelayTrace) → (sends_first_to bytes (relay_after_answer r w next)).finish ≡ done → WasAnswered sends_first_to bytes r w next (sends_first_to bytes (relay_after_answer r w next))
 answered_to bytes (Ok x) w next is = record { value = x; good = refl; is = refl }
 answered_to bytes (Err fault) w next is = cc
 
-done_from : {X : Type 0} (asked : Asked) (value_of : Answer → Option X) (w : ClientState) (next : X → ClientState → RelayTrace) → (asks_from asked value_of w next).finish ≡ done → WasAnswered sending_from (request_bytes w.order asked) (answer_on asked value_of w) (after_reply w) next (asks_from asked value_of w next)
+done_from : {X : Type 0} (asked : Asked) (value_of : Answer → Option X) (w : ClientState) (next : X → ClientState → RelayTrace) → (asks_from asked value_of w next).finish ≡ done → WasAnswered sends_first_from (request_bytes w.order asked) (answer_on asked value_of w) (after_reply w) next (asks_from asked value_of w next)
 unfolding asks_by
 done_from asked value_of w next is = answered_from (request_bytes w.order asked) (answer_on asked value_of w) (after_reply w) next is
 
-done_to : {X : Type 0} (asked : Asked) (value_of : Answer → Option X) (w : ClientState) (next : X → ClientState → RelayTrace) → (asks_to asked value_of w next).finish ≡ done → WasAnswered sending_to (request_bytes w.order asked) (answer_on asked value_of w) (after_reply w) next (asks_to asked value_of w next)
+done_to : {X : Type 0} (asked : Asked) (value_of : Answer → Option X) (w : ClientState) (next : X → ClientState → RelayTrace) → (asks_to asked value_of w next).finish ≡ done → WasAnswered sends_first_to (request_bytes w.order asked) (answer_on asked value_of w) (after_reply w) next (asks_to asked value_of w next)
 unfolding asks_by
 done_to asked value_of w next is = answered_to (request_bytes w.order asked) (answer_on asked value_of w) (after_reply w) next is
 
@@ -79,8 +79,8 @@ signed_small n small =
 no_distance : (n : ℕ) → unsigned_abs (pos n -ℤ pos n) ≡ 0
 no_distance n = omega (arith, ints)
 
--- what was due in step has not drifted
-in_step_holds : (due now : DevTime) (delay slack : ℕ) → now.0 < 2 ^ 32 → delay < 2 ^ 31 → (after now delay).0 % 2 ^ 32 ≡ due.0 % 2 ^ 32 → has_drifted due now delay slack ≡ false
+-- a block that was due in step has not drifted
+in_step_holds : (due now : DevTime) (delay slack : ℕ) → now.0 < 2 ^ 32 → delay < 2 ^ 31 → (time_after now delay).0 % 2 ^ 32 ≡ due.0 % 2 ^ 32 → has_drifted due now delay slack ≡ false
 in_step_holds due now delay slack word small same =
     let difference : word_difference due.0 now.0 ≡ pos delay = ap (cast_signed w32) (ahead_of due.0 now.0 delay word small same) ∙ signed_small delay small in
     let none : nat_lt slack 0 ≡ false = grind (arith, nat_tests) in
@@ -92,11 +92,11 @@ eq_same n = grind (arith, nat_tests)
 eq_not : (m n : ℕ) → (m ≡ n → ⊥) → (m == n) ≡ false
 eq_not m n apart = grind (arith, nat_tests, apart)
 
--- a place that was found again is another than the one that was due
+-- a place that was found again differs from the one that was due
 moved_by : (b : Bool) (due now : DevTime) (delay slack : ℕ) → has_drifted due now delay slack ≡ b → now.0 < 2 ^ 32 → delay < 2 ^ 31 →
     (let place : PlayMoment = if b then in_step now delay true else record { time = due; resynced = false } in is_moved (Some due) place.time ≡ (if place.resynced then 1 else 0))
 moved_by true due now delay slack drifted word small =
-    let apart : is_same_time (after now delay) due ≡ false = eq_not ((after now delay).0 % 2 ^ 32) (due.0 % 2 ^ 32) (λ same. let bad : true ≡ false = sym drifted ∙ in_step_holds due now delay slack word small same in cc) in
+    let apart : is_same_time (time_after now delay) due ≡ false = eq_not ((time_after now delay).0 % 2 ^ 32) (due.0 % 2 ^ 32) (λ same. let bad : true ≡ false = sym drifted ∙ in_step_holds due now delay slack word small same in cc) in
     ap (λ (b : Bool). if b then 0 else 1) apart
 moved_by false due now delay slack drifted word small = ap (λ (b : Bool). if b then 0 else 1) (eq_same (due.0 % 2 ^ 32))
 
@@ -155,7 +155,7 @@ passes_done (suc n) job pace passed v w next small is =
     let play = request_bytes w.order (play_run false 1 place.time.0 r.samples) in
     let last = (next d.passed' d.v' d.w').to in
     let record_one = request_bytes v.order (record_run true 1 passed.at.0 pace.size) in
-    let others = record_requests v.order n pace (after passed.at pace.frames) in
+    let others = record_requests v.order n pace (time_after passed.at pace.frames) in
     record {
       passed' = d.passed';
       v' = d.v';
@@ -167,7 +167,7 @@ passes_done (suc n) job pace passed v w next small is =
       number = ap suc d.number;
       told = (b.good, d.told);
       bytes = ap (λ (l : List (List ℕ)). r.samples ∷ l) d.bytes
-          ∙ ap (λ (x : Result Recorded ConnFault). reply_then x (record_replies n pace (after passed.at pace.frames) (after_reply v))) (sym a.good);
+          ∙ ap (λ (x : Result Recorded ConnFault). reply_then x (record_replies n pace (time_after passed.at pace.frames) (after_reply v))) (sym a.good);
       sent = ap (λ (x : RelayTrace). x.to) a.is ∙ ap (λ (x : RelayTrace). x.to) b.is ∙ ap (λ (x : RelayTrace). get ++ x.to) c.is ∙ ap (λ (l : List ℕ). get ++ play ++ l) d.sent
           ∙ sym (append_assoc get (play ++ play_requests w.order job d.blocks) last ∙ ap (λ (l : List ℕ). get ++ l) (append_assoc play (play_requests w.order job d.blocks) last));
       wrote = ap (λ (x : RelayTrace). x.output) a.is ∙ ap (λ (x : RelayTrace). x.output) b.is ∙ ap (λ (x : RelayTrace). x.output) c.is ∙ d.wrote;
@@ -175,7 +175,7 @@ passes_done (suc n) job pace passed v w next small is =
           ∙ sym (append_assoc record_one others (next d.passed' d.v' d.w').from);
       count =
           let here = moved_so passed.due now pace.delay pace.slack (told_low (get_time job.to_device) w now b.good) small in
-          d.count ∙ ap (λ (k : ℕ). passed.resynced + k + moves pace.frames (Some (after place.time pace.frames)) d.blocks) (sym here) ∙ omega arith;
+          d.count ∙ ap (λ (k : ℕ). passed.resynced + k + moves pace.frames (Some (time_after place.time pace.frames)) d.blocks) (sym here) ∙ omega arith;
     }
 
 -- the whole of a relay between two devices
@@ -191,7 +191,7 @@ between_done job device v w relay whole small end_is =
     let is_c = ap (λ (x : RelayTrace). x.finish) (sym b.is) ∙ is_b in
     let c = done_from (get_time job.from_device) as_time (after_reply v) _ is_c in
     let is_d = ap (λ (x : RelayTrace). x.finish) (sym c.is) ∙ is_c in
-    let d = passes_done job.blocks job pace (none_passed c.value) (after_reply (after_reply v)) (after_reply w) _ small is_d in
+    let d = passes_done job.blocks job pace (no_progress c.value) (after_reply (after_reply v)) (after_reply w) _ small is_d in
     let e = done_from (free_ac 1) as_done d.v' _ d.finish in
     let is_f = ap (λ (x : RelayTrace). x.finish) (sym e.is) ∙ d.finish in
     let f = done_to (free_ac 1) as_done d.w' _ is_f in

@@ -1,4 +1,4 @@
--- Times that replies tell are words of 32 bits.
+-- Times in replies are words of 32 bits.
 use Rattle.std.proofs.Common.{◌≡◌, ◌<◌, ◌^◌, ℕ, nat_lt, Bool, true, false, List, drop, sym, ap, ◌∙◌, subst, refl, arith, if◌then◌else◌}
 use Rattle.std.proofs.lemmas.Bool.Decides.{nat_tests}
 use Rattle.std.specs.Prelude.{Result, Ok, Err, IfOk, option_and_then}
@@ -11,9 +11,9 @@ use Rattle.af_request.specs.Answer.{Answer}
 use Rattle.af_request.specs.Replies.{answer_in}
 use Rattle.af_lib.specs.declared.fault.ConnFault.{ConnFault}
 use Rattle.af_lib.specs.Answers.{and_then, answer_to, value_or_bad}
-use Rattle.af_lib.specs.Calls.{as_time, following, opcode_of, value_in, Called, ConnState}
+use Rattle.af_lib.specs.Calls.{as_time, next_sequence, opcode_of, value_in, Called, ConnState}
 use Rattle.af_lib.specs.Observed.{BothTold}
-use Rattle.af_tool.specs.Trace.{ClientState, answer_on, next_message}
+use Rattle.af_toolkit.specs.Trace.{ClientState, answer_on, next_message}
 use Rattle.af_relay.specs.Pass.{as_word, word_or_none}
 
 -- an answer that is a word, if it is one
@@ -46,9 +46,9 @@ both_told None (Some a) P Q more told = told
 both_told (Some b) (Some a) P Q more told = more b a told
 
 -- a call that answers a word answers just that
-pub called_word : {L : Type 0} (left sent : L → Option (List ℕ)) (faults : L → ℕ) (asked : Asked) (old new : ConnState L) (result : Result DevTime ConnFault) → IsWord result →
+pub called_word : {L : Type 0} {left sent : L → Option (List ℕ)} {faults : L → ℕ} {asked : Asked} {old new : ConnState L} {result : Result DevTime ConnFault} → IsWord result →
     Called left sent faults asked as_time old new result → Called left sent faults asked as_word old new result
-called_word left sent faults asked old new result word c = record {
+called_word {left} {asked} {old} {new} {result} word c = record {
   spent = c.spent;
   untouched = c.untouched;
   sends = c.sends;
@@ -81,6 +81,6 @@ message_low : (order : Order) (opcode : ℕ) (m : Result (List ℕ) ConnFault) (
 message_low order opcode (Ok bytes) t is = answer_low bytes (answer_in order opcode (drop 8 bytes)) t is
 message_low order opcode (Err f) t is = cc
 
--- a time that was told is a word
+-- a time in a reply is a word
 pub told_low : (asked : Asked) (w : ClientState) (t : DevTime) → answer_on asked as_word w ≡ Ok t → t.0 < 2 ^ 32
-told_low asked w t is = message_low w.order (opcode_of asked) (and_then (answer_to w.order (opcode_of asked) (following w.sequence)) (next_message w).found) t is
+told_low asked w t is = message_low w.order (opcode_of asked) (and_then (answer_to w.order (opcode_of asked) (next_sequence w.sequence)) (next_message w).found) t is

@@ -1,4 +1,4 @@
--- What apass does: block behind block is recorded on one server and played on another.
+-- What apass does: block after block is recorded on one server and played on another.
 use Rattle.std.specs.Prelude.{ℕ, zero, suc, ◌+◌, ◌*◌, ◌%◌, ◌^◌, ◌-ℤ◌, ◌==◌, nat_lt, unsigned_abs}
 use Rattle.std.specs.Prelude.{if◌then◌else◌, pos, Bool, true, false, List, [], ◌++◌, codes, decimal}
 use Rattle.std.specs.Prelude.{length, slice_get, option_and_then, unwrap_or, Result, Ok, Err}
@@ -16,8 +16,8 @@ use Rattle.af_lib.specs.declared.fault.ConnFault.{ConnFault}
 use Rattle.af_lib.specs.Calls.{as_done, as_recorded, as_time}
 use Rattle.af_cli.specs.declared.job.PassJob.{PassJob}
 use Rattle.af_cli.specs.Sizes.{block_frames}
-use Rattle.af_tool.specs.Trace.{Trace, Finish, ClientState, answer_on, after_reply}
-use Rattle.af_tool.specs.Trace.{channel_mismatch, done, mismatch, no_device, refused}
+use Rattle.af_toolkit.specs.Trace.{Trace, Finish, ClientState, answer_on, after_reply}
+use Rattle.af_toolkit.specs.Trace.{channel_mismatch, done, mismatch, no_device, refused}
 use Rattle.af_relay.specs.declared.pass.RelayPace.{RelayPace}
 use Rattle.af_relay.specs.declared.pass.RelayProgress.{RelayProgress}
 use Rattle.af_relay.specs.declared.pass.PlayMoment.{PlayMoment}
@@ -41,34 +41,34 @@ abbrev pub ends_both : Finish → RelayTrace
 ends_both finish = record { from = []; to = []; output = []; finish = finish }
 
 -- these bytes are sent first, on one of the links
-abbrev pub sending_from : List ℕ → RelayTrace → RelayTrace
-sending_from bytes r = record { from = bytes ++ r.from; to = r.to; output = r.output; finish = r.finish }
+abbrev pub sends_first_from : List ℕ → RelayTrace → RelayTrace
+sends_first_from bytes r = record { from = bytes ++ r.from; to = r.to; output = r.output; finish = r.finish }
 
-abbrev pub sending_to : List ℕ → RelayTrace → RelayTrace
-sending_to bytes r = record { from = r.from; to = bytes ++ r.to; output = r.output; finish = r.finish }
+abbrev pub sends_first_to : List ℕ → RelayTrace → RelayTrace
+sends_first_to bytes r = record { from = r.from; to = bytes ++ r.to; output = r.output; finish = r.finish }
 
 -- these bytes are written first
-abbrev pub relay_writing : List ℕ → RelayTrace → RelayTrace
-relay_writing bytes r = record { from = r.from; to = r.to; output = bytes ++ r.output; finish = r.finish }
+abbrev pub relay_writes_first : List ℕ → RelayTrace → RelayTrace
+relay_writes_first bytes r = record { from = r.from; to = r.to; output = bytes ++ r.output; finish = r.finish }
 
 -- what follows an answer: a fault ends the relay
-abbrev pub relayed_by : {X : Type 0} → Result X ConnFault → ClientState → (X → ClientState → RelayTrace) → RelayTrace
-relayed_by (Ok x) w next = next x w
-relayed_by (Err fault) w next = ends_both (refused fault)
+abbrev pub relay_after_answer : {X : Type 0} → Result X ConnFault → ClientState → (X → ClientState → RelayTrace) → RelayTrace
+relay_after_answer (Ok x) w next = next x w
+relay_after_answer (Err fault) w next = ends_both (refused fault)
 
 -- a request is sent on one of the links, and what follows goes by its answer
 unfoldable pub asks_by : {X : Type 0} → (List ℕ → RelayTrace → RelayTrace) → Asked → (Answer → Option X) → ClientState →
     (X → ClientState → RelayTrace) → RelayTrace
 asks_by sending asked value_of w next =
-    sending (request_bytes w.order asked) (relayed_by (answer_on asked value_of w) (after_reply w) next)
+    sending (request_bytes w.order asked) (relay_after_answer (answer_on asked value_of w) (after_reply w) next)
 
 abbrev pub asks_from : {X : Type 0} → Asked → (Answer → Option X) → ClientState → (X → ClientState → RelayTrace) → RelayTrace
-asks_from asked value_of v next = asks_by sending_from asked value_of v next
+asks_from asked value_of v next = asks_by sends_first_from asked value_of v next
 
 abbrev pub asks_to : {X : Type 0} → Asked → (Answer → Option X) → ClientState → (X → ClientState → RelayTrace) → RelayTrace
-asks_to asked value_of w next = asks_by sending_to asked value_of w next
+asks_to asked value_of w next = asks_by sends_first_to asked value_of w next
 
--- the time that a reply tells: a word of 32 bits
+-- the time that a reply states: a word of 32 bits
 abbrev pub word_or_none : DevTime → Option DevTime
 word_or_none now = if nat_lt now.0 (2 ^ 32) then Some now else None
 
@@ -76,29 +76,29 @@ unfoldable pub as_word : Answer → Option DevTime
 as_word answer = option_and_then word_or_none (as_time answer)
 
 -- n frames after a time
-abbrev pub after : DevTime → ℕ → DevTime
-after time frames = record { 0 = (time.0 + frames) % 2 ^ 32 }
+abbrev pub time_after : DevTime → ℕ → DevTime
+time_after time frames = record { 0 = (time.0 + frames) % 2 ^ 32 }
 
--- The next block is due at this time. It is ahead of the other server's time by the delay, or by more or less than that: by more
--- than the slack, and the relay has drifted.
+-- The next block is due at this time. The relay has drifted if that is further than the slack from its place, the delay ahead of
+-- the other server's time.
 abbrev pub has_drifted : (due now : DevTime) (delay slack : ℕ) → Bool
 has_drifted due now delay slack = nat_lt slack (unsigned_abs (word_difference due.0 now.0 -ℤ pos delay))
 
--- in step with the other server: ahead of its time by the delay
+-- in step with the other server: exactly the delay ahead of its time
 abbrev pub in_step : (now : DevTime) → ℕ → Bool → PlayMoment
-in_step now delay resynced = record { time = after now delay; resynced = resynced }
+in_step now delay resynced = record { time = time_after now delay; resynced = resynced }
 
--- when a block is played: the first in step, and each other when it is due, or in step again where the relay has drifted
+-- when a block is played: the first one in step, and each other when it is due, or in step again if the relay has drifted
 abbrev pub moment_of : Option DevTime → (now : DevTime) (delay slack : ℕ) → PlayMoment
 moment_of None now delay slack = in_step now delay false
 moment_of (Some due) now delay slack =
     if has_drifted due now delay slack then in_step now delay true else record { time = due; resynced = false }
 
--- how far a relay has come, when one more block was played at its place
+-- how far a relay has come after one more block was played at its place
 abbrev pub after_block : RelayProgress → PlayMoment → ℕ → RelayProgress
 after_block passed place frames = record {
-  at = after passed.at frames;
-  due = Some (after place.time frames);
+  at = time_after passed.at frames;
+  due = Some (time_after place.time frames);
   resynced = passed.resynced + (if place.resynced then 1 else 0);
 }
 
@@ -125,7 +125,7 @@ from_context job ty channels = create_ac job.from_device 1 (code_of ty) channels
 abbrev pub to_context : PassJob → SampleType → (channels : ℕ) → Asked
 to_context job ty channels = create_ac job.to_device 1 (code_of ty) channels 0 (pos 0) (pos 0)
 
--- both contexts are made, and the time of the device that is recorded is asked
+-- both contexts are made, and the time of the recorded device is asked for
 unfoldable pub begins_both : PassJob → SampleType → (channels_from channels_to : ℕ) → (v w : ClientState) →
     (DevTime → ClientState → ClientState → RelayTrace) → RelayTrace
 begins_both job ty channels_from channels_to v w next =
@@ -137,8 +137,8 @@ begins_both job ty channels_from channels_to v w next =
 unfoldable pub ends_contexts : (v w : ClientState) → (Unit {0} → ClientState → ClientState → RelayTrace) → RelayTrace
 ends_contexts v w next = asks_from (free_ac 1) as_done v (λ _ v. asks_to (free_ac 1) as_done w (λ _ w. next tt v w))
 
--- the pace of a job whose frames have so many bytes, at a rate: the frames and the bytes of a block, and the delay and the slack
--- in frames
+-- the pace of a job, by the bytes of a frame and the rate: the frames and the bytes of a block, and the delay and the slack in
+-- frames
 abbrev pub pace_of : PassJob → (frame rate : ℕ) → RelayPace
 pace_of job frame rate = record {
   frames = block_frames job.block frame;
@@ -148,29 +148,29 @@ pace_of job frame rate = record {
 }
 
 -- nothing was passed so far
-abbrev pub none_passed : DevTime → RelayProgress
-none_passed now = record { at = now; due = None; resynced = 0 }
+abbrev pub no_progress : DevTime → RelayProgress
+no_progress now = record { at = now; due = None; resynced = 0 }
 
--- all blocks of a job are passed between two devices of one rate and as many channels; what follows is told how often the relay
--- fell in step again
+-- all blocks of a job are passed between two devices of one rate and as many channels; what follows gets how often the relay fell
+-- in step again
 unfoldable pub passed_between : PassJob → (from : DeviceInfo) → (v w : ClientState) →
     (ℕ → ClientState → ClientState → RelayTrace) → RelayTrace
 passed_between job device v w next =
     let ty = unwrap_or job.ty device.ty in
     begins_both job ty device.channels device.channels v w (λ now v w.
-    passes job.blocks job (pace_of job (frame_bytes ty device.channels) device.rate) (none_passed now) v w (λ passed v w.
+    passes job.blocks job (pace_of job (frame_bytes ty device.channels) device.rate) (no_progress now) v w (λ passed v w.
     ends_contexts v w (λ _ v w. next passed.resynced v w)))
 
 -- what apass writes
 unfoldable pub passed_text : (blocks resynced : ℕ) → List ℕ
 passed_text blocks resynced = codes "passed " ++ decimal blocks ++ codes " resynced " ++ decimal resynced ++ codes "\n"
 
--- a device that a relay names is to be there
+-- a device that a relay names has to exist
 abbrev pub on_one : Option DeviceInfo → ℕ → (DeviceInfo → RelayTrace) → RelayTrace
 on_one (Some device) devices next = next device
 on_one None devices next = ends_both (no_device devices)
 
--- the two devices are to have one rate, and as many channels
+-- the two devices have to have one rate, and as many channels
 abbrev pub of_one_shape : (from to : DeviceInfo) → RelayTrace → RelayTrace
 of_one_shape from to next =
     if from.rate == to.rate
@@ -184,4 +184,4 @@ apass_trace job from to v w =
     on_one (slice_get from job.from_device) (length from) (λ a.
     on_one (slice_get to job.to_device) (length to) (λ b.
     of_one_shape a b
-    (passed_between job a v w (λ resynced _ _. relay_writing (passed_text job.blocks resynced) (ends_both done)))))
+    (passed_between job a v w (λ resynced _ _. relay_writes_first (passed_text job.blocks resynced) (ends_both done)))))

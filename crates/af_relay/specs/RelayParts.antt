@@ -4,11 +4,11 @@ use Rattle.std.specs.declared.option.Option.{Option}
 use Rattle.std.specs.declared.option.Option.TheVariants.{None, Some}
 use Rattle.af_io.specs.Observed.{Appended, FaultCounted}
 use Rattle.af_lib.specs.Calls.{ConnState}
-use Rattle.af_tool.specs.declared.end.ToolEnd.{ToolEnd}
-use Rattle.af_tool.specs.declared.end.ToolEnd.TheVariants as end
-use Rattle.af_tool.specs.Trace.{ClientState}
-use Rattle.af_tool.specs.Ends.{MatchesTrace, client_of}
-use Rattle.af_relay.specs.Pass.{RelayTrace, on_from, on_to, sending_from, sending_to}
+use Rattle.af_toolkit.specs.declared.end.ToolEnd.{ToolEnd}
+use Rattle.af_toolkit.specs.declared.end.ToolEnd.TheVariants as end
+use Rattle.af_toolkit.specs.Trace.{ClientState}
+use Rattle.af_toolkit.specs.Ends.{MatchesTrace, client_of}
+use Rattle.af_relay.specs.Pass.{RelayTrace, on_from, on_to, sends_first_from, sends_first_to}
 
 -- A part of a relay is a relay with what follows it left open.
 abbrev pub RelayPart : Type 0 → Type 0
@@ -25,7 +25,7 @@ abbrev pub RelayPartMatches : {X : Type 0} → RelayPart X → Result X ToolEnd 
 RelayPartMatches {X} part (Ok x) left_from wire_from left_to wire_to sends_from sends_to =
     (v w : List ℕ) × (left_from ≡ Some v) × (left_to ≡ Some w)
     × ((next : X → ClientState → ClientState → RelayTrace) →
-    part next ≡ sending_from sends_from (sending_to sends_to (next x (wire_from v) (wire_to w))))
+    part next ≡ sends_first_from sends_from (sends_first_to sends_to (next x (wire_from v) (wire_to w))))
 RelayPartMatches {X} part (Err how) left_from wire_from left_to wire_to sends_from sends_to =
     (next : X → ClientState → ClientState → RelayTrace) → MatchesRelayTrace (part next) how sends_from sends_to
 
@@ -39,7 +39,7 @@ pub record ObservedRelayPart {X : Type 0} (part : RelayPart X) (result : Result 
   pub link_from : Appended from sends_from from'
   pub link_to : Appended to sends_to to'
 
--- The same over two connections whose links tell what they give: the part begins where the connections stand.
+-- The same over two connections whose links are observable: the part begins where the connections stand.
 abbrev pub ObservedRelayPartOver : {L M X : Type 0} → (left_from sent_from : L → Option (List ℕ)) →
     (left_to sent_to : M → Option (List ℕ)) →
     (from from' : ConnState L) → (to to' : ConnState M) → (ClientState → ClientState → RelayPart X) → Result X ToolEnd → Type 0
@@ -49,12 +49,12 @@ ObservedRelayPartOver left_from sent_from left_to sent_to from from' to to' part
     (sent_from from.link) (sent_from from'.link)
     (left_to to'.link) (client_of to') (sent_to to.link) (sent_to to'.link)
 
--- two counts of faults never fall, and one of them has risen where this failed
+-- two counts of faults never fall, and one of them has risen if this failed
 abbrev pub CountsEither : Type 0 → (before now other other' : ℕ) → Type 0
 CountsEither failed before now other other' =
     (before ≤ now) × (other ≤ other') × (failed → FaultCounted before now ⊎ FaultCounted other other')
 
--- What a part does to its connections, whatever the links tell.
+-- What a part does to its connections, whether or not the links are observable.
 pub record KeepsConnections {L M X : Type 0} (left_from : L → Option (List ℕ)) (faults_from : L → ℕ)
     (left_to : M → Option (List ℕ)) (faults_to : M → ℕ)
     (from from' : ConnState L) (to to' : ConnState M) (result : Result X ToolEnd) : Type 0 where
@@ -67,7 +67,7 @@ pub record KeepsConnections {L M X : Type 0} (left_from : L → Option (List ℕ
   pub failed : result ≡ Err end.LinkFault →
       FaultCounted (faults_from from.link) (faults_from from'.link) ⊎ FaultCounted (faults_to to.link) (faults_to to'.link)
 
--- A relay ended: what each link was sent and what the sink gained are those of its trace, as that link sees it, or prefixes.
+-- A relay ended. What each link was sent, and what the sink gained, are those of its trace, as that link sees it, or prefixes.
 pub record ObservedRelayTrace (relay : RelayTrace) (how : ToolEnd) (from from' to to' held held' : Option (List ℕ)) : Type 0 where
   pub sends_from : List ℕ
   pub sends_to : List ℕ

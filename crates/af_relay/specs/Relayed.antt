@@ -1,4 +1,4 @@
--- What a relay that is done has passed: which bytes it recorded and played, and when.
+-- What a relay has passed when it is done: which bytes it recorded and played, and when.
 use Rattle.std.specs.Prelude.{◌≡◌, ◌+◌, ◌%◌, ◌^◌, ◌==◌, if◌then◌else◌, ⊤, ℕ, zero, suc, Bool, true, false}
 use Rattle.std.specs.Prelude.{List, [], ◌∷◌, ◌++◌, length, slice_get, unwrap_or, Result, Ok, Err}
 use Rattle.std.specs.declared.option.Option.{Option}
@@ -14,11 +14,11 @@ use Rattle.af_request.specs.Requests.{request_bytes}
 use Rattle.af_lib.specs.declared.fault.ConnFault.{ConnFault}
 use Rattle.af_lib.specs.Calls.{Recorded, as_recorded, as_time}
 use Rattle.af_cli.specs.declared.job.PassJob.{PassJob}
-use Rattle.af_tool.specs.Trace.{ClientState, answer_on, after_reply}
+use Rattle.af_toolkit.specs.Trace.{ClientState, answer_on, after_reply}
 use Rattle.af_relay.specs.declared.pass.RelayPace.{RelayPace}
-use Rattle.af_relay.specs.Pass.{after, as_word, from_context, pace_of, passed_text, to_context}
+use Rattle.af_relay.specs.Pass.{time_after, as_word, from_context, pace_of, passed_text, to_context}
 
--- a block that was passed: the time that the other server told before it, when it was played, and its bytes
+-- a block that was passed: the other server's time before it, when it was played, and its bytes
 pub record PassedBlock : Type 0 where
   pub told : DevTime
   pub time : DevTime
@@ -40,21 +40,21 @@ play_requests order job (b ∷ blocks) =
 unfoldable pub record_requests : Order → ℕ → RelayPace → DevTime → List ℕ
 record_requests order zero pace at = []
 record_requests order (suc n) pace at =
-    request_bytes order (record_run true 1 at.0 pace.size) ++ record_requests order n pace (after at pace.frames)
+    request_bytes order (record_run true 1 at.0 pace.size) ++ record_requests order n pace (time_after at pace.frames)
 
 -- what one more record request was answered with
 abbrev pub reply_then : Result Recorded ConnFault → List (List ℕ) → List (List ℕ)
 reply_then (Ok r) replies = r.samples ∷ replies
 reply_then (Err fault) replies = []
 
--- the bytes of the replies to these record requests
+-- the bytes in the replies to these record requests
 unfoldable pub record_replies : ℕ → RelayPace → DevTime → ClientState → List (List ℕ)
 record_replies zero pace at v = []
 record_replies (suc n) pace at v =
     reply_then (answer_on (record_run true 1 at.0 pace.size) (as_recorded true pace.size) v)
-    (record_replies n pace (after at pace.frames) (after_reply v))
+    (record_replies n pace (time_after at pace.frames) (after_reply v))
 
--- two times are one, as a request states them: in 32 bits
+-- two times are the same as a request states them, in 32 bits
 abbrev pub is_same_time : DevTime → DevTime → Bool
 is_same_time one other = (one.0 % 2 ^ 32) == (other.0 % 2 ^ 32)
 
@@ -63,28 +63,28 @@ abbrev pub is_moved : Option DevTime → DevTime → ℕ
 is_moved None time = 0
 is_moved (Some due) time = if is_same_time time due then 0 else 1
 
--- how many of these blocks are not played right behind the one before
+-- how many of these blocks are not played right after the one before
 unfoldable pub moves : (frames : ℕ) → Option DevTime → List PassedBlock → ℕ
 moves frames due [] = 0
-moves frames due (b ∷ blocks) = is_moved due b.time + moves frames (Some (after b.time frames)) blocks
+moves frames due (b ∷ blocks) = is_moved due b.time + moves frames (Some (time_after b.time frames)) blocks
 
--- the other server told these times, each in the reply before that to its play
+-- these are the times of the other server, each from the last reply before its play
 unfoldable pub AreTold : PassJob → ClientState → List PassedBlock → Type 0
 AreTold job w [] = ⊤
 AreTold job w (b ∷ blocks) =
     (answer_on (get_time job.to_device) as_word w ≡ Ok b.told) × AreTold job (after_reply (after_reply w)) blocks
 
--- the type of a job's samples, where this device is recorded
+-- the type of a job's samples, if this device is recorded
 abbrev pub type_from : PassJob → DeviceInfo → SampleType
 type_from job device = unwrap_or job.ty device.ty
 
--- the pace of a job, where this device is recorded
+-- the pace of a job, if this device is recorded
 abbrev pub pace_from : PassJob → DeviceInfo → RelayPace
 pace_from job device = pace_of job (frame_bytes (type_from job device) device.channels) device.rate
 
--- What a relay has sent and written that passed all blocks of its job from a device, by what its links gave: the bytes of each
--- play are those of the record reply with its number, and each play's time is the one before plus the block, but at exactly so
--- many plays as are written.
+-- What a relay has sent and written that passed all blocks of its job from a device, by what its links gave. The bytes of each
+-- play are those of the record reply with its number. Each play's time is the one before plus the block, except at exactly as
+-- many plays as it writes.
 pub record Relayed (job : PassJob) (device : DeviceInfo) (v w : ClientState) (sends_from sends_to output : List ℕ) : Type 0 where
   pub start : DevTime
   pub started : answer_on (get_time job.from_device) as_time (after_reply v) ≡ Ok start
@@ -101,7 +101,7 @@ pub record Relayed (job : PassJob) (device : DeviceInfo) (v w : ClientState) (se
   pub wrote : output ≡ passed_text job.blocks resynced
   pub moved : resynced ≡ moves (pace_from job device).frames None blocks
 
--- the same by what the links were sent and the sink holds, before and after, and by the devices of the server that is recorded
+-- the same by what the links were sent and the sink holds, before and after, and by the devices of the recorded server
 pub record IsRelayed (job : PassJob) (from : List DeviceInfo) (v w : ClientState)
     (sent sent' sent_to sent_to' held held' : Option (List ℕ)) : Type 0 where
   pub device : DeviceInfo

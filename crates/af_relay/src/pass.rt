@@ -1,8 +1,8 @@
-// Block behind block is recorded on one server, and played on another.
+// Block after block is recorded on one server, and played on another.
 ghost use Rattle.std.specs.Prelude.{◌≡◌, ◌<◌, ◌≤◌, ◌+◌, ◌^◌, true, length, IfErr, IfOk};
 ghost use Rattle.std.specs.declared.option.Option.TheVariants.{None};
-ghost use Rattle.af_tool.specs.Ends.{is_of_link};
-ghost use Rattle.af_relay.specs.Pass.{has_drifted, in_step, none_passed, after_block, passes, passes_block, moment_of};
+ghost use Rattle.af_toolkit.specs.Ends.{is_of_link};
+ghost use Rattle.af_relay.specs.Pass.{has_drifted, in_step, no_progress, after_block, passes, passes_block, moment_of};
 ghost use Rattle.af_relay.specs.RelayParts.{ObservedRelayPartOver, KeepsConnections};
 ghost use Rattle.af_cli.specs.Sizes.{greatest_block};
 
@@ -10,7 +10,7 @@ use af_cli::PassJob;
 use af_io::Link;
 use af_lib::Conn;
 use af_time::DevTime;
-use af_tool::{CONTEXT, ToolEnd, time_behind};
+use af_toolkit::{CONTEXT, ToolEnd, time_behind};
 
 /// The pace of a relay: the frames and the bytes of a block, and in frames how far ahead of the other server's time it plays, and
 /// by how much it may drift from that.
@@ -45,7 +45,7 @@ pub struct RelayProgress {
     pub resynced: u32,
 }
 
-// Whether a block that is due then is too far from where it is to be.
+// Whether a block at `due` is further than the slack from its place, the delay ahead of now.
 fn has_drifted(due: DevTime, now: DevTime, delay: u64, slack: u64) -> bool
     requires { delay < 2 ^ 40 }
     ensures { result ≡ has_drifted due now delay slack }
@@ -54,7 +54,7 @@ fn has_drifted(due: DevTime, now: DevTime, delay: u64, slack: u64) -> bool
     ahead.unsigned_abs() > slack
 }
 
-// The place of a block in step with the other server, where its time is now.
+// A block that is played exactly the delay ahead of the other server's time.
 fn in_step(now: DevTime, delay: u64, resynced: bool) -> PlayMoment
     ensures { result ≡ in_step now delay resynced }
 {
@@ -64,7 +64,7 @@ fn in_step(now: DevTime, delay: u64, resynced: bool) -> PlayMoment
     }
 }
 
-// When a block is played, where the other server's time is now.
+// When a block is played, at the other server's time.
 fn moment_of(due: Option<DevTime>, now: DevTime, delay: u64, slack: u64) -> PlayMoment
     requires { delay < 2 ^ 40 }
     ensures { result ≡ moment_of due now delay slack }
@@ -82,7 +82,7 @@ fn moment_of(due: Option<DevTime>, now: DevTime, delay: u64, slack: u64) -> Play
     }
 }
 
-// How far a relay has come behind one more block of n frames.
+// How far a relay has come after one more block of n frames.
 fn after_block(passed: RelayProgress, place: PlayMoment, frames: u32) -> RelayProgress
     requires { passed.resynced + 1 < 2 ^ 32 }
     ensures value { result ≡ after_block passed place frames }
@@ -133,7 +133,7 @@ pub fn pass_blocks<L: Link + Drop, M: Link + Drop>(
     requires block { (length block.old ≡ plan.now.pace.size) × (length block.old ≤ greatest_block) }
     requires pace { plan.now.pace.delay < 2 ^ 40 }
     ensures goes { ObservedRelayPartOver L.left L.sent M.left M.sent from.old from.new to.old to.new
-        (λ v w. passes plan.now.job.blocks plan.now.job plan.now.pace (none_passed start) v w) result }
+        (λ v w. passes plan.now.job.blocks plan.now.job plan.now.pace (no_progress start) v w) result }
     ensures holds { KeepsConnections L.left L.faults M.left M.faults from.old from.new to.old to.new result }
     ensures end { IfErr result (λ how. is_of_link how ≡ true) }
 {

@@ -1,14 +1,14 @@
 // apass: blocks are recorded on one server and played on another, and how that went is written to the sink.
-ghost use Rattle.std.specs.Prelude.{◌≡◌, ◌<◌, ◌≤◌, ◌^◌, ◌↔◌, ℕ, true, length, take, Err, IfErr, IfOk};
+ghost use Rattle.std.specs.Prelude.{◌≡◌, ◌<◌, ◌≤◌, ◌^◌, true, length, take, IfErr, IfOk};
 ghost use Rattle.std.specs.declared.option.Option.{Option};
 ghost use Rattle.std.specs.declared.option.Option.TheVariants.{None};
 ghost use Rattle.af_io.specs.Observed.{CountsFault};
 ghost use Rattle.af_sample.specs.Channels.{IsChannelCount};
 ghost use Rattle.af_request.specs.Replies.{IsDeviceInfo};
 ghost use Rattle.af_lib.specs.Calls.{device_channels};
-ghost use Rattle.af_tool.specs.Ends.{is_of_link, is_of_report, Reports};
+ghost use Rattle.af_toolkit.specs.Ends.{is_of_link, is_of_report, Reports};
 ghost use Rattle.af_relay.specs.RelayParts.{CountsEither, ObservedRelayPartOver, KeepsConnections};
-ghost use Rattle.af_relay.specs.Pair.{is_of_pass, pair_of, HaveChannels};
+ghost use Rattle.af_relay.specs.Pair.{is_of_pass, pair_of, EndsByPair, HaveChannels};
 ghost use Rattle.af_relay.specs.Results.{RunsBetween};
 ghost use Rattle.af_cli.specs.Ranges.{IsPaced};
 ghost use Rattle.af_relay.specs.Pass.{begins_both, ends_contexts, pace_of, passed_between, passed_text};
@@ -21,9 +21,9 @@ use af_lib::Conn;
 use af_request::DeviceInfo;
 use af_sample::{Gain, SampleType};
 use af_time::DevTime;
-use af_tool::{CONTEXT, ToolEnd, device_with, put, put_number, write_text};
+use af_toolkit::{CONTEXT, ToolEnd, device_with, put, put_number, write_text};
 
-// The pace of a job whose frames have so many bytes, at a rate.
+// The pace of a job, by the bytes of a frame and the rate.
 fn pace_of(job: &PassJob, frame: usize, rate: u32) -> RelayPace
     requires some { 0 < frame }
     requires delay { job.now.delay ≤ 3000 }
@@ -76,7 +76,8 @@ fn finish_both<L: Link + Drop, M: Link + Drop>(
     Ok(())
 }
 
-// Passes all blocks of a job between two devices of one rate and as many channels: how often the relay fell in step again.
+// Passes all blocks of a job between two devices of one rate and as many channels. The answer is how often the relay fell in step
+// again.
 fn pass_between<L: Link + Drop, M: Link + Drop>(
     job: &PassJob,
     device: DeviceInfo,
@@ -104,7 +105,7 @@ fn pass_between<L: Link + Drop, M: Link + Drop>(
     Ok(passed.resynced)
 }
 
-// Writes the line into a buffer: its length.
+// Writes the line into a buffer, and answers its length.
 fn write_line(out: &mut [u8], blocks: u32, resynced: u32) -> usize
     requires { 128 ≤ length out.old }
     ensures within { result ≤ length out.new }
@@ -129,7 +130,7 @@ fn report<K: Sink>(sink: &mut K, blocks: u32, resynced: u32) -> ToolEnd
     write_text(sink, &line[..length])
 }
 
-// The device that is recorded, if both are there and have one rate and as many channels.
+// The device that is recorded, if both exist and have one rate and as many channels.
 fn pair_of<L: Link + Drop, M: Link + Drop>(
     job: &PassJob,
     from: &Conn<L>,
@@ -176,12 +177,8 @@ pub fn apass<L: Link + Drop, M: Link + Drop, K: Sink>(
 
     // each end has its cause
     ensures end { is_of_pass result ≡ true }
-    ensures no_device { (n : ℕ) → (result ≡ ToolEnd.NoDevice n) ↔
-        (pair_of from.old.devices job.now.from_device to.old.devices job.now.to_device ≡ Err (ToolEnd.NoDevice n)) }
-    ensures rates { (a b : ℕ) → (result ≡ ToolEnd.RateMismatch a b) ↔
-        (pair_of from.old.devices job.now.from_device to.old.devices job.now.to_device ≡ Err (ToolEnd.RateMismatch a b)) }
-    ensures shapes { (a b : ℕ) → (result ≡ ToolEnd.ChannelMismatch a b) ↔
-        (pair_of from.old.devices job.now.from_device to.old.devices job.now.to_device ≡ Err (ToolEnd.ChannelMismatch a b)) }
+    ensures apart { EndsByPair
+        (pair_of from.old.devices job.now.from_device to.old.devices job.now.to_device) result }
     ensures link { CountsEither (result ≡ ToolEnd.LinkFault)
         (L.faults from.old.link) (L.faults from.new.link) (M.faults to.old.link) (M.faults to.new.link) }
     ensures sink { CountsFault (result ≡ ToolEnd.SinkFault) (K.faults sink.old) (K.faults sink.new) }

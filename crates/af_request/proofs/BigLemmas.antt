@@ -1,4 +1,4 @@
--- In Big requests and replies are what they were before a client chose its order.
+-- In Big, requests and replies are what they were before a client chose its byte order.
 use Rattle.std.proofs.Common.{◌≡◌, ◌+◌, ◌-◌, ◌*◌, ◌==◌, ◌&&◌, ℕ, zero, suc, List, [], ◌∷◌, ◌++◌, length, nat_le, take, drop, refl, ap, arith}
 use Rattle.std.specs.Prelude.{Some, None, if◌then◌else◌, option_map}
 use Rattle.std.proofs.lemmas.Bool.Decides.{nat_tests}

@@ -1,4 +1,4 @@
--- The devices of the reply to a setup, one after the other.
+-- The devices of the reply to a setup, one after another.
 use Rattle.std.proofs.Common.{◌≡◌, ◌<◌, ◌+◌, ◌-◌, ◌*◌, ◌∙◌, ℕ, suc, List, [], ◌∷◌, ◌++◌, take, drop, refl, ap, sym, arith}
 use Rattle.std.specs.Prelude.{Option, Some, None, option_map, slice_range}
 use Rattle.std.proofs.lemmas.List.{drop-drop, append_assoc}
@@ -7,7 +7,7 @@ use Rattle.af_request.specs.declared.reply.DeviceInfo.{DeviceInfo}
 use Rattle.af_request.specs.Replies.{device_in, device_then, devices_in}
 use Rattle.af_request.proofs.FieldRoundTrips.{ap_2}
 
--- some devices, and then those that were read behind them
+-- some devices, and then those that were read after them
 abbrev pub devices_onto : List DeviceInfo → Option (List DeviceInfo) → Option (List DeviceInfo)
 devices_onto devices rest = option_map (λ more. devices ++ more) rest
 
@@ -23,7 +23,7 @@ module _ (order : Order) where
       ap (λ n. devices_in order n (drop (12 * i) bytes)) left
       ∙ ap_2 (λ n rest. device_then (device_in order (take n (drop (12 * i) bytes))) (devices_in order (count - (i + 1)) rest)) size (drop-drop 12 (12 * i) bytes ∙ ap (λ n. drop n bytes) next)
 
-  -- one device more
+  -- one more device
   pub devices_more : (count i : ℕ) (bytes : List ℕ) (devices : List DeviceInfo) (d : DeviceInfo) → i < count →
       device_in order (slice_range bytes (12 * i) (12 * i + 12)) ≡ Some d →
       devices_onto devices (devices_in order (count - i) (drop (12 * i) bytes))
@@ -36,7 +36,7 @@ module _ (order : Order) where
       onto None = refl
       onto (Some more) = ap Some (sym (append_assoc devices (d ∷ []) more))
 
-  -- one that is none
+  -- bytes that are no device
   pub devices_none : (count i : ℕ) (bytes : List ℕ) (devices : List DeviceInfo) → i < count →
       device_in order (slice_range bytes (12 * i) (12 * i + 12)) ≡ None → devices_onto devices (devices_in order (count - i) (drop (12 * i) bytes)) ≡ None
   devices_none count i bytes devices low e =

@@ -65,7 +65,7 @@ module _ (order : Order) where
       let few = few_words opcode a is in
       head_framed order 1 opcode sequence (body_words a) (body_bytes order a) rest (good_by opcode (body_words a) (opcode_within opcode a is) few) low (omega arith) (length-body order a)
 
-  -- a head order, a time and a count in front of samples that stand there already, and zeros behind these
+  -- a header, a time and a count before samples that are there already, and zeros after these
   pub around_samples : (front back samples : List ℕ) (opcode sequence now n size : ℕ) → length front ≡ 16 → take 16 front ≡ (head order 1 opcode sequence (2 + words_for n) ++ u32_bytes order now) ++ u32_bytes order n →
       take size back ≡ samples ++ replicate (4 * words_for n - n) 0 → length samples ≡ n → take (16 + size) (front ++ back) ≡ reply_bytes order opcode (recorded now samples) sequence
   unfolding head

@@ -21,10 +21,10 @@ use Rattle.af_request.specs.declared.reply.DeviceInfo.{DeviceInfo}
 use Rattle.af_request.specs.declared.reply.Controls.{Controls}
 use Rattle.af_request.specs.declared.reply.Phone.{Phone}
 use Rattle.af_request.specs.Answer.{Answer, setup, plain, time, played, recorded, controls, phone}
-use Rattle.af_request.specs.Fields.{flag_byte, words_for, padded}
+use Rattle.af_request.specs.Fields.{flag_byte, words_for, padded_bytes}
 use Rattle.af_request.specs.Replies.{answer_in, body_bytes, body_words, controls_of, phone_of, reply_bytes, device_bytes, device_in, device_info_of, device_then, devices_in, flag_of, is_padded, is_plain, is_zero, IsReplyTo, IsDeviceInfo}
 use Rattle.af_request.specs.Opcodes as opcodes
-use Rattle.af_request.proofs.FieldRoundTrips.{ap_2, ap_3, length-padded, take-padded}
+use Rattle.af_request.proofs.FieldRoundTrips.{ap_2, ap_3, length-padded_bytes, take-padded_bytes}
 
 pub rate_below : (rate : ℕ) → IsListedRate rate → rate ≤ 48000
 rate_below rate listed = grind (arith, nat_tests)
@@ -61,19 +61,19 @@ module _ (order : Order) where
   below : (n : ℕ) → n ≤ longest_record → n < 2 ^ 32
   below n low = omega arith
 
-  padded_again : (samples : List ℕ) → is_padded (length samples) (padded samples) ≡ true
+  padded_again : (samples : List ℕ) → is_padded (length samples) (padded_bytes samples) ≡ true
   padded_again samples =
       let n : ℕ = length samples in
-      let rest : drop n (padded samples) ≡ replicate (4 * words_for n - n) 0 = drop-append_seam samples (replicate (4 * words_for n - n) 0) in
-      ap_2 (λ a b. a && b) (eq-eqb _ _ (length-padded samples)) (ap is_zero rest ∙ is_zero-replicate (4 * words_for n - n))
+      let rest : drop n (padded_bytes samples) ≡ replicate (4 * words_for n - n) 0 = drop-append_seam samples (replicate (4 * words_for n - n) 0) in
+      ap_2 (λ a b. a && b) (eq-eqb _ _ (length-padded_bytes samples)) (ap is_zero rest ∙ is_zero-replicate (4 * words_for n - n))
 
   recorded_again : (now : ℕ) (samples : List ℕ) → now < 2 ^ 32 → length samples ≤ longest_record →
       answer_in order opcodes.record (body_bytes order (recorded now samples)) ≡ Some (recorded now samples)
   recorded_again now samples low most =
       let n : ℕ = length samples in
-      let rest : List ℕ = padded samples in
+      let rest : List ℕ = padded_bytes samples in
       ap_2 (λ t k. if is_padded k rest then Some (recorded t (take k rest)) else None) (u32_again order now low) (u32_again order n (below n most))
-      ∙ ap_2 (λ b s. if b then Some (recorded now s) else None) (padded_again samples) (take-padded samples)
+      ∙ ap_2 (λ b s. if b then Some (recorded now s) else None) (padded_again samples) (take-padded_bytes samples)
 
   type_again : (ty : SampleType) → type_of_code (code_of ty) ≡ Some ty
   type_again Mu255 = refl
@@ -140,7 +140,7 @@ module _ (order : Order) where
   answer_again opcode (controls c) fits = at_opcode opcode opcodes.query_controls (controls c) fits.0 (controls_again c fits.1 fits.2)
   answer_again opcode (phone p) fits = at_opcode opcode opcodes.query_phone (phone p) fits (phone_again p)
 
-  -- the body of a reply has as many words as its head order states
+  -- the body of a reply has as many words as its header states
   pub length-body : (a : Answer) → length (body_bytes order a) ≡ 4 * body_words a
   length-body (setup devices) =
       let sum : 8 + 12 * length devices ≡ 4 * (2 + 3 * length devices) = omega arith in
@@ -150,7 +150,7 @@ module _ (order : Order) where
   length-body (played now) = refl
   length-body (recorded now samples) =
       let sum : 8 + 4 * words_for (length samples) ≡ 4 * (2 + words_for (length samples)) = omega arith in
-      length-append (u32_bytes order now ++ u32_bytes order (length samples)) (padded samples) ∙ ap (λ k. 8 + k) (length-padded samples) ∙ sum
+      length-append (u32_bytes order now ++ u32_bytes order (length samples)) (padded_bytes samples) ∙ ap (λ k. 8 + k) (length-padded_bytes samples) ∙ sum
   length-body (controls c) = refl
   length-body (phone p) = refl
 

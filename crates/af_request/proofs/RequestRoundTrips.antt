@@ -10,10 +10,10 @@ use Rattle.af_wire.specs.Front.{frame_front, frame_with}
 use Rattle.af_wire.specs.Order.{i16_bytes, u32_bytes}
 use Rattle.af_wire.proofs.OrderLemmas.{i16_again, u16_again, u32_again}
 use Rattle.af_request.specs.Asked.{Asked, no_op, get_time, create_ac, change_ac, free_ac, play_run, record_run, select_events, set_controls, query_controls, hook_switch, query_phone}
-use Rattle.af_request.specs.Fields.{flag_byte, words_for, padded}
+use Rattle.af_request.specs.Fields.{flag_byte, words_for, padded_bytes}
 use Rattle.af_request.specs.Requests.{row, asked_by, asked_in, request_bytes, front, IsOneRequest, IsWritable}
 use Rattle.af_request.specs.Opcodes as opcodes
-use Rattle.af_request.proofs.FieldRoundTrips.{ap_2, ap_3, length-padded, take-padded}
+use Rattle.af_request.proofs.FieldRoundTrips.{ap_2, ap_3, length-padded_bytes, take-padded_bytes}
 
 module _ (order : Order) where
   -- a count of samples that a frame has room for is below 2^32
@@ -26,11 +26,11 @@ module _ (order : Order) where
 
   -- a play has the length that it states
   length-play : (quiet ac time : ℕ) (samples : List ℕ) →
-      length (play_head quiet ac time (length samples) ++ padded samples) ≡ 4 * (4 + words_for (length samples))
+      length (play_head quiet ac time (length samples) ++ padded_bytes samples) ≡ 4 * (4 + words_for (length samples))
   length-play quiet ac time samples =
       let sum : 16 + 4 * words_for (length samples) ≡ 4 * (4 + words_for (length samples)) = omega arith in
-      length-append (play_head quiet ac time (length samples)) (padded samples)
-      ∙ ap (λ n. 16 + n) (length-padded samples) ∙ sum
+      length-append (play_head quiet ac time (length samples)) (padded_bytes samples)
+      ∙ ap (λ n. 16 + n) (length-padded_bytes samples) ∙ sum
 
   -- a play of the length that it states
   play_read : (quiet : Bool) (a t count ac time : ℕ) (frame samples : List ℕ) → a ≡ ac → t ≡ time → count ≡ length samples →
@@ -45,11 +45,11 @@ module _ (order : Order) where
   play_again : (quiet : Bool) (ac time : ℕ) (samples : List ℕ) → IsWritable (play_run quiet ac time samples) →
       asked_in order (request_bytes order (play_run quiet ac time samples)) ≡ Some (play_run quiet ac time samples)
   play_again true ac time samples fits =
-      play_read true _ _ _ ac time (play_head 1 ac time (length samples) ++ padded samples) samples (u32_again order ac fits.0) (u32_again order time fits.1) (u32_again order (length samples) (below _ fits.2))
-      (length-play 1 ac time samples) (take-padded samples)
+      play_read true _ _ _ ac time (play_head 1 ac time (length samples) ++ padded_bytes samples) samples (u32_again order ac fits.0) (u32_again order time fits.1) (u32_again order (length samples) (below _ fits.2))
+      (length-play 1 ac time samples) (take-padded_bytes samples)
   play_again false ac time samples fits =
-      play_read false _ _ _ ac time (play_head 0 ac time (length samples) ++ padded samples) samples (u32_again order ac fits.0) (u32_again order time fits.1) (u32_again order (length samples) (below _ fits.2))
-      (length-play 0 ac time samples) (take-padded samples)
+      play_read false _ _ _ ac time (play_head 0 ac time (length samples) ++ padded_bytes samples) samples (u32_again order ac fits.0) (u32_again order time fits.1) (u32_again order (length samples) (below _ fits.2))
+      (length-play 0 ac time samples) (take-padded_bytes samples)
 
   pub request_again : (a : Asked) → IsWritable a → asked_in order (request_bytes order a) ≡ Some a
   request_again no_op fits = refl
@@ -94,7 +94,7 @@ module _ (order : Order) where
   request_framed (free_ac ac) rest fits = framed 5 0 2 (u32_bytes order ac) rest (omega arith) (omega arith) refl
   request_framed (play_run quiet ac time samples) rest fits =
       let most : length samples ≤ longest_play = fits.2 in
-      framed 6 (flag_byte quiet) (4 + words_for (length samples)) (u32_bytes order ac ++ u32_bytes order time ++ u32_bytes order (length samples) ++ padded samples) rest
+      framed 6 (flag_byte quiet) (4 + words_for (length samples)) (u32_bytes order ac ++ u32_bytes order time ++ u32_bytes order (length samples) ++ padded_bytes samples) rest
       (omega arith) (omega arith) (length-play (flag_byte quiet) ac time samples)
   request_framed (record_run blocking ac time nbytes) rest fits =
       framed 7 (flag_byte blocking) 4 (u32_bytes order ac ++ u32_bytes order time ++ u32_bytes order nbytes) rest (omega arith) (omega arith) refl

@@ -66,7 +66,7 @@ module _ (order : Order) where
   devices_stated (suc n) bytes devices is =
       then_stated n (device_in order (take 12 bytes)) (devices_in order n (drop 12 bytes)) devices (device_stated (take 12 bytes)) (devices_stated n (drop 12 bytes)) is
 
-  -- the fields of a body's head, as they are tested
+  -- the fields of a body's header, as they are tested
   tested : (n major minor size : ℕ) (b : Bool) → (major == 1 && minor == 0 && nat_le 1 n && nat_le n most_devices && size == 8 + 12 * n) ≡ b → b ≡ true → (1 ≤ n) × (n ≤ most_devices)
   tested n major minor size b is good = (grind (arith, nat_tests), grind (arith, nat_tests))
 

@@ -1,4 +1,4 @@
--- What the server answers: a reply as a value without references, its samples being a list of bytes.
+-- The answers of the server: a reply as a value without references, with its samples as a list of bytes.
 use Rattle.std.specs.Prelude.{ℕ, List}
 use Rattle.arrayvec.specs.ArrayVec.{ArrayVec}
 use Rattle.af_request.specs.declared.reply.DeviceInfo.{DeviceInfo}
@@ -20,7 +20,7 @@ pub data Answer : Type 0 where
 abbrev pub items_of : ArrayVec DeviceInfo → List DeviceInfo
 items_of devices = devices.items
 
--- what a reply of the code answers
+-- the answer that a reply of the code means
 abbrev pub reply_meaning : Reply → Answer
 reply_meaning (code.Setup devices) = setup devices.items
 reply_meaning code.Plain = plain

@@ -1,4 +1,4 @@
--- What a client asks: a request as a value without references, its samples being a list of bytes.
+-- What a client asks for: a request as a value without references, with its samples as a list of bytes.
 use Rattle.std.specs.Prelude.{ℕ, ℤ, Bool, List}
 use Rattle.af_request.specs.declared.request.Request.{Request}
 use Rattle.af_request.specs.declared.request.Request.TheVariants as code
@@ -17,7 +17,7 @@ pub data Asked : Type 0 where
   hook_switch : (device off : ℕ) → Asked
   query_phone : (device : ℕ) → Asked
 
--- what a request of the code asks
+-- what a request of the code means
 abbrev pub request_meaning : Request → Asked
 request_meaning code.NoOp = no_op
 request_meaning (code.GetTime device) = get_time device

@@ -29,5 +29,5 @@ abbrev pub words_for : ℕ → ℕ
 words_for count = div_ceil count 4
 
 -- bytes, padded with zeros to whole words
-abbrev pub padded : List ℕ → List ℕ
-padded bytes = bytes ++ replicate (4 * words_for (length bytes) - length bytes) 0
+abbrev pub padded_bytes : List ℕ → List ℕ
+padded_bytes bytes = bytes ++ replicate (4 * words_for (length bytes) - length bytes) 0

@@ -1,4 +1,4 @@
--- The grammar of replies: which bodies answer what, and how a reply is spelled.
+-- The grammar of replies: which bodies mean which answer, and how a reply is spelled.
 use Rattle.std.specs.Prelude.{◌≡◌, ◌≤◌, ◌<◌, ◌^◌, ℕ, zero, suc, ◌+◌, ◌*◌, ◌==◌, nat_le, ◌&&◌, if◌then◌else◌, Bool, true, false, ℤ, List, [], ◌∷◌, ◌++◌, All, Option, Some, None, IsTrue, length, take, drop, slice_range, option_map, ⊤}
 use Rattle.std.specs.List.{list_all, list_any, flat_map}
 use Rattle.af_limits.specs.Limits.{most_devices, longest_record}
@@ -13,14 +13,14 @@ use Rattle.af_sample.specs.Gains.{gain_of, IsGain}
 use Rattle.af_request.specs.declared.reply.DeviceInfo.{DeviceInfo}
 use Rattle.af_request.specs.declared.reply.Phone.{Phone}
 use Rattle.af_request.specs.Answer.{Answer, setup, plain, time, played, recorded, controls, phone}
-use Rattle.af_request.specs.Fields.{u8_at, u16_at, u32_at, i16_at, flag_byte, words_for, padded}
+use Rattle.af_request.specs.Fields.{u8_at, u16_at, u32_at, i16_at, flag_byte, words_for, padded_bytes}
 use Rattle.af_request.specs.Opcodes as opcodes
 
 -- whether all bytes are zero, as padding is
 abbrev pub is_zero : List ℕ → Bool
 is_zero bytes = list_all (λ b. b == 0) bytes
 
--- the flag that a byte is, if it is one
+-- the flag that a byte states, if it does
 abbrev pub flag_of : ℕ → Option Bool
 flag_of byte = if byte == 0 then Some false else if byte == 1 then Some true else None
 
@@ -39,7 +39,7 @@ device_in order bytes =
     then device_info_of (type_of_code (u8_at 0 bytes)) (u8_at 1 bytes) (flag_of (u8_at 2 bytes)) (u32_at order 4 bytes) (u32_at order 8 bytes)
     else None
 
--- a device and those behind it
+-- a device and those after it
 abbrev pub device_then : Option DeviceInfo → Option (List DeviceInfo) → Option (List DeviceInfo)
 device_then (Some device) (Some devices) = Some (device ∷ devices)
 device_then _ _ = None
@@ -56,7 +56,7 @@ setup_in order body = let count = u32_at order 4 body in
     then option_map setup (devices_in order count (drop 8 body))
     else None
 
--- the reply of a request that is not answered with a value
+-- the reply to a request without a value in it
 abbrev pub plain_in : List ℕ → Option Answer
 plain_in body = if length body == 0 then Some plain else None
 
@@ -68,7 +68,7 @@ time_in order body = if length body == 4 then Some (time (u32_at order 0 body)) 
 abbrev pub played_in : Order → List ℕ → Option Answer
 played_in order body = if length body == 4 then Some (played (u32_at order 0 body)) else None
 
--- whether bytes are so many, padded with zeros to a word
+-- whether these are so many bytes, padded with zeros to a word
 abbrev pub is_padded : ℕ → List ℕ → Bool
 is_padded count bytes = length bytes == 4 * words_for count && is_zero (drop count bytes)
 
@@ -102,12 +102,12 @@ phone_in body =
     then option_map phone (phone_of (flag_of (u8_at 0 body)) (flag_of (u8_at 1 body)) (flag_of (u8_at 2 body)) (flag_of (u8_at 3 body)) (flag_of (u8_at 4 body)))
     else None
 
--- CreateAC, ChangeAC, FreeAC, SelectEvents, SetControls and HookSwitch are not answered with a value
+-- the replies to CreateAC, ChangeAC, FreeAC, SelectEvents, SetControls and HookSwitch have no value
 abbrev pub is_plain : ℕ → Bool
 is_plain opcode = list_any (λ o. opcode == o) (opcodes.create_ac ∷ opcodes.change_ac ∷ opcodes.free_ac
     ∷ opcodes.select_events ∷ opcodes.set_controls ∷ opcodes.hook_switch ∷ [])
 
--- what a body answers to a request of an opcode, or to a setup, if it is such a body
+-- the answer of a body to a request of an opcode, or to a setup, if it is such a body
 abbrev pub answer_in : Order → ℕ → List ℕ → Option Answer
 answer_in order opcode body =
     if is_plain opcode then plain_in body
@@ -134,7 +134,7 @@ body_bytes order (setup devices) = u16_bytes order 1 ++ u16_bytes order 0 ++ u32
 body_bytes order plain = []
 body_bytes order (time now) = u32_bytes order now
 body_bytes order (played now) = u32_bytes order now
-body_bytes order (recorded now samples) = u32_bytes order now ++ u32_bytes order (length samples) ++ padded samples
+body_bytes order (recorded now samples) = u32_bytes order now ++ u32_bytes order (length samples) ++ padded_bytes samples
 body_bytes order (controls c) =
     (flag_byte c.input_on ∷ flag_byte c.output_on ∷ 0 ∷ 0 ∷ []) ++ i16_bytes order c.input_gain ++ i16_bytes order c.output_gain
 body_bytes order (phone p) = phone_bytes p
@@ -153,7 +153,7 @@ body_words (phone p) = 2
 abbrev pub reply_bytes : Order → ℕ → Answer → ℕ → List ℕ
 reply_bytes order opcode answer sequence = head order 1 opcode sequence (body_words answer) ++ body_bytes order answer
 
--- a reply whose record has at most the samples that the longest reply has room for
+-- a reply in which a record has at most the samples that the longest reply has room for
 abbrev pub FitsMessage : Answer → Type 0
 FitsMessage (recorded now samples) = length samples ≤ longest_record
 FitsMessage _ = ⊤

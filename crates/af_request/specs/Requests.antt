@@ -1,4 +1,4 @@
--- The grammar of requests: which bytes ask what, and how a request is spelled.
+-- The grammar of requests: which bytes ask for what, and how a request is spelled.
 use Rattle.std.specs.Prelude.{◌≡◌, ◌≢◌, ◌≤◌, ◌<◌, ◌^◌, ℕ, ◌+◌, ◌*◌, ◌==◌, if◌then◌else◌, Bool, List, [], ◌∷◌, ◌++◌, Option, Some, None, length, slice_range, bit_and, option_and_then, MatchOption, FitsSigned, ⊤}
 use Rattle.std.specs.Int.{w16}
 use Rattle.af_limits.specs.Limits.{longest_play}
@@ -7,10 +7,10 @@ use Rattle.af_wire.specs.declared.front.Front.TheVariants.{Frame}
 use Rattle.af_wire.specs.Front.{frame_front}
 use Rattle.af_wire.specs.Order.{i16_bytes, u16_bytes, u32_bytes}
 use Rattle.af_request.specs.Asked.{Asked, no_op, get_time, create_ac, change_ac, free_ac, play_run, record_run, select_events, set_controls, query_controls, hook_switch, query_phone}
-use Rattle.af_request.specs.Fields.{u8_at, u32_at, i16_at, flag_byte, words_for, padded}
+use Rattle.af_request.specs.Fields.{u8_at, u32_at, i16_at, flag_byte, words_for, padded_bytes}
 use Rattle.af_request.specs.Opcodes as opcodes
 
--- a row of the grammar, at the bytes of a frame: how many words such a request has, and what it asks
+-- a row of the grammar, for the bytes of a frame: how many words such a request has, and what it asks for
 pub record Row : Type 0 where
   pub words : ℕ
   pub asked : Asked
@@ -90,11 +90,11 @@ row_of order opcode frame =
     else if opcode == opcodes.query_phone then Some (query_phone_row frame)
     else None
 
--- what a frame asks by a row, if it has the row's length
+-- what a frame asks for by a row, if it has the row's length
 abbrev pub asked_by : List ℕ → Row → Option Asked
 asked_by frame r = if length frame == 4 * r.words then Some r.asked else None
 
--- what a frame asks, if it is a request
+-- what a frame asks for, if it is a request
 abbrev pub asked_in : Order → List ℕ → Option Asked
 asked_in order frame = option_and_then (asked_by frame) (row_of order (u8_at 0 frame) frame)
 
@@ -106,7 +106,7 @@ IsNoRequest order frame = MatchOption (row_of order (u8_at 0 frame) frame) ⊤ (
 abbrev pub front : Order → ℕ → ℕ → ℕ → List ℕ
 front order opcode detail words = opcode ∷ detail ∷ u16_bytes order words
 
--- how a request is spelled: what no field needs is zero
+-- how a request is spelled: bytes that no field needs are zero
 abbrev pub request_bytes : Order → Asked → List ℕ
 request_bytes order no_op = front order opcodes.no_op 0 1
 request_bytes order (get_time device) = front order opcodes.get_time device 1
@@ -119,7 +119,7 @@ request_bytes order (change_ac mask ac preempt play_gain record_gain) =
 request_bytes order (free_ac ac) = front order opcodes.free_ac 0 2 ++ u32_bytes order ac
 request_bytes order (play_run quiet ac time samples) =
     front order opcodes.play (flag_byte quiet) (4 + words_for (length samples))
-    ++ u32_bytes order ac ++ u32_bytes order time ++ u32_bytes order (length samples) ++ padded samples
+    ++ u32_bytes order ac ++ u32_bytes order time ++ u32_bytes order (length samples) ++ padded_bytes samples
 request_bytes order (record_run blocking ac time nbytes) =
     front order opcodes.record (flag_byte blocking) 4 ++ u32_bytes order ac ++ u32_bytes order time ++ u32_bytes order nbytes
 request_bytes order (select_events device mask) = front order opcodes.select_events device 2 ++ u32_bytes order mask
@@ -130,7 +130,7 @@ request_bytes order (query_controls device) = front order opcodes.query_controls
 request_bytes order (hook_switch device off) = front order opcodes.hook_switch device 2 ++ u32_bytes order off
 request_bytes order (query_phone device) = front order opcodes.query_phone device 1
 
--- a request whose play has at most the samples that the longest frame has room for
+-- a request in which a play has at most the samples that the longest frame has room for
 abbrev pub FitsFrame : Asked → Type 0
 FitsFrame (play_run quiet ac time samples) = length samples ≤ longest_play
 FitsFrame _ = ⊤
@@ -150,7 +150,7 @@ IsWritable (set_controls device mask input_on output_on input_gain output_gain) 
 IsWritable (hook_switch device off) = off < 2 ^ 32
 IsWritable _ = ⊤
 
--- bytes that are one frame, whatever follows them, and a frame that asks this
+-- bytes that are one frame, whatever follows them, and a frame that asks for this
 pub record IsOneRequest (order : Order) (a : Asked) (bytes : List ℕ) : Type 0 where
   pub one : (rest : List ℕ) → frame_front order (bytes ++ rest) ≡ Frame (length bytes)
   pub asks : asked_in order bytes ≡ Some a

@@ -1,5 +1,5 @@
--- Requests and replies as they were before a client chose its order: all numbers in Big. The laws say that in Big nothing else is meant
--- now. What has no number of more than one byte is as it stands elsewhere.
+-- Requests and replies as they were before a client chose its byte order: all numbers in Big. The laws say that in Big they still
+-- mean the same. Definitions without a number of more than one byte are those of the other files.
 use Rattle.std.specs.Prelude.{ℕ, zero, suc, ◌+◌, ◌*◌, ◌==◌, ◌&&◌, nat_le, if◌then◌else◌, ℤ, List, [], ◌∷◌, ◌++◌, Option, Some, None, length, take, drop, slice_range, option_and_then, option_map}
 use Rattle.std.specs.Int.{w16, w32, cast_signed, cast_unsigned, from_be_bytes, to_be_bytes}
 use Rattle.std.specs.List.{flat_map}
@@ -10,7 +10,7 @@ use Rattle.af_sample.specs.Gains.{gain_of}
 use Rattle.af_request.specs.declared.reply.DeviceInfo.{DeviceInfo}
 use Rattle.af_request.specs.Answer.{Answer, setup, plain, time, played, recorded, controls, phone}
 use Rattle.af_request.specs.Asked.{Asked, no_op, get_time, create_ac, change_ac, free_ac, play_run, record_run, select_events, set_controls, query_controls, hook_switch, query_phone}
-use Rattle.af_request.specs.Fields.{u8_at, flag_byte, words_for, padded}
+use Rattle.af_request.specs.Fields.{u8_at, flag_byte, words_for, padded_bytes}
 use Rattle.af_request.specs.Opcodes as opcodes
 use Rattle.af_request.specs.Requests.{Row, row, asked_by, low_bit, no_op_row, get_time_row, query_controls_row, query_phone_row}
 use Rattle.af_request.specs.Replies.{body_words, controls_of, device_info_of, device_then, flag_of, is_plain, is_zero, phone_bytes, phone_in, plain_in}
@@ -85,7 +85,7 @@ row_of opcode frame =
     else if opcode == opcodes.query_phone then Some (query_phone_row frame)
     else None
 
--- what a frame asks, if it is a request
+-- what a frame asks for, if it is a request
 abbrev pub asked_in : List ℕ → Option Asked
 asked_in frame = option_and_then (asked_by frame) (row_of (u8_at 0 frame) frame)
 
@@ -93,7 +93,7 @@ asked_in frame = option_and_then (asked_by frame) (row_of (u8_at 0 frame) frame)
 abbrev pub front : ℕ → ℕ → ℕ → List ℕ
 front opcode detail words = opcode ∷ detail ∷ to_be_bytes w16 words
 
--- how a request is spelled: what no field needs is zero
+-- how a request is spelled: bytes that no field needs are zero
 abbrev pub request_bytes : Asked → List ℕ
 request_bytes no_op = front opcodes.no_op 0 1
 request_bytes (get_time device) = front opcodes.get_time device 1
@@ -105,7 +105,7 @@ request_bytes (change_ac mask ac preempt play_gain record_gain) =
 request_bytes (free_ac ac) = front opcodes.free_ac 0 2 ++ u32_bytes ac
 request_bytes (play_run quiet ac start samples) =
     front opcodes.play (flag_byte quiet) (4 + words_for (length samples))
-    ++ u32_bytes ac ++ u32_bytes start ++ u32_bytes (length samples) ++ padded samples
+    ++ u32_bytes ac ++ u32_bytes start ++ u32_bytes (length samples) ++ padded_bytes samples
 request_bytes (record_run blocking ac start nbytes) =
     front opcodes.record (flag_byte blocking) 4 ++ u32_bytes ac ++ u32_bytes start ++ u32_bytes nbytes
 request_bytes (select_events device mask) = front opcodes.select_events device 2 ++ u32_bytes mask
@@ -156,7 +156,7 @@ controls_in body =
     then controls_of (flag_of (u8_at 0 body)) (flag_of (u8_at 1 body)) (gain_of (i16_at 4 body)) (gain_of (i16_at 6 body))
     else None
 
--- what a body answers to a request of an opcode, or to a setup, if it is such a body
+-- the answer of a body to a request of an opcode, or to a setup, if it is such a body
 abbrev pub answer_in : ℕ → List ℕ → Option Answer
 answer_in opcode body =
     if is_plain opcode then plain_in body
@@ -178,7 +178,7 @@ body_bytes (setup devices) = (0 ∷ 1 ∷ 0 ∷ 0 ∷ []) ++ u32_bytes (length d
 body_bytes plain = []
 body_bytes (time now) = u32_bytes now
 body_bytes (played now) = u32_bytes now
-body_bytes (recorded now samples) = u32_bytes now ++ u32_bytes (length samples) ++ padded samples
+body_bytes (recorded now samples) = u32_bytes now ++ u32_bytes (length samples) ++ padded_bytes samples
 body_bytes (controls c) =
     (flag_byte c.input_on ∷ flag_byte c.output_on ∷ 0 ∷ 0 ∷ []) ++ i16_bytes c.input_gain ++ i16_bytes c.output_gain
 body_bytes (phone p) = phone_bytes p

@@ -50,8 +50,8 @@ pub fn replies_round_trip()
         answer_in order opcodes.setup body ≡ Some (setup devices) → IsReplyTo opcodes.setup (setup devices) }
 {}
 
-/// What requests and replies were before a client chose its order, they are in Big: frames ask, bodies answer, and both are spelled
-/// as they were.
+/// What requests and replies were before a client chose its order, they are in Big: frames ask, bodies answer, and both are
+/// spelled as they were.
 pub fn big_is_as_before()
     ensures asks { (frame : List ℕ) → asked_in Big frame ≡ big.asked_in frame }
     ensures requests { (a : Asked) → request_bytes Big a ≡ big.request_bytes a }

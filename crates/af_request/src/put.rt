@@ -1,4 +1,4 @@
-// Writing a message piece by piece, each behind what stands before it.
+// Writing a message piece by piece, each after the one before it.
 ghost use Rattle.std.specs.Prelude.{◌≡◌, ◌≤◌, ◌+◌, ◌++◌, length, take, replicate};
 
 /// Writes a piece at `at`, and answers where it ends.

@@ -1,4 +1,4 @@
-// What the server replies.
+// The replies of the server.
 use af_limits::MOST_DEVICES;
 use af_sample::{Gain, SampleType};
 use af_time::DevTime;

@@ -13,8 +13,8 @@ use af_sample::{Gain, SampleType, is_listed_rate};
 use af_time::DevTime;
 use af_wire::Order;
 
-/// Reads the body, in the order of its link, of a reply to a request of this opcode, or to a setup (`SETUP`). None exactly
-/// where it is no such body. Its length does not fit, a flag is above 1, a gain outside -30..30, or a type above 3. Or it has channels
+/// Reads the body, in the order of its link, of a reply to a request of this opcode, or to a setup (`SETUP`). None exactly where
+/// it is no such body. Its length does not fit, a flag is above 1, a gain outside -30..30, or a type above 3. Or it has channels
 /// other than 1 and 2, a rate that is not listed, a horizon that is not 4 seconds, fewer than 1 or more than 8 devices, or
 /// padding that is not zero.
 pub fn read_reply<'a>(order: Order, opcode: u8, body: &'a [u8]) -> Option<Reply<'a>>
@@ -34,7 +34,7 @@ pub fn read_reply<'a>(order: Order, opcode: u8, body: &'a [u8]) -> Option<Reply<
     }
 }
 
-// Whether a request of this opcode is not answered with a value.
+// Whether the reply to a request of this opcode has no value.
 fn is_plain(opcode: u8) -> bool
     ensures { result ≡ is_plain opcode }
 {
@@ -97,7 +97,7 @@ fn recorded<'a>(order: Order, body: &'a [u8]) -> Option<Reply<'a>>
     })
 }
 
-// Whether bytes are so many, padded with zeros to a word.
+// Whether these are `count` bytes, padded with zeros to a word.
 fn is_padded(count: u32, bytes: &[u8]) -> bool
     ensures value { result ≡ is_padded count bytes.now }
     ensures within { result ≡ true → count ≤ length bytes.now }
@@ -169,7 +169,7 @@ fn setup<'a>(order: Order, body: &'a [u8]) -> Option<Reply<'a>>
     Some(Reply::Setup { devices })
 }
 
-// What n times 12 bytes of the reply to a setup say of the devices.
+// The devices that n times 12 bytes of the reply to a setup describe.
 fn devices(order: Order, count: usize, bytes: &[u8]) -> Option<Devices>
     requires most { count ≤ most_devices }
     requires whole { length bytes.now ≡ 12 * count }
@@ -183,7 +183,7 @@ fn devices(order: Order, count: usize, bytes: &[u8]) -> Option<Devices>
     Some(devices)
 }
 
-// What 12 bytes of the reply to a setup say of a device.
+// The device that 12 bytes of the reply to a setup describe.
 fn device(order: Order, bytes: &[u8]) -> Option<DeviceInfo>
     requires { length bytes.now ≡ 12 }
     ensures { result ≡ device_in order bytes.now }

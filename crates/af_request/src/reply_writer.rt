@@ -42,8 +42,8 @@ pub fn write_reply(
 /// Where the samples of a reply to a Record begin: after the header, the time and the count of their bytes.
 pub const RECORDED_AT: usize = 16;
 
-/// Writes the reply, in an order, to a Record around its samples, n bytes of them, at most 16000, which stand in the message already, from
-/// `RECORDED_AT` on. Answers how many bytes the message has.
+/// Writes the reply, in an order, to a Record around its samples, n bytes of them, at most 16000, which stand in the message
+/// already, from `RECORDED_AT` on. Answers how many bytes the message has.
 pub fn write_recorded(order: Order, time: DevTime, n: usize, sequence: u16, out: &mut [u8]) -> usize
     requires samples { n ≤ longest_record }
     requires room { longest_message ≤ length out.old }
@@ -90,7 +90,7 @@ fn words_of(reply: &Reply<'_>) -> u32
     }
 }
 
-// The head of a reply.
+// The header of a reply.
 #[tactic(auto, unfolding(af_wire::specs::Message::head))]
 fn put_head(order: Order, out: &mut [u8], opcode: u8, sequence: u16, words: u32) -> usize
     requires { 8 ≤ length out.old }

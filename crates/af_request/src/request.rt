@@ -1,4 +1,4 @@
-// What a client asks of the server.
+// The requests of a client.
 use af_time::DevTime;
 
 /// A request. Times are those of the context's or the named device.

@@ -9,8 +9,8 @@ use crate::{Request, opcode};
 use af_time::DevTime;
 use af_wire::Order;
 
-/// Reads one whole frame in the order of its link. None exactly where its opcode is unknown, or its length is not the opcode's. Padding, and bits
-/// that have no meaning, are ignored.
+/// Reads one whole frame in the byte order of its link. None exactly if its opcode is unknown, or its length is not the opcode's.
+/// Padding, and bits that have no meaning, are ignored.
 pub fn read_request<'a>(order: Order, frame: &'a [u8]) -> Option<Request<'a>>
     ensures value { option_map request_meaning result ≡ asked_in order frame.entry.now }
     ensures none { IsNone result ↔ IsNoRequest order frame.entry.now }

@@ -10,8 +10,8 @@ use crate::put::{put, put_zeros};
 use crate::{Request, opcode};
 use af_wire::Order;
 
-/// Writes a request as a frame in an order, its padding as zeros, and answers how many bytes that are. A Play has at most 16368 bytes
-/// of samples.
+/// Writes a request as a frame in an order, its padding as zeros, and answers how many bytes that are. A Play has at most 16368
+/// bytes of samples.
 #[tactic(auto, using(crate::proofs::RequestRoundTrips::spelled_again, crate::proofs::RequestRoundTrips::spelled_one))]
 pub fn write_request(order: Order, request: &Request<'_>, out: &mut [u8]) -> usize
     requires samples { FitsFrame (request_meaning request.now) }
@@ -127,7 +127,7 @@ fn put_front(order: Order, out: &mut [u8], opcode: u8, detail: u8, words: u16) -
     put(out, 0, &[opcode, detail, w0, w1])
 }
 
-// The first word of a request, and a number behind it.
+// The first word of a request, and a number after it.
 fn put_front_and_word(order: Order, out: &mut [u8], kind: [u8; 2], words: u16, word: u32) -> usize
     requires { 8 ≤ length out.old }
     ensures end { result ≡ 8 }

@@ -67,7 +67,7 @@ past_run old new t u k n f size run same past round =
     ∙ ap (λ b. cond b (f k (cell old (t + k))) (cell old (t + k))) (le-ltb k n past)
     ∙ same_cell old (t + k) u size same
 
--- the same of a time that is a round earlier
+-- the same for a time that is a round earlier
 pub before_run : (old new : List ℤ) (t u k n : ℕ) (f : ℕ → ℤ → ℤ) → IsSize (length old) → ChangesRun old new t n f → (t + k) % 2 ^ 32 ≡ (u + length old) % 2 ^ 32 → n ≤ k → k < length old →
     cell new u ≡ cell old u
 before_run old new t u k n f size run same past round =

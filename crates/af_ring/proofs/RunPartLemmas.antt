@@ -24,7 +24,7 @@ part_of t k n size first is room low =
       | inr over ↦ inr (omega arith, omega arith)
     ]
 
--- the n cells from a place on are changed, each to what f makes of its place among them and of what it was; no other cell is
+-- the n cells from a place on are changed, each to what f makes of its place among them and of its old sample; no other cell is
 -- changed
 pub record ChangesPart (old new : List ℤ) (at n : ℕ) (f : ℕ → ℤ → ℤ) : Type 0 where
   pub size : length new ≡ length old
@@ -98,7 +98,7 @@ changes_run old mid new t n first f is room front back =
           ];
     }
 
--- a part, joined with as many samples, of which x is given at each place
+-- a part, joined with as many samples; x is the sample at each place
 pub part_joined : (old samples joined : List ℤ) (at k n : ℕ) (f : ℤ → ℤ → ℤ) (x : ℕ → ℤ) → k ≡ n → at + n ≤ length old → length samples ≡ n →
     joined ≡ zip2 f (take k (drop at old)) samples → ((j : ℕ) → j < n → get_or samples j (pos 0) ≡ x j) →
     (length joined ≡ n) × ((j : ℕ) → j < n → get_or joined j (pos 0) ≡ f (get_or old (at + j) (pos 0)) (x j))

@@ -14,8 +14,8 @@ pub record IsSize (size : ℕ) : Type 0 where
 abbrev pub cell : List ℤ → ℕ → ℤ
 cell cells t = slice_index_or cells (t % length cells) (pos 0)
 
--- of the cells from a time on the first n are changed, each to what f makes of its place in the run
--- and of what it was; no other cell is changed
+-- the first n cells from a time on are changed, each to what f makes of its place in the run and of its old sample; no other cell
+-- is changed
 pub record ChangesRun (old new : List ℤ) (t n : ℕ) (f : ℕ → ℤ → ℤ) : Type 0 where
   pub size : length new ≡ length old
   pub each : (k : ℕ) → k < length old →
@@ -26,7 +26,7 @@ abbrev pub MixesRun : List ℤ → List ℤ → ℕ → List ℤ → Type 0
 MixesRun old new t samples =
     ChangesRun old new t (length samples) (λ k x. mixed x (slice_index_or samples k (pos 0)))
 
--- samples are put into the cells from a time on
+-- samples replace the cells from a time on
 abbrev pub PutsRun : List ℤ → List ℤ → ℕ → List ℤ → Type 0
 PutsRun old new t samples =
     ChangesRun old new t (length samples) (λ k _. slice_index_or samples k (pos 0))

@@ -1,5 +1,6 @@
-// Runs of cells from a time on, over the list of a ring's cells. A run is at most two parts of the list: the cells from the
-// place of its time on, as many as there are before the end of the list, and then those from the start of the list on.
+// Runs of cells from a time on, over the list of a ring's cells.
+// Layout: a run is at most two parts of the list. The first begins at the place of its time, and goes on to the end of the list
+// if it has to. The second begins at the start of the list.
 ghost use Rattle.std.specs.Prelude.{◌≡◌, ◌+◌, ◌-◌, ◌%◌, ◌<◌, ◌≤◌, length, min};
 ghost use Rattle.af_ring.specs.Cells.{ClearsRun, IsRunAt, IsSize, MixesRun, PutsRun};
 
@@ -15,7 +16,7 @@ pub fn place(t: DevTime, size: usize) -> usize
     t.0 as usize % size
 }
 
-// The first part of a run of n times from t on, among so many cells: where it begins, and how many there are. The second part
+// Where the first part of a run of n times from t on begins, among so many cells, and how many cells it has. The second part
 // begins at the first cell.
 fn first_part(t: DevTime, n: usize, size: usize) -> (usize, usize)
     requires { 0 < size }

@@ -1,8 +1,8 @@
 // The ring, and what it promises of each cell.
-// How it lies: one vector of 2^bits samples. The sample of a time lies at the time modulo that size, which divides 2^32, so a
-// whole time and its 32-bit word, which wraps, have the same cell. There is no head and no tail, and nothing is moved as time
-// goes by: who owns a ring knows its now, and silences the cells that it is done with. A run of times that meets the end of the
-// vector goes on at its start. Contracts see the list of the cells.
+// Layout: one vector of 2^bits samples. The sample of a time is at the time modulo that size, which divides 2^32, so a whole time
+// and its 32-bit word, which wraps, have the same cell. There is no head and no tail, and nothing is moved as time goes by: the
+// owner of a ring knows its now, and silences the cells that it is done with. A run of times that meets the end of the vector
+// goes on at its start. Contracts see the list of the cells.
 ghost use Rattle.std.specs.Prelude.{◌≡◌, ◌%◌, ◌^◌, ◌≤◌, length, IfOk, pos, replicate, slice_set};
 ghost use Rattle.af_ring.specs.Cells.{cell, ClearsRun, IsRunAt, MixesRun, PutsRun};
 

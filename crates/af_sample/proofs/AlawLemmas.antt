@@ -136,7 +136,7 @@ on_its_line m (suc k) high seg =
     let whole : least 4 m 6 ≡ line 4 m k = least_is 4 m 6 k (omega arith) (omega arith) (omega arith) in
     omega arith
 
--- the least that the lines say
+-- the least value of the lines
 pub least_value : (m : ℕ) → m < 32768 → least 4 m 6 ≡ interval_of alaw_starts m
 least_value m low =
     elim (cases_lt m 256) [

@@ -42,7 +42,7 @@ place_from channels i n c late =
     let low : channels * n ≤ channels * i = mul-le channels n channels i (omega arith) late in
     omega arith
 
--- so times can be told by their places
+-- so times can be compared by their places
 pub time_before : (channels t start c : ℕ) → channels * t + c < channels * start → t < start
 time_before channels t start c early = elim (cases_lt t start) [
   | inl before ↦ before
@@ -68,7 +68,7 @@ place_past channels start t c k from same =
     let apart : channels * (start + (t - start)) ≡ channels * t = ap (λ m. channels * m) (let e : start + (t - start) ≡ t = omega arith in e) in
     past_by channels start (t - start) t c k apart same
 
--- samples behind whole frames are of as much later frames, and of the same channels
+-- samples after whole frames are of frames that much later, and of the same channels
 pub frame_behind : (channels k j : ℕ) → 0 < channels → (channels * k + j) / channels ≡ k + j / channels
 frame_behind channels k j some = mul-add-div some k j
 

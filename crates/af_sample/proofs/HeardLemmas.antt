@@ -5,19 +5,19 @@ use Rattle.std.proofs.lemmas.Bool.{cases_lt, le-leb, lt-leb, lt-ltb}
 use Rattle.std.proofs.lemmas.List.{get_or_append_left}
 use Rattle.std.proofs.lemmas.List.Sums.{fold_push, fold-append}
 use Rattle.af_sample.specs.Channels.{frame_count}
-use Rattle.af_sample.specs.Heard.{heard, with_entry, blended, sample_of_entry, AcceptedPlay}
-use Rattle.af_sample.specs.Window.{recorded}
+use Rattle.af_sample.specs.Heard.{heard_sample, with_entry, sound_with_sample, sample_of_entry, AcceptedPlay}
+use Rattle.af_sample.specs.Window.{recorded_sample}
 use Rattle.af_sample.proofs.FrameLemmas.{place_before}
 
-pub heard-push : (channels : ℕ) (accepted : List AcceptedPlay) (e : AcceptedPlay) (t channel : ℕ) →
-    heard channels (accepted ++ e ∷ []) t channel ≡ with_entry channels t channel (heard channels accepted t channel) e
-unfolding heard
-heard-push channels accepted e t channel = fold_push (with_entry channels t channel) (pos 0) accepted e
+pub heard_sample-push : (channels : ℕ) (accepted : List AcceptedPlay) (e : AcceptedPlay) (t channel : ℕ) →
+    heard_sample channels (accepted ++ e ∷ []) t channel ≡ with_entry channels t channel (heard_sample channels accepted t channel) e
+unfolding heard_sample
+heard_sample-push channels accepted e t channel = fold_push (with_entry channels t channel) (pos 0) accepted e
 
--- an entry that was accepted after a time says nothing of it
+-- a play that was accepted after a time does not change it
 late_entry : (channels : ℕ) (e : AcceptedPlay) (t channel : ℕ) (sound : ℤ) → t < e.at → with_entry channels t channel sound e ≡ sound
 late_entry channels e t channel sound late =
-    ap (λ b. cond (b && (nat_le e.start t && nat_lt t (e.start + frame_count channels e.samples))) (blended e.preempt sound (sample_of_entry channels e t channel)) sound)
+    ap (λ b. cond (b && (nat_le e.start t && nat_lt t (e.start + frame_count channels e.samples))) (sound_with_sample e.preempt sound (sample_of_entry channels e t channel)) sound)
     (lt-leb e.at t late)
 
 late_entries : (channels : ℕ) (more : List AcceptedPlay) (t channel : ℕ) (sound : ℤ) → All (λ e. t < e.at) more → fold (with_entry channels t channel) sound more ≡ sound
@@ -26,65 +26,65 @@ late_entries channels (e ∷ more) t channel sound late =
     ap (λ s. fold (with_entry channels t channel) s more) (late_entry channels e t channel sound (late 0 e (omega arith)))
     ∙ late_entries channels more t channel sound (λ k d low. late (suc k) d (omega arith))
 
-pub heard-append : (channels : ℕ) (accepted more : List AcceptedPlay) (t channel : ℕ) → All (λ e. t < e.at) more →
-    heard channels (accepted ++ more) t channel ≡ heard channels accepted t channel
-unfolding heard
-heard-append channels accepted more t channel late =
-    fold-append (with_entry channels t channel) (pos 0) accepted more ∙ late_entries channels more t channel (heard channels accepted t channel) late
+pub heard_sample-append : (channels : ℕ) (accepted more : List AcceptedPlay) (t channel : ℕ) → All (λ e. t < e.at) more →
+    heard_sample channels (accepted ++ more) t channel ≡ heard_sample channels accepted t channel
+unfolding heard_sample
+heard_sample-append channels accepted more t channel late =
+    fold-append (with_entry channels t channel) (pos 0) accepted more ∙ late_entries channels more t channel (heard_sample channels accepted t channel) late
 
 -- three plays at one time: two that saturate, and a third that is mixed with their sum or replaces it
 abbrev play : ℤ → Bool → AcceptedPlay
 play x preempt = record { start = 2; samples = x ∷ []; preempt = preempt; at = 0 }
 
-mixed_third : heard 1 (play (pos 30000) false ∷ play (pos 10000) false ∷ play (negsuc 19999) false ∷ []) 2 0 ≡ pos 12767
-unfolding heard
+mixed_third : heard_sample 1 (play (pos 30000) false ∷ play (pos 10000) false ∷ play (negsuc 19999) false ∷ []) 2 0 ≡ pos 12767
+unfolding heard_sample
 mixed_third = refl
 
-preempting_third : heard 1 (play (pos 30000) false ∷ play (pos 10000) false ∷ play (negsuc 19999) true ∷ []) 2 0 ≡ negsuc 19999
-unfolding heard
+preempting_third : heard_sample 1 (play (pos 30000) false ∷ play (pos 10000) false ∷ play (negsuc 19999) true ∷ []) 2 0 ≡ negsuc 19999
+unfolding heard_sample
 preempting_third = refl
 
--- two frames of two channels: each channel hears its own samples, and a time past the frames none
+-- two frames of two channels: each channel hears its own samples, and after the frames there is none
 abbrev play_of_two : AcceptedPlay
 play_of_two = record { start = 2; samples = pos 5 ∷ negsuc 6 ∷ pos 7 ∷ pos 0 ∷ []; preempt = false; at = 0 }
 
-left_of_first : heard 2 (play_of_two ∷ []) 2 0 ≡ pos 5
-unfolding heard
+left_of_first : heard_sample 2 (play_of_two ∷ []) 2 0 ≡ pos 5
+unfolding heard_sample
 left_of_first = refl
 
-right_of_first : heard 2 (play_of_two ∷ []) 2 1 ≡ negsuc 6
-unfolding heard
+right_of_first : heard_sample 2 (play_of_two ∷ []) 2 1 ≡ negsuc 6
+unfolding heard_sample
 right_of_first = refl
 
-left_of_second : heard 2 (play_of_two ∷ []) 3 0 ≡ pos 7
-unfolding heard
+left_of_second : heard_sample 2 (play_of_two ∷ []) 3 0 ≡ pos 7
+unfolding heard_sample
 left_of_second = refl
 
-past_both : heard 2 (play_of_two ∷ []) 4 0 ≡ pos 0
-unfolding heard
+past_both : heard_sample 2 (play_of_two ∷ []) 4 0 ≡ pos 0
+unfolding heard_sample
 past_both = refl
 
 -- a time of the window, and one before the begin
 pub recorded_within : (channels : ℕ) (captured : List ℤ) (begin now horizon t channel : ℕ) → now ≤ t + horizon → t < now → begin ≤ t →
-    recorded channels captured begin now horizon t channel ≡ slice_index_or captured (channels * (t - begin) + channel) (pos 0)
-unfolding recorded
+    recorded_sample channels captured begin now horizon t channel ≡ slice_index_or captured (channels * (t - begin) + channel) (pos 0)
+unfolding recorded_sample
 recorded_within channels captured begin now horizon t channel near past begun =
     ap (λ b. cond (b && (nat_lt t now && nat_le begin t)) (slice_index_or captured (channels * (t - begin) + channel) (pos 0)) (pos 0)) (le-leb now (t + horizon) near)
     ∙ ap (λ b. cond (b && nat_le begin t) (slice_index_or captured (channels * (t - begin) + channel) (pos 0)) (pos 0)) (lt-ltb t now past)
     ∙ ap (λ b. cond b (slice_index_or captured (channels * (t - begin) + channel) (pos 0)) (pos 0)) (le-leb begin t begun)
 
 pub recorded_before : (channels : ℕ) (captured : List ℤ) (begin now horizon t channel : ℕ) → now ≤ t + horizon → t < now → t < begin →
-    recorded channels captured begin now horizon t channel ≡ pos 0
-unfolding recorded
+    recorded_sample channels captured begin now horizon t channel ≡ pos 0
+unfolding recorded_sample
 recorded_before channels captured begin now horizon t channel near past early =
     ap (λ b. cond (b && (nat_lt t now && nat_le begin t)) (slice_index_or captured (channels * (t - begin) + channel) (pos 0)) (pos 0)) (le-leb now (t + horizon) near)
     ∙ ap (λ b. cond (b && nat_le begin t) (slice_index_or captured (channels * (t - begin) + channel) (pos 0)) (pos 0)) (lt-ltb t now past)
     ∙ ap (λ b. cond b (slice_index_or captured (channels * (t - begin) + channel) (pos 0)) (pos 0)) (lt-leb begin t early)
 
 -- as n frames go by, whatever is captured in them
-pub recorded-append : (channels : ℕ) (captured more : List ℤ) (begin now n horizon t channel : ℕ) → length captured ≡ channels * (now - begin) → channel < channels → t < now → now + n ≤ t + horizon →
-    recorded channels (captured ++ more) begin (now + n) horizon t channel ≡ recorded channels captured begin now horizon t channel
-recorded-append channels captured more begin now n horizon t channel all listed past near =
+pub recorded_sample-append : (channels : ℕ) (captured more : List ℤ) (begin now n horizon t channel : ℕ) → length captured ≡ channels * (now - begin) → channel < channels → t < now → now + n ≤ t + horizon →
+    recorded_sample channels (captured ++ more) begin (now + n) horizon t channel ≡ recorded_sample channels captured begin now horizon t channel
+recorded_sample-append channels captured more begin now n horizon t channel all listed past near =
     elim (cases_lt t begin) [
       | inl early ↦
           recorded_before channels (captured ++ more) begin (now + n) horizon t channel near (omega arith) early

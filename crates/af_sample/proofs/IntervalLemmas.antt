@@ -1,31 +1,31 @@
--- The interval of a magnitude, where the starts rise: the place whose start is not above it and whose
--- next start is.
+-- The interval of a magnitude, if the starts rise: the place whose start is at most the magnitude and whose next start is above
+-- it.
 use Rattle.std.proofs.Common.{◌≡◌, ◌<◌, ◌≤◌, ◌+◌, ◌-◌, ◌&&◌, ℕ, zero, suc, Bool, true, cond, nat_le, List, [], ◌∷◌, length, slice_index, refl, ap, ◌∙◌, arith}
 use Rattle.std.specs.List.{count_by}
 use Rattle.std.proofs.lemmas.Bool.{and_parts, leb-true, le-leb, lt-leb}
 use Rattle.std.proofs.lemmas.List.Sums.{sum_by-cons}
 use Rattle.af_sample.specs.G711.{interval_of}
 
--- no element is below the one before it, nor the first below a limit
+-- each element is at least the one before it, and the first at least a limit
 abbrev pub rises : ℕ → List ℕ → Bool
 rises low [] = true
 rises low (x ∷ xs) = nat_le low x && rises x xs
 
--- how many starts are not above a magnitude
-abbrev pub reached : ℕ → List ℕ → ℕ
-reached m xs = count_by (λ start. nat_le start m) xs
+-- how many starts are at most a magnitude
+abbrev pub starts_reached : ℕ → List ℕ → ℕ
+starts_reached m xs = count_by (λ start. nat_le start m) xs
 
-reached_yes : (m x : ℕ) (xs : List ℕ) → x ≤ m → reached m (x ∷ xs) ≡ suc (reached m xs)
+reached_yes : (m x : ℕ) (xs : List ℕ) → x ≤ m → starts_reached m (x ∷ xs) ≡ suc (starts_reached m xs)
 reached_yes m x xs low =
     sum_by-cons (λ start. cond (nat_le start m) 1 0) x xs
-    ∙ ap (λ b. cond b 1 0 + reached m xs) (le-leb x m low) ∙ omega arith
+    ∙ ap (λ b. cond b 1 0 + starts_reached m xs) (le-leb x m low) ∙ omega arith
 
-reached_no : (m x : ℕ) (xs : List ℕ) → m < x → reached m (x ∷ xs) ≡ reached m xs
+reached_no : (m x : ℕ) (xs : List ℕ) → m < x → starts_reached m (x ∷ xs) ≡ starts_reached m xs
 reached_no m x xs high =
     sum_by-cons (λ start. cond (nat_le start m) 1 0) x xs
-    ∙ ap (λ b. cond b 1 0 + reached m xs) (lt-leb x m high) ∙ omega arith
+    ∙ ap (λ b. cond b 1 0 + starts_reached m xs) (lt-leb x m high) ∙ omega arith
 
-none_reached : (m low : ℕ) (xs : List ℕ) → rises low xs ≡ true → m < low → reached m xs ≡ 0
+none_reached : (m low : ℕ) (xs : List ℕ) → rises low xs ≡ true → m < low → starts_reached m xs ≡ 0
 none_reached m low [] up high = refl
 none_reached m low (x ∷ xs) up high =
     let parts = and_parts (nat_le low x) (rises x xs) up in
@@ -41,7 +41,7 @@ above_limit low (x ∷ xs) (suc k) up there =
     let rest : x ≤ slice_index xs k = above_limit x xs k parts.1 (omega arith) in
     omega arith
 
-reached_at : (m low : ℕ) (xs : List ℕ) (k : ℕ) → rises low xs ≡ true → k < length xs → slice_index xs k ≤ m → (suc k < length xs → m < slice_index xs (suc k)) → reached m xs ≡ suc k
+reached_at : (m low : ℕ) (xs : List ℕ) (k : ℕ) → rises low xs ≡ true → k < length xs → slice_index xs k ≤ m → (suc k < length xs → m < slice_index xs (suc k)) → starts_reached m xs ≡ suc k
 reached_at m low [] k up there from to = absurd (omega arith)
 reached_at m low (x ∷ []) zero up there from to = reached_yes m x [] from
 reached_at m low (x ∷ y ∷ ys) zero up there from to =

@@ -1,12 +1,12 @@
--- The interval of a number by the lines of the segments: outside of its segment a line is never below the others.
+-- The interval of a number by the lines of the segments: outside its segment a line is at or above the others.
 use Rattle.std.proofs.Common.{◌≡◌, ◌<◌, ◌≤◌, ◌+◌, ◌-◌, ◌*◌, ◌/◌, ◌^◌, ℕ, zero, suc, min, refl, sym, subst, ap, ◌∙◌, arith}
 use Rattle.std.proofs.lemmas.Nat.{shr-shr}
 
--- what the line of segment k says of a, where each step of the first segment has 2 ^ s numbers
+-- the value of the line of segment k at a, if each step of the first segment has 2 ^ s numbers
 abbrev pub line : ℕ → ℕ → ℕ → ℕ
 line s a k = a / 2 ^ (k + s) + k * 16
 
--- the least that the lines of the segments 0 to k say
+-- the least value of the lines of the segments 0 to k
 unfoldable pub least : ℕ → ℕ → ℕ → ℕ
 least s a zero = a / 2 ^ s
 least s a (suc k) = min (least s a k) (line s a (suc k))
@@ -19,7 +19,7 @@ least-suc : (s a k : ℕ) → least s a (suc k) ≡ min (least s a k) (line s a 
 unfolding least
 least-suc s a k = refl
 
--- a line more, as the code takes it
+-- one more line, as the code takes it
 pub with_line : (s a k r r' : ℕ) → r ≡ least s a k → r' ≡ min r (line s a (suc k)) → r' ≡ least s a (suc k)
 with_line s a k r r' before here = here ∙ ap (λ n. min n (line s a (suc k))) before ∙ sym (least-suc s a k)
 

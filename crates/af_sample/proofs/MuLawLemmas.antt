@@ -11,7 +11,7 @@ use Rattle.af_sample.proofs.IntervalLemmas.{rises, interval_is}
 use Rattle.af_sample.proofs.SegmentLemmas.{InSegment, segment_of, place, code, code_is, from, to}
 use Rattle.af_sample.proofs.LineLemmas.{line, least, least_is}
 
--- a start, biased, is 16 and more steps of its segment, but for the first, which is 0
+-- a start, biased, is 16 and more steps of its segment, except the first, which is 0
 abbrev is_start : ℕ → ℕ → Bool
 is_start p start = nat_eq (start + 132) ((16 + p % 16) * 2 ^ (p / 16 + 3)) || (nat_eq p 0 && nat_eq start 0)
 
@@ -92,7 +92,7 @@ code_value m r limited =
     let seg = segment_of (r + 132) (omega arith) (omega arith) in
     code_is (r + 132) seg.0 seg.1 ∙ limited_place m r seg.0 limited seg.1
 
--- the least that the lines say
+-- the least value of the lines
 pub least_value : (m r : ℕ) → r ≡ min m 32635 → least 3 (r + 132) 7 ≡ interval_of mu_law_starts m + 16
 least_value m r limited =
     let seg = segment_of (r + 132) (omega arith) (omega arith) in

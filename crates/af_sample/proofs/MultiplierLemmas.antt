@@ -4,26 +4,26 @@ use Rattle.std.proofs.lemmas.Int.{ints}
 use Rattle.std.proofs.lemmas.Bool.{and_parts, cases_lt, cases_order, cases_Bool, not-true, leb-true, le-leb, lt-leb, false_from_ne_true, true≢false}
 use Rattle.std.proofs.lemmas.Nat.{mul-le}
 use Rattle.std.proofs.Math.Nat.{pow-le-pow_left, one-le-pow, pow-suc}
-use Rattle.af_sample.specs.Gains.{is_within, greatest, multiplier, IsGain}
+use Rattle.af_sample.specs.Gains.{is_within, greatest_number, multiplier, IsGain}
 use Rattle.af_sample.proofs.TableLemmas.{all_from, entry_passes}
 
--- the greatest is the one that passes below which all that pass are
-pub greatest_is : (passes : ℕ → Bool) (n m : ℕ) → m ≤ n → passes m ≡ true → ((k : ℕ) → m < k → passes k ≡ false) → greatest passes n ≡ m
+-- the greatest is a number that passes, if none above it passes
+pub greatest_is : (passes : ℕ → Bool) (n m : ℕ) → m ≤ n → passes m ≡ true → ((k : ℕ) → m < k → passes k ≡ false) → greatest_number passes n ≡ m
 greatest_is passes zero m low here above = omega arith
 greatest_is passes (suc n) m low here above =
     elim (cases_order m (suc n)) [
       | inl same ↦
           let e : passes (suc n) ≡ true = ap passes (sym same) ∙ here in
-          ap (λ b. cond b (suc n) (greatest passes n)) e ∙ sym same
+          ap (λ b. cond b (suc n) (greatest_number passes n)) e ∙ sym same
       | inr other ↦ elim other [
         | inl less ↦
-            ap (λ b. cond b (suc n) (greatest passes n)) (above (suc n) less)
+            ap (λ b. cond b (suc n) (greatest_number passes n)) (above (suc n) less)
             ∙ greatest_is passes n m (omega arith) here above
         | inr more ↦ absurd (omega arith)
       ]
     ]
 
--- what is within n decibels, so is what is less
+-- if a number is within n decibels, so is each smaller one
 pub within_less : (db : ℤ) (k m : ℕ) → k ≤ m → is_within db m ≡ true → is_within db k ≡ true
 within_less (pos n) k m low h =
     let less : k ^ 20 ≤ m ^ 20 = pow-le-pow_left low 20 in
@@ -36,7 +36,7 @@ within_less (negsuc n) k m low h =
     mul-le (k ^ 20) (10 ^ suc n) (m ^ 20) (10 ^ suc n) less (omega arith) in
     le-leb (k ^ 20 * 10 ^ suc n) (1024 ^ 20) (omega arith)
 
--- a number is not above its powers
+-- a number is at most its powers
 self_power : (k : ℕ) → 0 < k → k ≤ k ^ 20
 self_power k some =
     let e : k ^ 20 ≡ k ^ 19 * k = pow-suc k 19 in
@@ -73,21 +73,21 @@ none_within : (db : ℤ) → is_within db 0 ≡ true
 none_within (pos n) = le-leb 0 (1024 ^ 20 * 10 ^ n) (omega arith)
 none_within (negsuc n) = le-leb (0 ^ 20 * 10 ^ suc n) (1024 ^ 20) (omega arith)
 
-greatest_passes : (passes : ℕ → Bool) (n : ℕ) → passes 0 ≡ true → passes (greatest passes n) ≡ true
+greatest_passes : (passes : ℕ → Bool) (n : ℕ) → passes 0 ≡ true → passes (greatest_number passes n) ≡ true
 greatest_passes passes zero none = none
 greatest_passes passes (suc n) none =
     elim (cases_Bool (passes (suc n))) [
-      | inl top ↦ ap (λ b. passes (cond b (suc n) (greatest passes n))) top ∙ top
-      | inr less ↦ ap (λ b. passes (cond b (suc n) (greatest passes n))) less ∙ greatest_passes passes n none
+      | inl top ↦ ap (λ b. passes (cond b (suc n) (greatest_number passes n))) top ∙ top
+      | inr less ↦ ap (λ b. passes (cond b (suc n) (greatest_number passes n))) less ∙ greatest_passes passes n none
     ]
 
-greatest_above : (passes : ℕ → Bool) (n m : ℕ) → m ≤ n → passes m ≡ true → m ≤ greatest passes n
+greatest_above : (passes : ℕ → Bool) (n m : ℕ) → m ≤ n → passes m ≡ true → m ≤ greatest_number passes n
 greatest_above passes zero m low here = low
 greatest_above passes (suc n) m low here =
     elim (cases_Bool (passes (suc n))) [
-      | inl top ↦ subst (λ k. m ≤ k) (sym (ap (λ b. cond b (suc n) (greatest passes n)) top)) low
+      | inl top ↦ subst (λ k. m ≤ k) (sym (ap (λ b. cond b (suc n) (greatest_number passes n)) top)) low
       | inr less ↦
-          subst (λ k. m ≤ k) (sym (ap (λ b. cond b (suc n) (greatest passes n)) less))
+          subst (λ k. m ≤ k) (sym (ap (λ b. cond b (suc n) (greatest_number passes n)) less))
           (elim (cases_order m (suc n)) [
             | inl same ↦ absurd (true≢false (sym here ∙ ap passes same ∙ less))
             | inr other ↦ elim other [

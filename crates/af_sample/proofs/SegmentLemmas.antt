@@ -74,8 +74,8 @@ code_is a e seg =
     let segment : 8 - count_leading_zeros 16 a ≡ e = omega arith in
     ap (λ k. bit_or (k * 16 % 256) (bit_and (a / 2 ^ (k + 3)) 15)) segment ∙ joined e (a / 2 ^ (e + 3)) few
 
--- where each start, from a lowest place on and with a bias, is 16 and more steps of its segment, the
--- start at a number's place is not above the number, and the next start is
+-- if each start, from a lowest place on and with a bias, is 16 and more steps of its segment, then the start at a number's place
+-- is at most the number, and the next start is above it
 module _ (starts : List ℕ) (bias lowest : ℕ) (start_of : (p e m : ℕ) → m < 16 → p ≡ e * 16 + m → p < 128 → lowest ≤ p → slice_index starts p + bias ≡ (16 + m) * 2 ^ (e + 3)) where
   pub from : (m a e : ℕ) → a ≡ m + bias → InSegment a e → lowest ≤ place a e → slice_index starts (place a e) ≤ m
   from m a e biased seg high =

@@ -1,4 +1,4 @@
--- The written table of segments: each entry is the highest bit of its place, but for place 0.
+-- The written table of segments: each entry is the highest bit of its place, except place 0.
 use Rattle.std.proofs.Common.{◌≡◌, ◌<◌, ◌≤◌, ◌+◌, ◌-◌, ◌*◌, ◌/◌, ◌^◌, ◌&&◌, ◌||◌, inl, inr, ℕ, Bool, true, nat_eq, nat_lt, nat_le, List, length, slice_index, sym, ap, ◌∙◌, arith}
 use Rattle.std.specs.Int.Count.{count_leading_zeros, leading_unique}
 use Rattle.std.proofs.lemmas.Bool.{and_parts, or_cases, eqb-true, ltb-true, leb-true}

@@ -7,7 +7,7 @@ abbrev pub all_from : (ℕ → ℕ → Bool) → ℕ → List ℕ → Bool
 all_from passes i [] = true
 all_from passes i (x ∷ xs) = passes i x && all_from passes (suc i) xs
 
--- what the test of the whole table says of one entry
+-- what the test of the whole table means for one entry
 pub entry_passes : (passes : ℕ → ℕ → Bool) (i : ℕ) (xs : List ℕ) (k : ℕ) → all_from passes i xs ≡ true → k < length xs → passes (k + i) (slice_index xs k) ≡ true
 entry_passes passes i [] k all low = absurd (omega arith)
 entry_passes passes i (x ∷ xs) zero all low =

@@ -1,4 +1,4 @@
--- Runs of samples that are worked on by full vectors: what one vector more changes.
+-- Runs of samples that are worked on by full vectors: what one more vector changes.
 use Rattle.std.proofs.Common.{◌≡◌, ◌<◌, ◌≤◌, ◌+◌, ◌*◌, ◌-◌, inl, inr, ℕ, ℤ, pos, List, [], ◌∷◌, ◌++◌, map, length, get_or, refl, sym, ap, ap₂, ◌∙◌, subst, arith, to_z, of_z}
 use Rattle.std.proofs.lemmas.Bool.{cases_lt}
 use Rattle.std.proofs.lemmas.List.{ext_get_or}
@@ -10,7 +10,7 @@ use Rattle.af_sample.specs.Gains.{gained}
 use Rattle.af_sample.proofs.GainLemmas.{unity}
 use Rattle.af_sample.proofs.LaneLemmas.{same_lanes}
 
--- the lanes that are loaded where nothing has changed yet are the samples from there on
+-- the lanes that are loaded from a part without changes are the samples there
 pub loaded : (old onto : List ℤ) (at : ℕ) → length onto ≡ length old → at + 16 ≤ length old → Each1 (SFits w16) old →
     ((k : ℕ) → at ≤ k → get_or onto k (pos 0) ≡ get_or old k (pos 0)) → map (to_z w16) (map (of_z w16) (chunk at 16 onto)) ≡ chunk at 16 old
 loaded old onto at size room fits same =

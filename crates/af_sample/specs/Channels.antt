@@ -1,5 +1,5 @@
--- Channels: a device has one or two. A frame has one sample for each, the left one first, and a list of samples has its frames one
--- after the other: the sample at place j is of frame j / channels, and of channel j % channels.
+-- Channels: a device has one or two. A frame has one sample for each, the left one first. A list of samples has its frames one
+-- after another: the sample at place j is of frame j / channels, and of channel j % channels.
 use Rattle.std.specs.Prelude.{◌≡◌, ℕ, ◌*◌, ◌/◌, ◌==◌, ◌||◌, Bool, ℤ, List, length, IsTrue}
 
 abbrev pub is_channel_count : ℕ → Bool

@@ -1,11 +1,11 @@
 -- The companding of ITU-T G.711: a signed 16-bit sample in one byte, by mu-law and by A-law.
 --
--- Encoding is by lists of interval starts: a magnitude falls into the interval with the greatest
--- start that is not above it, so a magnitude that equals a start is in the upper interval.
+-- Encoding is by lists of interval starts: a magnitude is in the last interval whose start is at most that magnitude. So a
+-- magnitude that equals a start is in the upper interval.
 use Rattle.std.specs.Prelude.{ℕ, suc, ◌+◌, ◌-◌, ◌*◌, nat_le, bit_xor, ℤ, pos, negsuc, List, [], ◌∷◌, map, slice_index_or}
 use Rattle.std.specs.List.{count_by}
 
--- the place, from 0, of a magnitude among intervals: how many of their starts are not above it, less 1
+-- the place, from 0, of a magnitude among intervals: how many of their starts are at most the magnitude, less 1
 abbrev pub interval_of : List ℕ → ℕ → ℕ
 interval_of starts magnitude = count_by (λ start. nat_le start magnitude) starts - 1
 

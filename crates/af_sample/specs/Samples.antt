@@ -7,7 +7,7 @@ use Rattle.af_sample.specs.declared.sample_type.SampleType.TheVariants.{Mu255, A
 use Rattle.af_sample.specs.SampleTypes.{width_of}
 use Rattle.af_sample.specs.G711.{from_mu_law, to_mu_law, from_alaw, to_alaw}
 
--- the sample that the bytes of one sample mean: of 32 bits the upper 16, by an arithmetic shift
+-- the sample that the bytes of one sample mean; 32 bits lose the lower 16, by an arithmetic shift
 abbrev pub decoded : SampleType → List ℕ → ℤ
 decoded Mu255 bytes = from_mu_law (slice_index bytes 0)
 decoded Alaw bytes = from_alaw (slice_index bytes 0)

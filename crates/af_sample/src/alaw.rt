@@ -4,7 +4,7 @@ ghost use Rattle.af_sample.specs.G711.{alaw_starts, from_alaw, interval_of, to_a
 
 use crate::segment::segment_of;
 
-// Every second bit of a byte is inverted, the last among them.
+// Every second bit of a byte is inverted, the lowest among them.
 const EVEN_BITS: u8 = 0x55;
 
 // The samples of the 256 bytes.

@@ -1,11 +1,11 @@
-// Samples between their bytes and 16 bits: one, and runs of them.
+// Samples between their bytes and 16 bits: one sample, and runs of them.
 ghost use Rattle.std.specs.Prelude.{◌≡◌, ◌*◌, length};
 ghost use Rattle.af_sample.specs.SampleTypes.{width_of};
 ghost use Rattle.af_sample.specs.Samples.{bytes_of, decoded, encoded, samples};
 
 use crate::{SampleType, alaw, mu_law};
 
-/// The sample that the bytes of one sample mean. Of 32 bits it is the upper 16.
+/// The sample that the bytes of one sample mean. 32 bits lose the lower 16.
 pub fn decode(ty: SampleType, bytes: &[u8]) -> i16
     requires { length bytes.now ≡ width_of ty }
     ensures { result ≡ decoded ty bytes.now }
@@ -33,8 +33,8 @@ pub fn encode(ty: SampleType, x: i16, out: &mut [u8])
     }
 }
 
-// Decodes sample by sample. It is laid out anew where it is called, for the one type that is named there: of a loop with a
-// known width the compiler makes one on lanes.
+// Decodes sample by sample. It is inlined where it is called, for the one type that is named there: the compiler makes vector
+// code of a loop with a known width.
 #[inline(always)]
 fn decode_each(ty: SampleType, bytes: &[u8], out: &mut [i16])
     requires { length bytes.now ≡ length out.old * width_of ty }
@@ -60,8 +60,8 @@ pub fn convert_in(ty: SampleType, bytes: &[u8], out: &mut [i16])
     }
 }
 
-// Encodes a sample of a run. The laws go without a table, since the compiler puts only such a loop on lanes. `encode` keeps the
-// table, which is the shorter way for one sample.
+// Encodes a sample of a run. The laws go without a table, since the compiler makes vector code only of such a loop. `encode`
+// keeps the table, which is faster for one sample.
 #[inline(always)]
 fn encode_in_run(ty: SampleType, x: i16, out: &mut [u8])
     requires { length out.old ≡ width_of ty }

@@ -3,9 +3,9 @@ ghost use Rattle.std.specs.Prelude.{◌≡◌, ◌≢◌, ◌+◌, ◌-◌, ◌*
 ghost use Rattle.std.specs.Int.{w16};
 ghost use Rattle.std.specs.List.{All};
 ghost use Rattle.af_sample.specs.Gains.{is_within, multiplier};
-ghost use Rattle.af_sample.specs.Heard.{heard, with_entry, AcceptedPlay};
+ghost use Rattle.af_sample.specs.Heard.{heard_sample, with_entry, AcceptedPlay};
 ghost use Rattle.af_sample.specs.Samples.{decoded, encoded};
-ghost use Rattle.af_sample.specs.Window.{recorded};
+ghost use Rattle.af_sample.specs.Window.{recorded_sample};
 
 use crate::SampleType;
 
@@ -33,15 +33,16 @@ pub fn greatest_multiplier()
 /// A play that is accepted is blended into what was heard before, channel by channel, and what was past by then stays.
 pub fn heard_grows()
     ensures next { (channels : ℕ) (accepted : List AcceptedPlay) (e : AcceptedPlay) (t channel : ℕ) →
-        heard channels (accepted ++ e ∷ []) t channel ≡ with_entry channels t channel (heard channels accepted t channel) e }
+        heard_sample channels (accepted ++ e ∷ []) t channel
+        ≡ with_entry channels t channel (heard_sample channels accepted t channel) e }
     ensures past { (channels : ℕ) (accepted more : List AcceptedPlay) (t channel : ℕ) → All (λ e. t < e.at) more →
-        heard channels (accepted ++ more) t channel ≡ heard channels accepted t channel }
+        heard_sample channels (accepted ++ more) t channel ≡ heard_sample channels accepted t channel }
 {}
 
 /// What was captured stays recorded, in each channel, until the horizon has passed it.
 pub fn recorded_stays()
     ensures { (channels : ℕ) (captured more : List ℤ) (begin now n horizon t channel : ℕ) →
         length captured ≡ channels * (now - begin) → channel < channels → t < now → now + n ≤ t + horizon →
-        recorded channels (captured ++ more) begin (now + n) horizon t channel
-        ≡ recorded channels captured begin now horizon t channel }
+        recorded_sample channels (captured ++ more) begin (now + n) horizon t channel
+        ≡ recorded_sample channels captured begin now horizon t channel }
 {}

@@ -62,8 +62,8 @@ pub(crate) fn compressed(x: i16) -> u8
 }
 
 // The interval of a magnitude, 0..127, without a table: so the compiler encodes several samples of a run at once. Each segment is
-// a piece of a line, and each line is flatter than the one before. So no line is ever below the curve that the pieces make, and
-// the interval is the least that a line says.
+// a straight line, and each is flatter than the one before. So every line is on or above the curve that the segments make, and
+// the least of their values is the interval.
 #[inline(always)]
 fn interval_by_lines(magnitude: u16) -> u8
     ensures value { result ≡ interval_of mu_law_starts magnitude }

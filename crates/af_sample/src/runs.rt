@@ -1,4 +1,4 @@
-// Work on runs of samples: on as many full vectors as there are, and then sample by sample on the rest.
+// Work on runs of samples: on as many full vectors as fit, and then sample by sample on the rest.
 ghost use Rattle.std.specs.Prelude.{◌≡◌, ◌%◌, length, map};
 ghost use Rattle.std.specs.Simd.Lanes.{zip2};
 ghost use Rattle.af_sample.specs.Gains.{gained};
@@ -9,7 +9,7 @@ use crate::lanes::LANES;
 use crate::{Gain, gain_lanes, gained, mix_lanes, mixed};
 use std::simd::prelude::*;
 
-// Reads each sample, so that a proof knows that it has 16 bits. The compiler leaves nothing of it.
+// Reads each sample, so that a proof knows that it has 16 bits. The compiler removes all of it.
 fn know_range(samples: &[i16])
     ensures { AreSamples samples.now }
 {

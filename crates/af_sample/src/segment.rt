@@ -1,8 +1,8 @@
-// The segments of G.711: each holds the magnitudes from a power of two to the next, and the first also all below.
+// The segments of G.711: each holds the magnitudes from a power of two to the next. The first one also holds all lower ones.
 ghost use Rattle.std.specs.Prelude.{◌≡◌, ◌-◌, ◌<◌};
 ghost use Rattle.std.specs.Int.Count.{count_leading_zeros};
 
-// The segment of each 128 magnitudes.
+// The segment of each range of 128 magnitudes.
 static SEGMENTS: [u8; 256] = [
     0, 0, 1, 1, 2, 2, 2, 2, 3, 3, 3, 3, 3, 3, 3, 3, 4, 4, 4, 4, 4, 4, 4, 4, 4, 4, 4, 4, 4, 4, 4, 4,
     5, 5, 5, 5, 5, 5, 5, 5, 5, 5, 5, 5, 5, 5, 5, 5, 5, 5, 5, 5, 5, 5, 5, 5, 5, 5, 5, 5, 5, 5, 5, 5,

@@ -8,7 +8,7 @@ use Rattle.af_world.specs.declared.script.DeviceSpec.{DeviceSpec}
 use Rattle.af_world.specs.declared.script.Step.{Step}
 use Rattle.af_script.specs.Lines.{words, is_nil, lines}
 use Rattle.af_script.specs.Statement.{is_device_line, device_of, step_of}
-use Rattle.af_script.specs.Script.{StatedScript, ScriptLine, is_passed_over, entries, most_devices, device_lines, with_first, each_says, first_number, with_steps, with_config, stated_by, script_of}
+use Rattle.af_script.specs.Script.{StatedScript, ScriptLine, is_passed_over, entries, most_devices, device_lines, with_first, each_says, first_number, with_steps, with_config, script_by, script_of}
 use Rattle.af_script.specs.Reading.{with_script_device, with_step, can_take_device, with_words, with_line, wants_device}
 
 -- a script so far, and the lines from this number on
@@ -59,17 +59,17 @@ read n line rest states = entries_read is_passed_over words n line rest states
 
 -- Steps
 
-abbrev after : StatedScript → Result (List Step) ℕ → Result StatedScript ℕ
-after s (Ok steps) = Ok (record { config = s.config; steps = s.steps ++ steps })
-after s (Err n) = Err n
+abbrev with_more_steps : StatedScript → Result (List Step) ℕ → Result StatedScript ℕ
+with_more_steps s (Ok steps) = Ok (record { config = s.config; steps = s.steps ++ steps })
+with_more_steps s (Err n) = Err n
 
-after_step : (s : StatedScript) (x : Step) (n : ℕ) (r : Result (List Step) ℕ) → after (with_step s x) r ≡ after s (with_first n (Some x) r)
+after_step : (s : StatedScript) (x : Step) (n : ℕ) (r : Result (List Step) ℕ) → with_more_steps (with_step s x) r ≡ with_more_steps s (with_first n (Some x) r)
 after_step s x n (Ok steps) = ap (λ (all : List Step). Ok (record { config = s.config; steps = all })) (append_assoc s.steps (x ∷ []) steps)
 after_step s x n (Err m) = refl
 
 -- what the steps of these lines are
 abbrev steps_from : StatedScript → List ScriptLine → Result StatedScript ℕ
-steps_from s es = after s (each_says (step_of s.config) es)
+steps_from s es = with_more_steps s (each_says (step_of s.config) es)
 
 step_line : (s : StatedScript) (n : ℕ) (line : List ℕ) (rest : List (List ℕ)) → is_passed_over line ≡ false → (can_take_device s && is_device_line (words line)) ≡ false → is_nil s.config ≡ false
     → ((x : Step) → read_from (with_step s x) (suc n) rest ≡ steps_from (with_step s x) (entries (suc n) rest))
@@ -77,7 +77,7 @@ step_line : (s : StatedScript) (n : ℕ) (line : List ℕ) (rest : List (List �
 step_line s n line rest states other some later =
     let says = step_of s.config in
     ap (go_on (λ t. read_from t (suc n) rest) n) (line_read s line states ∙ words_step s (words line) other some)
-    ∙ elim (says (words line)) as (λ o. go_on (λ t. read_from t (suc n) rest) n (option_map (with_step s) o) ≡ after s (with_first n o (each_says says (entries (suc n) rest)))) [
+    ∙ elim (says (words line)) as (λ o. go_on (λ t. read_from t (suc n) rest) n (option_map (with_step s) o) ≡ with_more_steps s (with_first n o (each_says says (entries (suc n) rest)))) [
       | None ↦ refl
       | Some x ↦ later x ∙ after_step s x n (each_says says (entries (suc n) rest))
     ]
@@ -113,7 +113,7 @@ more_device : (config : List DeviceSpec) (d : DeviceSpec) (n : ℕ) (r : Result 
 more_device config d n (Ok more) es = ap (λ (all : List DeviceSpec). with_steps all (each_says (step_of all) es)) (append_assoc config (d ∷ []) more)
 more_device config d n (Err m) es = refl
 
-after_none : (config : List DeviceSpec) (r : Result (List Step) ℕ) → after (no_steps config) r ≡ with_steps config r
+after_none : (config : List DeviceSpec) (r : Result (List Step) ℕ) → with_more_steps (no_steps config) r ≡ with_steps config r
 after_none config (Ok steps) = refl
 after_none config (Err n) = refl
 
@@ -154,7 +154,7 @@ devices_too config (suc room) n (line ∷ rest) some count =
 
 -- The whole text
 
--- how many devices there may be behind the first
+-- how many devices there may be after the first
 abbrev more_devices : ℕ
 more_devices = most_devices - 1
 
@@ -162,25 +162,25 @@ first_device : (d : DeviceSpec) (n : ℕ) (r : Result (List DeviceSpec) ℕ) (es
 first_device d n (Ok more) es = refl
 first_device d n (Err m) es = refl
 
-some_lines : (k : ℕ) (es : List ScriptLine) (behind : ℕ) → stated_by (suc k) es behind ≡ with_config (each_says device_of (take (suc k) es)) (drop (suc k) es)
+some_lines : (k : ℕ) (es : List ScriptLine) (behind : ℕ) → script_by (suc k) es behind ≡ with_config (each_says device_of (take (suc k) es)) (drop (suc k) es)
 some_lines k es behind =
     let e : nat_eq (suc k) 0 ≡ false = grind (arith, nat_tests) in
     ap (λ t. cond t (Err (first_number es behind)) (with_config (each_says device_of (take (suc k) es)) (drop (suc k) es))) e
 
-pub read_all : (n : ℕ) (ls : List (List ℕ)) → read_from (no_steps []) n ls ≡ stated_by (device_lines most_devices (entries n ls)) (entries n ls) (n + length ls)
+pub read_all : (n : ℕ) (ls : List (List ℕ)) → read_from (no_steps []) n ls ≡ script_by (device_lines most_devices (entries n ls)) (entries n ls) (n + length ls)
 read_all n [] = ap Err (omega arith)
 read_all n (line ∷ rest) =
     let s = no_steps [] in
     let es = entries (suc n) rest in
     let behind = n + length (line ∷ rest) in
     let one : suc n + length rest ≡ behind = omega arith in
-    elim (is_passed_over line) as (λ t. is_passed_over line ≡ t → read_from s n (line ∷ rest) ≡ stated_by (device_lines most_devices (entries n (line ∷ rest))) (entries n (line ∷ rest)) behind) [
+    elim (is_passed_over line) as (λ t. is_passed_over line ≡ t → read_from s n (line ∷ rest) ≡ script_by (device_lines most_devices (entries n (line ∷ rest))) (entries n (line ∷ rest)) behind) [
       | true ↦ λ passed.
           ap (go_on (λ t. read_from t (suc n) rest) n) (line_over s line passed)
-          ∙ read_all (suc n) rest ∙ ap (stated_by (device_lines most_devices es) es) one
-          ∙ ap (λ xs. stated_by (device_lines most_devices xs) xs behind) (sym (over n line rest passed))
+          ∙ read_all (suc n) rest ∙ ap (script_by (device_lines most_devices es) es) one
+          ∙ ap (λ xs. script_by (device_lines most_devices xs) xs behind) (sym (over n line rest passed))
       | false ↦ λ states.
-          (elim (is_device_line (words line)) as (λ d. is_device_line (words line) ≡ d → read_from s n (line ∷ rest) ≡ stated_by (cond d (suc (device_lines more_devices es)) 0) (entry n line ∷ es) behind) [
+          (elim (is_device_line (words line)) as (λ d. is_device_line (words line) ≡ d → read_from s n (line ∷ rest) ≡ script_by (cond d (suc (device_lines more_devices es)) 0) (entry n line ∷ es) behind) [
             | true ↦ λ device.
                 let k = device_lines more_devices es in
                 ap (go_on (λ t. read_from t (suc n) rest) n) (line_read s line states ∙ words_device s (words line) refl device)
@@ -191,7 +191,7 @@ read_all n (line ∷ rest) =
                 ∙ sym (some_lines k (entry n line ∷ es) behind)
             | false ↦ λ device. ap (go_on (λ t. read_from t (suc n) rest) n) (line_read s line states ∙ words_none s (words line) device refl)
           ] refl)
-          ∙ ap (λ xs. stated_by (device_lines most_devices xs) xs behind) (sym (read n line rest states))
+          ∙ ap (λ xs. script_by (device_lines most_devices xs) xs behind) (sym (read n line rest states))
     ] refl
 
 -- a text that is read from its first line on gives the script that it is

@@ -62,7 +62,7 @@ unfolding encode_with
 encode_append t [] ys = refl
 encode_append t (x ∷ xs) ys = ap (λ l. get_or t (x / 16) 0 ∷ get_or t (x % 16) 0 ∷ l) (encode_append t xs ys)
 
--- the text of what stands before the rest was added
+-- the text of all before the rest was added
 pub record PrintedFront (text_of : List ℕ → List ℕ) (whole rest : List ℕ) (before after : Printer) : Type 0 where
   pub front : List ℕ
   pub is_front : whole ≡ front ++ rest

@@ -20,8 +20,8 @@ use Rattle.hex.specs.Hex.{decode_of}
 use Rattle.af_script.specs.declared.statement.LineKind.{LineKind}
 use Rattle.af_script.specs.declared.statement.LineKind.TheVariants as kind
 use Rattle.af_script.specs.Words.{number_of, number_within, only_if, then_some, bytes_within}
-use Rattle.af_script.specs.Statement.{last_link, line_kind_of, is_device_kind, type_of, rate_of, channels_stated, behind_channels, line_stated, device_at, device_with, device_of, link_of, device_number, line_number, switch_of, digit_of, with_link, send_of, room_stated, room_of, capture_of, tick_of, switched, dial_of, with_number, fail_hook_of, idle_of, step_of_kind, step_of, is_device_line}
-use Rattle.af_script.specs.Script.{StatedScript, ScriptLine, most_devices, device_lines, with_first, each_says, first_number, with_steps, with_config, stated_by, script_of, entries}
+use Rattle.af_script.specs.Statement.{last_link, line_kind_of, is_device_kind, type_of, rate_of, channels_stated, behind_channels, line_stated, device_at, device_with, device_of, link_of, device_number, line_number, switch_of, digit_of, with_link, send_of, room_stated, room_of, capture_of, tick_of, switch_step, dial_of, with_number, fail_hook_of, idle_of, step_of_kind, step_of, is_device_line}
+use Rattle.af_script.specs.Script.{StatedScript, ScriptLine, most_devices, device_lines, with_first, each_says, first_number, with_steps, with_config, script_by, script_of, entries}
 use Rattle.af_script.specs.Lines.{lines}
 
 abbrev some_or : {A : Type 0} → A → Option A → A
@@ -35,12 +35,12 @@ then_some_from : {A : Type 0} (b : Bool) (x y : A) → then_some b x ≡ Some y 
 then_some_from true x y e = (refl, some_same e)
 then_some_from false x y e = cc e
 
--- the value behind `option_and_then`
+-- the value that `option_and_then` got
 and_then_from : {A B : Type 0} (f : A → Option B) (o : Option A) (y : B) → option_and_then f o ≡ Some y → (x : A) × (o ≡ Some x) × (f x ≡ Some y)
 and_then_from f None y e = cc e
 and_then_from f (Some x) y e = (x, refl, e)
 
--- the value behind `option_map`
+-- the value that `option_map` got
 map_from : {A B : Type 0} (f : A → B) (o : Option A) (y : B) → option_map f o ≡ Some y → (x : A) × (o ≡ Some x) × (f x ≡ y)
 map_from f None y e = cc e
 map_from f (Some x) y e = (x, refl, some_same e)
@@ -98,7 +98,7 @@ device_from (name ∷ arguments) d e =
       | false ↦ λ h. cc h
     ]) e
 
--- a step that names a link alone
+-- a step that names only a link
 with_link_from : (config : List DeviceSpec) (make : ℕ → Step) (arguments : List (List ℕ)) (s : Step) → ((k : ℕ) → k < most_links → IsStep config (make k)) → with_link make arguments ≡ Some s → IsStep config s
 with_link_from config make [] s fits e = cc e
 with_link_from config make (link ∷ w ∷ ws) s fits e = cc e
@@ -177,7 +177,7 @@ tick_from config (device ∷ frames ∷ capture) s e =
     let n = number_from 1 longest_tick frames b.0 b.1 in
     tick_is config a.0 b.0 c.0 s c.2 (device_number_from config device a.0 a.1) n.0 n.1 (capture_from (b.0 * frame_bytes_at config a.0) capture c.0 c.1)
 
--- a step that names a device alone
+-- a step that names only a device
 with_number_from : (config : List DeviceSpec) (make : ℕ → Step) (arguments : List (List ℕ)) (s : Step) → ((d : ℕ) → d < length config → IsStep config (make d)) → with_number make config arguments ≡ Some s → IsStep config s
 with_number_from config make [] s fits e = cc e
 with_number_from config make (device ∷ w ∷ ws) s fits e = cc e
@@ -199,7 +199,7 @@ digit_from (c ∷ []) code e =
     subst (λ k. IsTrue (is_digit k)) b.1 b.0
 
 -- a change that is switched on or off fits each line
-switched_from : (change : Bool → LineChange) (config : List DeviceSpec) (arguments : List (List ℕ)) (s : Step) → ((d : ℕ) (b : Bool) → IsTrue (spec_has_line config d) → IsStep config (step.Line d (change b))) → switched change config arguments ≡ Some s → IsStep config s
+switched_from : (change : Bool → LineChange) (config : List DeviceSpec) (arguments : List (List ℕ)) (s : Step) → ((d : ℕ) (b : Bool) → IsTrue (spec_has_line config d) → IsStep config (step.Line d (change b))) → switch_step change config arguments ≡ Some s → IsStep config s
 switched_from change config [] s fits e = cc e
 switched_from change config (device ∷ []) s fits e = cc e
 switched_from change config (device ∷ on ∷ w ∷ ws) s fits e = cc e
@@ -250,7 +250,7 @@ step_from : (config : List DeviceSpec) (ws : List (List ℕ)) (s : Step) → ste
 step_from config [] s e = cc e
 step_from config (name ∷ arguments) s e = step_by_kind config (line_kind_of name) arguments s e
 
--- what holds of each thing that is said, and how many they are
+-- what holds for each statement, and how many there are
 record Says {A : Type 0} (P : A → Type 0) (es : List ScriptLine) (xs : List A) : Type 0 where
   each : All P xs
   count : length xs ≡ length es
@@ -275,7 +275,7 @@ each_from P says good (entry ∷ es) xs e =
           ]) refl h
     ]) refl e
 
--- a script has a device or more, of rates that are listed and one or two channels, and steps for them
+-- a script has at least one device, each of a listed rate and with one or two channels, and steps for them
 pub record IsSound (s : StatedScript) : Type 0 where
   pub some : 1 ≤ length s.config
   pub few : length s.config ≤ most_devices
@@ -299,7 +299,7 @@ few_lines (suc most) (e ∷ es) =
       | false ↦ (omega arith, omega arith)
     ]
 
-sound : (k : ℕ) (es : List ScriptLine) (behind : ℕ) (s : StatedScript) → k ≤ most_devices → k ≤ length es → stated_by k es behind ≡ Ok s → IsSound s
+sound : (k : ℕ) (es : List ScriptLine) (behind : ℕ) (s : StatedScript) → k ≤ most_devices → k ≤ length es → script_by k es behind ≡ Ok s → IsSound s
 sound zero es behind s few there e = cc e
 sound (suc k) es behind s few there e =
     let some_lines : nat_eq (suc k) 0 ≡ false = grind (arith, nat_tests) in

@@ -10,8 +10,8 @@ pub record Printer : Type 0 where
   pub faults : ℕ
 
 -- a sink that holds this, and has failed so often
-abbrev pub filled : Option (List ℕ) → ℕ → Printer
-filled held faults = record { held = held; faults = faults }
+abbrev pub printer_with : Option (List ℕ) → ℕ → Printer
+printer_with held faults = record { held = held; faults = faults }
 
 -- the whole text was added
 pub record Added (before : Printer) (text : List ℕ) (after : Printer) : Type 0 where
@@ -29,6 +29,6 @@ abbrev pub Prints : Result (Unit {0}) Broken → Printer → List ℕ → Printe
 Prints (Ok done) before text after = Added before text after
 Prints (Err broken) before text after = CutOff before text after
 
--- the same of a sink, of which this says what it holds, and this how often it has failed
+-- the same for a sink, by functions that say what it holds, and how often it has failed
 abbrev pub Puts : {K : Type 0} → (K → Option (List ℕ)) → (K → ℕ) → Result (Unit {0}) Broken → K → List ℕ → K → Type 0
-Puts held faults result before text after = Prints result (filled (held before) (faults before)) text (filled (held after) (faults after))
+Puts held faults result before text after = Prints result (printer_with (held before) (faults before)) text (printer_with (held after) (faults after))

@@ -15,11 +15,11 @@ pub record StatedScript : Type 0 where
   pub config : List DeviceSpec
   pub steps : List Step
 
--- a line that is not passed over, by its words
+-- a line that is not skipped, by its words
 abbrev pub ScriptLine : Type 0
 ScriptLine = Entry (List (List ℕ))
 
--- the lines that are not passed over, where the first of all lines has this number
+-- the lines that are not skipped; the first of all lines has this number
 abbrev pub entries : ℕ → List (List ℕ) → List ScriptLine
 entries n ls = entries_of is_passed_over words n ls
 
@@ -33,7 +33,7 @@ device_lines zero es = 0
 device_lines (suc most) [] = 0
 device_lines (suc most) (e ∷ es) = if is_device_line e.said then suc (device_lines most es) else 0
 
--- the number of the first of these lines, or the one behind the last line of the text
+-- the number of the first of these lines, or the one after the last line of the text
 abbrev pub first_number : List ScriptLine → ℕ → ℕ
 first_number [] behind = behind
 first_number (e ∷ es) behind = e.number
@@ -49,14 +49,14 @@ with_config (Ok config) es = with_steps config (each_says (step_of config) es)
 with_config (Err n) es = Err n
 
 -- so many device lines, at least one, and then steps
-abbrev pub stated_by : ℕ → List ScriptLine → ℕ → Result StatedScript ℕ
-stated_by devices es behind =
+abbrev pub script_by : ℕ → List ScriptLine → ℕ → Result StatedScript ℕ
+script_by devices es behind =
     if devices == 0 then Err (first_number es behind) else with_config (each_says device_of (take devices es)) (drop devices es)
 
 -- the script that a text is, or the number of the first line that is not allowed where it stands
 unfoldable pub script_of : List ℕ → Result StatedScript ℕ
 script_of text =
-    let es = entries 1 (lines text) in stated_by (device_lines most_devices es) es (1 + length (lines text))
+    let es = entries 1 (lines text) in script_by (device_lines most_devices es) es (1 + length (lines text))
 
 -- the text has its first fault in this line
 abbrev pub IsScriptFault : List ℕ → ScriptFault → Type 0

@@ -64,18 +64,18 @@ is_device_line words = is_device_kind (kind_of_words words)
 
 -- Devices
 
--- whether the words behind these state a line: `line` does, and no word does not
+-- whether the words after these state a line: `line` does, and no word does not
 abbrev pub line_stated : List (List ℕ) → Option Bool
 line_stated [] = Some false
 line_stated (word ∷ []) = if bytes_eq word (codes "line") then Some true else None
 line_stated _ = None
 
--- a device of this type and rate, whose time begins here, of so many channels, with a line or without
+-- a device of this type and rate, whose time begins here, with so many channels, with a line or without
 abbrev pub device_at : SampleType → ℕ → ℕ → ℕ → Bool → DeviceSpec
 device_at ty rate start channels line = record { ty = ty; rate = rate; start = start; channels = channels; line = line }
 
--- the device of `device TYPE RATE START`, then `stereo` if it has two channels, then `line` if it has one, by the words that
--- follow `device`
+-- the device of `device TYPE RATE START`, then `stereo` if it has two channels, then `line` if it has one; the words are those
+-- after `device`
 abbrev pub device_with : List (List ℕ) → Option DeviceSpec
 device_with (ty ∷ rate ∷ start ∷ rest) =
     option_and_then (λ t. option_and_then (λ r. option_and_then (λ s. option_map (device_at t r s (channels_stated rest)) (line_stated (behind_channels rest))) (number_within 0 (2 ^ 32 - 1) start)) (rate_of rate)) (type_of ty)
@@ -108,7 +108,7 @@ device_number config word = option_and_then (only_if (λ d. nat_lt d (length con
 abbrev pub line_number : List DeviceSpec → List ℕ → Option ℕ
 line_number config word = option_and_then (only_if (spec_has_line config)) (device_number config word)
 
--- a step that names a link alone, by the words that follow its name
+-- a step that names only a link, by the words that follow its name
 abbrev pub with_link : (ℕ → Step) → List (List ℕ) → Option Step
 with_link step (link ∷ []) = option_map step (link_of link)
 with_link step _ = None
@@ -126,7 +126,7 @@ send_of _ = None
 abbrev pub end_of : List (List ℕ) → Option Step
 end_of arguments = with_link step.End arguments
 
--- how many bytes the last word of `room K N` states that a link takes, or every byte, which is `all`
+-- how many bytes the last word of `room K N` states that a link takes, or every byte, if it is `all`
 abbrev pub room_stated : List ℕ → Option (Option ℕ)
 room_stated word = if bytes_eq word (codes "all") then Some None else option_map Some (number_within 0 (2 ^ 32 - 1) word)
 
@@ -135,7 +135,7 @@ abbrev pub room_of : List (List ℕ) → Option Step
 room_of (link ∷ room ∷ []) = option_and_then (λ k. option_map (step.Room k) (room_stated room)) (link_of link)
 room_of _ = None
 
--- what the words that follow `tick D N` state is captured: n bytes, or nothing
+-- what `tick D N` is stated to capture, by the words that follow it: n bytes, or nothing
 abbrev pub capture_of : ℕ → List (List ℕ) → Option (Option (List ℕ))
 capture_of size [] = Some None
 capture_of size (hex ∷ []) = option_map Some (bytes_within size size hex)
@@ -160,17 +160,17 @@ digit_of (code ∷ []) = only_if is_digit code
 digit_of _ = None
 
 -- what `on` or `off` changes on a device's line, by the words that follow its name
-abbrev pub switched : (Bool → LineChange) → List DeviceSpec → List (List ℕ) → Option Step
-switched change config (device ∷ on ∷ []) = option_and_then (λ d. option_map (λ b. step.Line d (change b)) (switch_of on)) (line_number config device)
-switched change config _ = None
+abbrev pub switch_step : (Bool → LineChange) → List DeviceSpec → List (List ℕ) → Option Step
+switch_step change config (device ∷ on ∷ []) = option_and_then (λ d. option_map (λ b. step.Line d (change b)) (switch_of on)) (line_number config device)
+switch_step change config _ = None
 
 -- the step of `ring D on` or `ring D off`
 abbrev pub ring_of : List DeviceSpec → List (List ℕ) → Option Step
-ring_of config arguments = switched change.Ring config arguments
+ring_of config arguments = switch_step change.Ring config arguments
 
 -- the step of `loop D on` or `loop D off`
 abbrev pub loop_of : List DeviceSpec → List (List ℕ) → Option Step
-loop_of config arguments = switched change.Current config arguments
+loop_of config arguments = switch_step change.Current config arguments
 
 -- the step of `digit D C`
 abbrev pub dial_of : List DeviceSpec → List (List ℕ) → Option Step
@@ -185,7 +185,7 @@ fail_read_of arguments = with_link step.FailRead arguments
 abbrev pub fail_write_of : List (List ℕ) → Option Step
 fail_write_of arguments = with_link step.FailWrite arguments
 
--- a step that names a device alone, by the words that follow its name
+-- a step that names only a device, by the words that follow its name
 abbrev pub with_number : (ℕ → Step) → List DeviceSpec → List (List ℕ) → Option Step
 with_number step config (device ∷ []) = option_map step (device_number config device)
 with_number step config _ = None
@@ -227,7 +227,7 @@ step_of_kind config (Some kind.FailEmit) arguments = fail_emit_of config argumen
 step_of_kind config (Some kind.FailHook) arguments = fail_hook_of config arguments
 step_of_kind config (Some kind.Idle) arguments = idle_of arguments
 
--- the step that the words of a line state, where these are the devices
+-- the step that the words of a line state, with these devices
 abbrev pub step_of : List DeviceSpec → List (List ℕ) → Option Step
 step_of config [] = None
 step_of config (name ∷ arguments) = step_of_kind config (line_kind_of name) arguments

@@ -5,12 +5,12 @@ use Rattle.af_world.specs.declared.happening.Happening.TheVariants as happening
 use Rattle.af_world.specs.Log.{Log}
 use Rattle.af_script.specs.declared.summary.Tally.{Tally}
 
--- the bytes that a device took where an emit was done
+-- the bytes that a device took, if the emit was done
 abbrev pub emitted_by : Happening → List ℕ
 emitted_by (happening.Emitted device sound done) = if done then sound else []
 emitted_by _ = []
 
--- the bytes of a write, of which None stands for a failed one
+-- the bytes of a write; None is a failed one
 abbrev pub written_bytes : Option (List ℕ) → List ℕ
 written_bytes None = []
 written_bytes (Some bytes) = bytes
@@ -26,8 +26,8 @@ is_close (happening.Closed link why) = true
 is_close _ = false
 
 -- all bytes that devices took, in order
-abbrev pub emitted : Log → List ℕ
-emitted log = flat_map emitted_by log
+abbrev pub bytes_emitted : Log → List ℕ
+bytes_emitted log = flat_map emitted_by log
 
 -- all bytes that links took, in order
 abbrev pub bytes_taken : Log → List ℕ
@@ -37,10 +37,10 @@ bytes_taken log = flat_map taken_by log
 abbrev pub count_line : List ℕ → ℕ → List ℕ
 count_line name number = name ++ decimal number ++ codes "\n"
 
--- what is counted of a log: the bytes of all emits that were done, the bytes that links took, the closes, and the sum of
--- the emitted bytes modulo 2^64
+-- the counts of a log: the bytes of all emits that were done, the bytes that links took, the closes, and the sum of the emitted
+-- bytes modulo 2^64
 abbrev pub tally_of : Log → Tally
-tally_of log = record { emitted = length (emitted log); taken = length (bytes_taken log); closed = count_by is_close log; total = sum (emitted log) % 2 ^ 64 }
+tally_of log = record { emitted = length (bytes_emitted log); taken = length (bytes_taken log); closed = count_by is_close log; total = sum (bytes_emitted log) % 2 ^ 64 }
 
 -- the lines of these counts, with the steps of the script before them
 abbrev pub tally_lines : ℕ → Tally → List ℕ
@@ -48,6 +48,6 @@ tally_lines steps tally =
     count_line (codes "steps ") steps ++ count_line (codes "emitted ") tally.emitted ++ count_line (codes "taken ") tally.taken
     ++ count_line (codes "closed ") tally.closed ++ count_line (codes "sum ") tally.total
 
--- the summary of a log that came of n steps
+-- the summary of a log of n steps
 abbrev pub summary : ℕ → Log → List ℕ
 summary steps log = tally_lines steps (tally_of log)

@@ -25,29 +25,29 @@ head_of name number = name ++ codes " " ++ decimal number ++ codes " "
 abbrev pub line_of : List ℕ → ℕ → List ℕ → List ℕ
 line_of name number text = head_of name number ++ text ++ codes "\n"
 
--- the line of a read of a link; it has one where it failed
+-- the line of a read of a link; only a failed one has a line
 abbrev pub read_line : ℕ → ReadGot → List ℕ
 read_line link (got.Given bytes) = []
 read_line link got.NotYet = []
 read_line link got.Ended = []
 read_line link got.Failed = line_of (codes "read") link (codes "failed")
 
--- the line of a link that took these bytes, if they are some
+-- the line of a link that took these bytes, if there are any
 abbrev pub taken_line : ℕ → List ℕ → List ℕ
 taken_line link [] = []
 taken_line link (b ∷ bytes) = line_of (codes "link") link (encode_lower (b ∷ bytes))
 
--- the line of a write to a link, of which None stands for a failed one
+-- the line of a write to a link; None is a failed one
 abbrev pub wrote_line : ℕ → Option (List ℕ) → List ℕ
 wrote_line link None = line_of (codes "write") link (codes "failed")
 wrote_line link (Some bytes) = taken_line link bytes
 
--- the line of a capture, of which None stands for a failed one
+-- the line of a capture; None is a failed one
 abbrev pub captured_line : ℕ → Option (List ℕ) → List ℕ
 captured_line device None = line_of (codes "capture") device (codes "failed")
 captured_line device (Some bytes) = []
 
--- the word for a hook that was to be off, or on, and was done or has failed
+-- the word for a hook call, off or on, that was done or failed
 abbrev pub hook_word : Bool → Bool → List ℕ
 hook_word off false = codes "failed"
 hook_word true true = codes "offhook"

@@ -160,7 +160,7 @@ fn frame_bytes(config: &[DeviceSpec], device: u8) -> usize
     }
 }
 
-/// The bytes of a word in hexadecimal, where their number lies between these two.
+/// The bytes of a word in hexadecimal, if their number lies between these two.
 fn bytes_between(
     alloc: Global,
     low: usize,

@@ -3,7 +3,7 @@ ghost use Rattle.std.specs.Prelude.{◌≡◌, ◌≤◌, ◌<◌, ◌+◌, ◌%
 ghost use Rattle.af_io.specs.Observed.{CountsFault};
 ghost use Rattle.af_io.specs.Flow.{Written};
 ghost use Rattle.af_script.specs.Printing.{Puts};
-ghost use Rattle.af_script.specs.Summary.{summary, tally_of, tally_lines, count_line, emitted, emitted_by, bytes_taken, taken_by, is_close};
+ghost use Rattle.af_script.specs.Summary.{summary, tally_of, tally_lines, count_line, bytes_emitted, emitted_by, bytes_taken, taken_by, is_close};
 
 use crate::print::{Broken, print_number, put};
 use af_io::{Put, Sink};
@@ -96,7 +96,7 @@ fn taken_by(happening: &Happening) -> &[u8]
 
 /// How many bytes devices took.
 fn emitted_length(log: &[Happening]) -> u128
-    ensures { result ≡ length (emitted log.now) }
+    ensures { result ≡ length (bytes_emitted log.now) }
 {
     let mut count = 0u128;
     for happening in log {
@@ -132,7 +132,7 @@ fn is_close(happening: &Happening) -> bool
 
 /// The sum of the bytes that devices took, modulo 2^64.
 fn emitted_sum(log: &[Happening]) -> u64
-    ensures { result ≡ sum (emitted log.now) % 2 ^ 64 }
+    ensures { result ≡ sum (bytes_emitted log.now) % 2 ^ 64 }
 {
     let mut total = 0u64;
     for happening in log {

@@ -1,9 +1,9 @@
 // The session of a link.
-// How it lies: three blocks, taken once. Input stands in a vector whose first bytes may be used already (`unread.rt`): they go
-// only when room is needed, so what is unread is one piece, and read in place. Output is a ring, which takes bytes at its back
-// and gives up at its front those that went, moves none, and may wrap; as a world is offered one piece, what wraps is copied into
-// the third block, once for as long as nothing is pushed. Contracts see two lists, the rest and what is pending, and of no byte where
-// it lies.
+// Layout: three blocks, taken once. Input is a vector whose first bytes may be used already (`unread.rt`). They go when room is
+// needed or all are used, so what is unread is one piece, and read in place. Output is a ring, which takes bytes at its end,
+// gives up those that went at its front, moves none, and may wrap. Once all went, its front stays where it was. A world is
+// offered one piece, so what wraps is copied into the third block, once for as long as nothing is pushed. Contracts see two
+// lists, the rest and what is pending, and not where a byte is.
 ghost use Rattle.std.specs.Prelude.{◌≡◌, ◌+◌, ◌≤◌, [], ◌++◌, length, drop, vec_capacity, IfOk, IfSome};
 ghost use Rattle.std.specs.Borrow.{sem};
 ghost use Rattle.af_limits.specs.Limits.{most_unread, output_room};
@@ -103,7 +103,7 @@ impl Session {
         self.output.len()
     }
 
-    /// The bytes that are to go out, where they lie, if that is in one piece: a ring that wraps has two.
+    /// The bytes that are to go out, in place, if they are one piece: a ring that wraps has two.
     pub fn pending_piece(&self) -> Option<&[u8]>
         ensures piece { IfSome result (λ piece. piece.now ≡ self.now.pending) }
         ensures bounds { IsFlow self.now }
@@ -112,8 +112,8 @@ impl Session {
         if second.is_empty() { Some(first) } else { None }
     }
 
-    /// The bytes that are to go out, in one piece. It copies them, unless it did so already and none were pushed since, and changes
-    /// nothing.
+    /// The bytes that are to go out, in one piece. It copies them, unless it did so already and none were pushed since, and
+    /// changes nothing.
     pub fn pending(&mut self) -> &[u8]
         ensures* kept { sem 𝓛 (keeps self.entry) }
         ensures pending { result.now ≡ self.old.pending }
@@ -137,6 +137,12 @@ impl Session {
         ensures bounds { IsFlow self.new }
     {
         let left = self.output.len() - n;
+        if left == 0 {
+            // The front of the ring stays where it is, so a link whose client keeps up touches little of its memory.
+            self.output.truncate_back(0);
+            self.gone = None;
+            return;
+        }
         self.output.truncate_front(left);
         self.gone = match self.gone {
             Some(gone) => Some(gone + n),
@@ -154,7 +160,7 @@ impl Session {
     }
 }
 
-// Bytes more, for which there is room.
+// Appends bytes. There is room for them.
 fn append(onto: &mut Vec<u8>, bytes: &[u8])
     requires { length onto.old.items + length bytes.now ≤ vec_capacity onto.old }
     ensures items { onto.new.items ≡ onto.old.items ++ bytes.now }
@@ -163,7 +169,7 @@ fn append(onto: &mut Vec<u8>, bytes: &[u8])
     let _ = onto.extend_from_slice(bytes);
 }
 
-// The bytes of a ring in one piece, for which there is room.
+// Copies the bytes of a ring into one piece. There is room for them.
 fn copy_all(from: &HeapCircularBuffer<u8>, to: &mut Vec<u8>)
     requires { length from.now.items ≤ vec_capacity to.old }
     ensures items { to.new.items ≡ from.now.items }

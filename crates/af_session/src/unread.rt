@@ -1,4 +1,6 @@
-// Bytes that come in at the back and are used from the front, with room for 32768 that is taken once.
+// The input of a link: bytes come in at the end and are used from the front.
+// Layout: one vector, with room for 32768 bytes that is taken once. The first `start` bytes are used. They leave it when room
+// is needed, or all are used.
 ghost use Rattle.std.specs.Prelude.{◌≡◌, ◌+◌, ◌≤◌, [], ◌++◌, length, drop, vec_capacity, IfOk};
 ghost use Rattle.af_limits.specs.Limits.{most_unread};
 
@@ -10,7 +12,7 @@ use std::marker::Model;
 #[derive(Drop)]
 pub struct Unread {
     bytes: Vec<u8>,
-    // how many of these are used, at the front; they make room only when room is needed
+    // how many bytes at the front are used
     start: usize,
 }
 
@@ -55,6 +57,10 @@ impl Unread {
         ensures { self.new ≡ drop n self.old }
     {
         self.start += n;
+        // The next bytes stand at the front again, so a link that is read in time touches little of its memory.
+        if self.start == self.bytes.len() {
+            self.clear();
+        }
     }
 
     pub fn clear(&mut self)
@@ -65,7 +71,7 @@ impl Unread {
     }
 }
 
-// What is unread comes to stand at the front. It is kept out of the code of an append, which mostly finds room.
+// Moves what is unread to the front. It is kept out of the code of an append, which mostly finds room.
 #[inline(never)]
 fn make_room(bytes: &mut Vec<u8>, start: &mut usize)
     requires { start.old ≤ length bytes.old.items }

@@ -15,39 +15,39 @@ use Rattle.af_sound.specs.declared.wave.ChunkKind.TheVariants as kind
 use Rattle.af_sound.specs.declared.wave.Format.{Format}
 use Rattle.af_sound.specs.Fields.{IsLittle}
 use Rattle.af_sound.specs.Wave.{AreOthers, Chunk, chunk_bytes, chunks_bytes, IsChunk, IsOther}
-use Rattle.af_sound.specs.Reading.{before_rest, field_begun, behind_name, chunk_begun, chunk_kind, is_inside, reached}
+use Rattle.af_sound.specs.Reading.{before_rest, field_start, behind_name, chunk_start, chunk_kind, is_inside, place_after_bytes}
 use Rattle.af_sound.proofs.ReachedLemmas.{different, field_read}
 
 -- before the name of a chunk
 abbrev pub at_name : Option Format → Place
-at_name format = field_begun (field.Wave (wave.ChunkName format))
+at_name format = field_start (field.Wave (wave.ChunkName format))
 
 -- the rest of a chunk is passed
 rest_passes : (body more : List ℕ) (left : ℕ) (format : Option Format) → 1 ≤ left → length body ≡ left →
-    reached (at.Chunk left format) (body ++ more) ≡ reached (at_name format) more
+    place_after_bytes (at.Chunk left format) (body ++ more) ≡ place_after_bytes (at_name format) more
 rest_passes [] more left format some whole = absurd (omega arith)
 rest_passes (b ∷ []) more left format some whole =
     let last : nat_lt 1 left ≡ false = grind (arith, nat_tests) in
-    ap (λ (t : Bool). reached (if t then at.Chunk (left - 1) format else at_name format) more) last
+    ap (λ (t : Bool). place_after_bytes (if t then at.Chunk (left - 1) format else at_name format) more) last
 rest_passes (b ∷ c ∷ rest) more left format some whole =
     let goes_on : nat_lt 1 left ≡ true = grind (arith, nat_tests) in
-    ap (λ (t : Bool). reached (if t then at.Chunk (left - 1) format else at_name format) (c ∷ (rest ++ more))) goes_on
+    ap (λ (t : Bool). place_after_bytes (if t then at.Chunk (left - 1) format else at_name format) (c ∷ (rest ++ more))) goes_on
     ∙ rest_passes (c ∷ rest) more (left - 1) format (omega arith) (omega arith)
 
-any_rest_passes : (body more : List ℕ) (left : ℕ) (format : Option Format) → length body ≡ left → reached (before_rest left format) (body ++ more) ≡ reached (at_name format) more
+any_rest_passes : (body more : List ℕ) (left : ℕ) (format : Option Format) → length body ≡ left → place_after_bytes (before_rest left format) (body ++ more) ≡ place_after_bytes (at_name format) more
 any_rest_passes [] more left format whole =
     let none : (left == 0) ≡ true = grind (arith, nat_tests) in
-    ap (λ (t : Bool). reached (if t then at_name format else at.Chunk left format) more) none
+    ap (λ (t : Bool). place_after_bytes (if t then at_name format else at.Chunk left format) more) none
 any_rest_passes (b ∷ rest) more left format whole =
     let some : (left == 0) ≡ false = grind (arith, nat_tests) in
-    ap (λ (t : Bool). reached (if t then at_name format else at.Chunk left format) (b ∷ (rest ++ more))) some
+    ap (λ (t : Bool). place_after_bytes (if t then at_name format else at.Chunk left format) (b ∷ (rest ++ more))) some
     ∙ rest_passes (b ∷ rest) more left format (omega arith) whole
 
 -- the body of a chunk is passed, with its pad byte
 pub body_passes : (count : ℕ) (body pad more : List ℕ) (format : Option Format) → length body ≡ count → length pad ≡ count % 2 →
-    reached (chunk_begun count format) (body ++ (pad ++ more)) ≡ reached (at_name format) more
+    place_after_bytes (chunk_start count format) (body ++ (pad ++ more)) ≡ place_after_bytes (at_name format) more
 body_passes count body pad more format whole even =
-    ap (λ (b : List ℕ). reached (chunk_begun count format) b) (sym (append_assoc body pad more))
+    ap (λ (b : List ℕ). place_after_bytes (chunk_start count format) b) (sym (append_assoc body pad more))
     ∙ any_rest_passes (body ++ pad) more (count + count % 2) format (omega (arith, length-append body pad))
 
 other_kind : (name : List ℕ) → name ≢ codes "fmt " → name ≢ codes "data" → chunk_kind name ≡ kind.Other
@@ -59,22 +59,22 @@ other_kind name no_format no_data =
 pub pieces : (chunk : Chunk) (more : List ℕ) → chunk_bytes chunk ++ more ≡ chunk.name ++ (chunk.size ++ (chunk.body ++ (chunk.pad ++ more)))
 pieces chunk more = simp append_assoc
 
-other_passes : (chunk : Chunk) (more : List ℕ) (format : Option Format) → IsOther chunk → reached (at_name format) (chunk_bytes chunk ++ more) ≡ reached (at_name format) more
+other_passes : (chunk : Chunk) (more : List ℕ) (format : Option Format) → IsOther chunk → place_after_bytes (at_name format) (chunk_bytes chunk ++ more) ≡ place_after_bytes (at_name format) more
 other_passes chunk more format other =
     let r2 : List ℕ = chunk.body ++ (chunk.pad ++ more) in
     let r1 : List ℕ = chunk.size ++ r2 in
-    ap (λ (b : List ℕ). reached (at_name format) b) (pieces chunk more)
+    ap (λ (b : List ℕ). place_after_bytes (at_name format) b) (pieces chunk more)
     ∙ field_read (field.Wave (wave.ChunkName format)) chunk.name r1 other.is.is_name
-    ∙ ap (λ (k : ChunkKind). reached (behind_name k format) r1) (other_kind chunk.name other.no_format other.no_data)
+    ∙ ap (λ (k : ChunkKind). place_after_bytes (behind_name k format) r1) (other_kind chunk.name other.no_format other.no_data)
     ∙ field_read (field.Wave (wave.ChunkSize format)) chunk.size r2 other.is.is_size.size
-    ∙ ap (λ (n : ℕ). reached (chunk_begun n format) r2) other.is.is_size.is
+    ∙ ap (λ (n : ℕ). place_after_bytes (chunk_start n format) r2) other.is.is_size.is
     ∙ body_passes (length chunk.body) chunk.body chunk.pad more format refl other.is.is_pad
 
 -- other chunks are passed
-pub others_pass : (chunks : List Chunk) (more : List ℕ) (format : Option Format) → AreOthers chunks → reached (at_name format) (chunks_bytes chunks ++ more) ≡ reached (at_name format) more
+pub others_pass : (chunks : List Chunk) (more : List ℕ) (format : Option Format) → AreOthers chunks → place_after_bytes (at_name format) (chunks_bytes chunks ++ more) ≡ place_after_bytes (at_name format) more
 others_pass [] more format others = refl
 others_pass (chunk ∷ rest) more format others =
-    ap (λ (b : List ℕ). reached (at_name format) b) (append_assoc (chunk_bytes chunk) (chunks_bytes rest) more)
+    ap (λ (b : List ℕ). place_after_bytes (at_name format) b) (append_assoc (chunk_bytes chunk) (chunks_bytes rest) more)
     ∙ other_passes chunk (chunks_bytes rest ++ more) format others.0 ∙ others_pass rest more format others.1
 
 -- a front that a reader passed, up to a name
@@ -83,18 +83,18 @@ pub record Passes (size : ℕ) (format : Option Format) (bytes : List ℕ) (plac
   pub rest : List ℕ
   pub is : bytes ≡ body ++ rest
   pub is_size : length body ≡ size
-  pub reaches : reached (at_name format) rest ≡ Some place
+  pub reaches : place_after_bytes (at_name format) rest ≡ Some place
 
 inside_of : (inner place : Place) → Some inner ≡ Some place → is_inside inner ≡ true → is_inside place ≡ true
 inside_of inner place e inside = let same : inner ≡ place = cc in subst (λ (p : Place). is_inside p ≡ true) same inside
 
--- what is reached from the rest of a chunk is inside of it, or behind it
-rest_ends : (bytes : List ℕ) (left : ℕ) (format : Option Format) (place : Place) → 1 ≤ left → reached (at.Chunk left format) bytes ≡ Some place →
+-- what is reached from the rest of a chunk is within it, or after it
+rest_ends : (bytes : List ℕ) (left : ℕ) (format : Option Format) (place : Place) → 1 ≤ left → place_after_bytes (at.Chunk left format) bytes ≡ Some place →
     (is_inside place ≡ true) ⊎ Passes left format bytes place
 rest_ends [] left format place some e = inl (inside_of (at.Chunk left format) place e refl)
 rest_ends (b ∷ bytes) left format place some e = by (nat_lt 1 left) refl e (λ later f. rest_ends bytes (left - 1) format place later f) where
-  by : (t : Bool) → nat_lt 1 left ≡ t → reached (if t then at.Chunk (left - 1) format else at_name format) bytes ≡ Some place →
-      (1 ≤ left - 1 → reached (at.Chunk (left - 1) format) bytes ≡ Some place → (is_inside place ≡ true) ⊎ Passes (left - 1) format bytes place) →
+  by : (t : Bool) → nat_lt 1 left ≡ t → place_after_bytes (if t then at.Chunk (left - 1) format else at_name format) bytes ≡ Some place →
+      (1 ≤ left - 1 → place_after_bytes (at.Chunk (left - 1) format) bytes ≡ Some place → (is_inside place ≡ true) ⊎ Passes (left - 1) format bytes place) →
       (is_inside place ≡ true) ⊎ Passes left format (b ∷ bytes) place
   by true test f next =
       elim (next (grind (arith, nat_tests)) f) [
@@ -109,10 +109,10 @@ rest_ends (b ∷ bytes) left format place some e = by (nat_lt 1 left) refl e (λ
       ]
   by false test f next = inr (record { body = b ∷ []; rest = bytes; is = refl; is_size = grind (arith, nat_tests); reaches = f })
 
-pub body_ends : (bytes : List ℕ) (count : ℕ) (format : Option Format) (place : Place) → reached (chunk_begun count format) bytes ≡ Some place →
+pub body_ends : (bytes : List ℕ) (count : ℕ) (format : Option Format) (place : Place) → place_after_bytes (chunk_start count format) bytes ≡ Some place →
     (is_inside place ≡ true) ⊎ Passes (count + count % 2) format bytes place
 body_ends bytes count format place e = by (count + count % 2 == 0) refl e where
-  by : (t : Bool) → (count + count % 2 == 0) ≡ t → reached (if t then at_name format else at.Chunk (count + count % 2) format) bytes ≡ Some place →
+  by : (t : Bool) → (count + count % 2 == 0) ≡ t → place_after_bytes (if t then at_name format else at.Chunk (count + count % 2) format) bytes ≡ Some place →
       (is_inside place ≡ true) ⊎ Passes (count + count % 2) format bytes place
   by true test f = inr (record { body = []; rest = bytes; is = refl; is_size = grind (arith, nat_tests); reaches = f })
   by false test f = rest_ends bytes (count + count % 2) format place (grind (arith, nat_tests)) f
@@ -122,13 +122,13 @@ pub record BeginsWith (name bytes : List ℕ) : Type 0 where
   pub rest : List ℕ
   pub is : bytes ≡ name ++ rest
 
--- bytes that begin with other chunks, and with the name `data` or `fmt ` behind them
+-- bytes that begin with other chunks, and with the name `data` or `fmt ` after them
 pub record Skips (format : Option Format) (bytes : List ℕ) (place : Place) : Type 0 where
   pub chunks : List Chunk
   pub rest : List ℕ
   pub is : bytes ≡ chunks_bytes chunks ++ rest
   pub others : AreOthers chunks
-  pub reaches : reached (at_name format) rest ≡ Some place
+  pub reaches : place_after_bytes (at_name format) rest ≡ Some place
   pub begins : BeginsWith (codes "data") rest ⊎ BeginsWith (codes "fmt ") rest
 
 -- one chunk more at the front
@@ -158,8 +158,8 @@ another name size count bytes format place is_name is_size no_format no_data p s
       begins = s.begins;
     }
 
--- what is reached from the name of a chunk is inside of a chunk, or behind all other chunks
-pub chunks_end : (most : ℕ) (bytes : List ℕ) (format : Option Format) (place : Place) → length bytes ≤ most → reached (at_name format) bytes ≡ Some place →
+-- what is reached from the name of a chunk is within a chunk, or after all other chunks
+pub chunks_end : (most : ℕ) (bytes : List ℕ) (format : Option Format) (place : Place) → length bytes ≤ most → place_after_bytes (at_name format) bytes ≡ Some place →
     (is_inside place ≡ true) ⊎ Skips format bytes place
 chunks_end zero (b ∷ rest) format place few e = absurd (omega arith)
 chunks_end (suc most) (a ∷ b ∷ c ∷ d ∷ bytes) format place few e =
@@ -167,8 +167,8 @@ chunks_end (suc most) (a ∷ b ∷ c ∷ d ∷ bytes) format place few e =
       name : List ℕ
       name = a ∷ b ∷ c ∷ d ∷ []
 
-      sized : (rest : List ℕ) → length rest ≤ length bytes → name ≢ codes "fmt " → name ≢ codes "data" → reached (field_begun (field.Wave (wave.ChunkSize format))) rest ≡ Some place →
-          ((l : List ℕ) → length l ≤ most → reached (at_name format) l ≡ Some place → (is_inside place ≡ true) ⊎ Skips format l place) →
+      sized : (rest : List ℕ) → length rest ≤ length bytes → name ≢ codes "fmt " → name ≢ codes "data" → place_after_bytes (field_start (field.Wave (wave.ChunkSize format))) rest ≡ Some place →
+          ((l : List ℕ) → length l ≤ most → place_after_bytes (at_name format) l ≡ Some place → (is_inside place ≡ true) ⊎ Skips format l place) →
           (is_inside place ≡ true) ⊎ Skips format (a ∷ b ∷ c ∷ d ∷ rest) place
       sized (s0 ∷ s1 ∷ s2 ∷ s3 ∷ rest) shorter no_format no_data f next =
           let size : List ℕ = s0 ∷ s1 ∷ s2 ∷ s3 ∷ [] in
@@ -183,8 +183,8 @@ chunks_end (suc most) (a ∷ b ∷ c ∷ d ∷ bytes) format place few e =
       sized rest shorter no_format no_data f next = inl (inside_of _ place f refl)
 
       by : (t : Bool) → bytes_eq name (codes "fmt ") ≡ t → (u : Bool) → bytes_eq name (codes "data") ≡ u →
-          reached (behind_name (if t then kind.Format else if u then kind.Data else kind.Other) format) bytes ≡ Some place →
-          ((l : List ℕ) → length l ≤ most → reached (at_name format) l ≡ Some place → (is_inside place ≡ true) ⊎ Skips format l place) →
+          place_after_bytes (behind_name (if t then kind.Format else if u then kind.Data else kind.Other) format) bytes ≡ Some place →
+          ((l : List ℕ) → length l ≤ most → place_after_bytes (at_name format) l ≡ Some place → (is_inside place ≡ true) ⊎ Skips format l place) →
           (is_inside place ≡ true) ⊎ Skips format (a ∷ b ∷ c ∷ d ∷ bytes) place
       by true is_format u test f next =
           inr (record {

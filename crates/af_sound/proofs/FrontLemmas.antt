@@ -1,4 +1,4 @@
--- What the beginning of some bytes says is what their first bytes are.
+-- What the first bytes of some bytes mean.
 use Rattle.std.proofs.Common.{◌≡◌, ◌<◌, ◌≤◌, ◌+◌, ℕ, suc, Bool, true, false, Some, List, [], ◌∷◌, ◌++◌, length, take, refl, sym, ap, ap₂, ◌∙◌, subst, arith, append-nil}
 use Rattle.std.specs.Prelude.{if◌then◌else◌}
 use Rattle.af_sound.specs.declared.head.SoundForm.{SoundForm}
@@ -10,12 +10,12 @@ use Rattle.af_sound.specs.declared.head_reader.HeadReader.{HeadReader}
 use Rattle.af_sound.specs.declared.head_reader.Place.{Place}
 use Rattle.af_sound.specs.declared.head_reader.Place.TheVariants.{Field, Annotation, Chunk, Head, Bad}
 use Rattle.af_sound.specs.Heads.{HasFault, IsHead}
-use Rattle.af_sound.specs.Reading.{behind, is_inside, reached, start, step_at, HasTaken, IsOpen}
+use Rattle.af_sound.specs.Reading.{place_after_byte, is_inside, place_after_bytes, start, step_at, HasTaken, IsOpen}
 use Rattle.af_sound.specs.Fronts.{front_from, front_of, Front}
 use Rattle.af_sound.proofs.ReachedLemmas.{opened, reached_first}
 use Rattle.af_sound.proofs.TakenLemmas.{fault_exactly, fault_read, head_exactly, head_read}
 
--- a front that says this behind so many bytes
+-- a front with this answer after so many bytes
 abbrev pub front : HeadStep → ℕ → Front
 front says size = record { says = says; size = size }
 
@@ -26,22 +26,22 @@ inside_more (Chunk left format) inside = refl
 inside_more (Head head) inside = cc
 inside_more (Bad fault) inside = cc
 
--- a byte inside of a head
-front_first : (place : Place) (n byte : ℕ) (rest : List ℕ) → is_inside place ≡ true → front_from place n (byte ∷ rest) ≡ front_from (behind place byte) (suc n) rest
-front_first place n byte rest inside = ap (λ (t : Bool). if t then front_from (behind place byte) (suc n) rest else front (step_at place) n) inside
+-- a byte within a header
+front_first : (place : Place) (n byte : ℕ) (rest : List ℕ) → is_inside place ≡ true → front_from place n (byte ∷ rest) ≡ front_from (place_after_byte place byte) (suc n) rest
+front_first place n byte rest inside = ap (λ (t : Bool). if t then front_from (place_after_byte place byte) (suc n) rest else front (step_at place) n) inside
 
--- what is reached from the front of some bytes says the rest
-front_more : (bytes rest : List ℕ) (place to : Place) (n : ℕ) → reached place bytes ≡ Some to → front_from place n (bytes ++ rest) ≡ front_from to (n + length bytes) rest
+-- the front of bytes goes on from the place that their first part reaches
+front_more : (bytes rest : List ℕ) (place to : Place) (n : ℕ) → place_after_bytes place bytes ≡ Some to → front_from place n (bytes ++ rest) ≡ front_from to (n + length bytes) rest
 front_more [] rest place to n e =
     let same : place ≡ to = cc in
     ap₂ (λ (p : Place) (m : ℕ). front_from p m rest) same (let none : n ≡ n + 0 = omega arith in none)
 front_more (b ∷ bytes) rest place to n e =
-    let inside : is_inside place ≡ true = opened (is_inside place) (reached (behind place b) bytes) to e in
-    let later : reached (behind place b) bytes ≡ Some to = sym (reached_first place b bytes inside) ∙ e in
-    front_first place n b (bytes ++ rest) inside ∙ front_more bytes rest (behind place b) to (suc n) later
+    let inside : is_inside place ≡ true = opened (is_inside place) (place_after_bytes (place_after_byte place b) bytes) to e in
+    let later : place_after_bytes (place_after_byte place b) bytes ≡ Some to = sym (reached_first place b bytes inside) ∙ e in
+    front_first place n b (bytes ++ rest) inside ∙ front_more bytes rest (place_after_byte place b) to (suc n) later
     ∙ ap (λ (m : ℕ). front_from to m rest) (let count : suc n + length bytes ≡ n + suc (length bytes) = omega arith in count)
 
-front_all : (bytes rest : List ℕ) (place to : Place) → reached place bytes ≡ Some to → front_from place 0 (bytes ++ rest) ≡ front_from to (length bytes) rest
+front_all : (bytes rest : List ℕ) (place to : Place) → place_after_bytes place bytes ≡ Some to → front_from place 0 (bytes ++ rest) ≡ front_from to (length bytes) rest
 front_all bytes rest place to e =
     front_more bytes rest place to 0 e ∙ ap (λ (m : ℕ). front_from to m rest) (let count : 0 + length bytes ≡ length bytes = omega arith in count)
 
@@ -53,7 +53,7 @@ fault_stands : (fault : SoundFault) (n : ℕ) (rest : List ℕ) → front_from (
 fault_stands fault n [] = refl
 fault_stands fault n (b ∷ rest) = refl
 
--- a head at the front is said, and a fault
+-- a header at the front is reported, and so is a fault
 pub front_head : (form : SoundForm) (bytes rest : List ℕ) (head : SoundHead) → IsHead form bytes head → front_of form (bytes ++ rest) ≡ front (step.Head head) (length bytes)
 unfolding front_of
 front_head form bytes rest head is = front_all bytes rest (start form) (Head head) (head_read form bytes head is) ∙ head_stands head (length bytes) rest
@@ -62,7 +62,7 @@ pub front_fault : (form : SoundForm) (bytes rest : List ℕ) (fault : SoundFault
 unfolding front_of
 front_fault form bytes rest fault has = front_all bytes rest (start form) (Bad fault) (fault_read form bytes fault has) ∙ fault_stands fault (length bytes) rest
 
--- where a reader is still open behind all bytes, they end inside of a head
+-- if a reader is still open after all bytes, they end within a header
 pub front_open : (form : SoundForm) (reader : HeadReader) (bytes : List ℕ) → HasTaken reader form bytes → IsOpen reader → front_of form bytes ≡ front step.More (length bytes)
 unfolding front_of HasTaken
 front_open form reader bytes taken opens =
@@ -71,26 +71,26 @@ front_open form reader bytes taken opens =
 
 front_counts : (place : Place) (n : ℕ) (bytes : List ℕ) → n ≤ (front_from place n bytes).size
 front_counts place n [] = omega arith
-front_counts place n (b ∷ rest) = by (is_inside place) (front_counts (behind place b) (suc n) rest) where
-  by : (t : Bool) → suc n ≤ (front_from (behind place b) (suc n) rest).size → n ≤ (if t then front_from (behind place b) (suc n) rest else front (step_at place) n).size
+front_counts place n (b ∷ rest) = by (is_inside place) (front_counts (place_after_byte place b) (suc n) rest) where
+  by : (t : Bool) → suc n ≤ (front_from (place_after_byte place b) (suc n) rest).size → n ≤ (if t then front_from (place_after_byte place b) (suc n) rest else front (step_at place) n).size
   by true more = omega arith
   by false more = omega arith
 
--- and with a byte more the front has more bytes
+-- and with one more byte the front has more bytes
 pub front_beyond : (form : SoundForm) (reader : HeadReader) (bytes : List ℕ) (byte : ℕ) (rest : List ℕ) → HasTaken reader form bytes → IsOpen reader → length bytes < (front_of form (bytes ++ (byte ∷ rest))).size
 unfolding front_of HasTaken
 front_beyond form reader bytes byte rest taken opens =
-    let is : front_of form (bytes ++ (byte ∷ rest)) ≡ front_from (behind reader.place byte) (suc (length bytes)) rest =
+    let is : front_of form (bytes ++ (byte ∷ rest)) ≡ front_from (place_after_byte reader.place byte) (suc (length bytes)) rest =
     front_all bytes (byte ∷ rest) (start form) reader.place taken ∙ front_first reader.place (length bytes) byte rest opens in
-    let more = front_counts (behind reader.place byte) (suc (length bytes)) rest in
-    let size : (front_of form (bytes ++ (byte ∷ rest))).size ≡ (front_from (behind reader.place byte) (suc (length bytes)) rest).size = ap (λ (f : Front). f.size) is in
+    let more = front_counts (place_after_byte reader.place byte) (suc (length bytes)) rest in
+    let size : (front_of form (bytes ++ (byte ∷ rest))).size ≡ (front_from (place_after_byte reader.place byte) (suc (length bytes)) rest).size = ap (λ (f : Front). f.size) is in
     omega arith
 
--- the place that the first bytes lead to, of which a front says what it says
+-- the place that the first bytes lead to, which gives the front
 record Decided (place : Place) (n : ℕ) (bytes : List ℕ) (f : Front) : Type 0 where
   to : Place
   count : ℕ
-  is_reached : reached place (take count bytes) ≡ Some to
+  is_reached : place_after_bytes place (take count bytes) ≡ Some to
   is_said : f.says ≡ step_at to
   is_size : f.size ≡ n + count
   within : count ≤ length bytes
@@ -98,8 +98,8 @@ record Decided (place : Place) (n : ℕ) (bytes : List ℕ) (f : Front) : Type 0
 
 decided : (place : Place) (n : ℕ) (bytes : List ℕ) → Decided place n bytes (front_from place n bytes)
 decided place n [] = record { to = place; count = 0; is_reached = refl; is_said = refl; is_size = omega arith; within = omega arith; all = λ _. refl }
-decided place n (b ∷ rest) = by (is_inside place) refl (decided (behind place b) (suc n) rest) where
-  by : (t : Bool) → is_inside place ≡ t → Decided (behind place b) (suc n) rest (front_from (behind place b) (suc n) rest) → Decided place n (b ∷ rest) (if t then front_from (behind place b) (suc n) rest else front (step_at place) n)
+decided place n (b ∷ rest) = by (is_inside place) refl (decided (place_after_byte place b) (suc n) rest) where
+  by : (t : Bool) → is_inside place ≡ t → Decided (place_after_byte place b) (suc n) rest (front_from (place_after_byte place b) (suc n) rest) → Decided place n (b ∷ rest) (if t then front_from (place_after_byte place b) (suc n) rest else front (step_at place) n)
   by true inside d =
       let size = d.is_size in
       let within = d.within in
@@ -130,7 +130,7 @@ more_inside (Head head) said = cc
 more_inside (Bad fault) said = cc
 
 module _ (form : SoundForm) (bytes : List ℕ) (n : ℕ) where
-  -- a head that is said is one, and a fault shows there
+  -- a header that is reported is one, and a fault shows there
   pub front_is_head : (head : SoundHead) → front_of form bytes ≡ front (step.Head head) n → (n ≤ length bytes) × IsHead form (take n bytes) head
   unfolding front_of
   front_is_head head e =
@@ -153,7 +153,7 @@ module _ (form : SoundForm) (bytes : List ℕ) (n : ℕ) where
       let within = d.within in
       (omega arith, subst (λ (k : ℕ). HasFault form (take k bytes) fault) size ((fault_exactly form (take d.count bytes) d.to fault d.is_reached).0 said))
 
-  -- bytes that end inside of a head are all taken
+  -- bytes that end within a header are all taken
   pub front_is_whole : front_of form bytes ≡ front step.More n → n ≡ length bytes
   unfolding front_of
   front_is_whole e =

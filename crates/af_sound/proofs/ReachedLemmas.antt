@@ -11,7 +11,7 @@ use Rattle.af_sound.specs.declared.head_reader.Place.{Place}
 use Rattle.af_sound.specs.declared.head_reader.Place.TheVariants.{Field, Annotation, Chunk, Head, Bad}
 use Rattle.af_sound.specs.declared.head_reader.Field as fields
 use Rattle.af_sound.specs.Heads.{IsHead, HasFault}
-use Rattle.af_sound.specs.Reading.{field_begun, behind, behind_field, is_inside, reached, step_at}
+use Rattle.af_sound.specs.Reading.{field_start, place_after_byte, behind_field, is_inside, place_after_bytes, step_at}
 
 -- what a place says of the bytes that lead to it
 abbrev pub Says : SoundForm → List ℕ → Place → Type 0
@@ -25,7 +25,7 @@ pub opened : (t : Bool) (x : Option Place) (place : Place) → (if t then x else
 opened true x place e = refl
 opened false x place e = absurd cc
 
--- two lists that are not the same are told apart
+-- two lists that differ are told apart
 pub different : (xs ys : List ℕ) → xs ≢ ys → bytes_eq xs ys ≡ false
 different xs ys other = by (bytes_eq xs ys) refl where
   by : (t : Bool) → bytes_eq xs ys ≡ t → t ≡ false
@@ -33,28 +33,28 @@ different xs ys other = by (bytes_eq xs ys) refl where
   by false test = refl
 
 -- a byte at the front
-pub reached_first : (place : Place) (byte : ℕ) (rest : List ℕ) → is_inside place ≡ true → reached place (byte ∷ rest) ≡ reached (behind place byte) rest
-reached_first place byte rest inside = ap (λ (t : Bool). if t then reached (behind place byte) rest else None) inside
+pub reached_first : (place : Place) (byte : ℕ) (rest : List ℕ) → is_inside place ≡ true → place_after_bytes place (byte ∷ rest) ≡ place_after_bytes (place_after_byte place byte) rest
+reached_first place byte rest inside = ap (λ (t : Bool). if t then place_after_bytes (place_after_byte place byte) rest else None) inside
 
 -- what is reached from the front of some bytes goes on with the rest
-pub reached_more : (bytes rest : List ℕ) (first place : Place) → reached first bytes ≡ Some place → reached first (bytes ++ rest) ≡ reached place rest
-reached_more [] rest first place e = let same : first ≡ place = cc in ap (λ (p : Place). reached p rest) same
+pub reached_more : (bytes rest : List ℕ) (first place : Place) → place_after_bytes first bytes ≡ Some place → place_after_bytes first (bytes ++ rest) ≡ place_after_bytes place rest
+reached_more [] rest first place e = let same : first ≡ place = cc in ap (λ (p : Place). place_after_bytes p rest) same
 reached_more (b ∷ bytes) rest first place e =
-    let open_first : is_inside first ≡ true = opened (is_inside first) (reached (behind first b) bytes) place e in
-    let later : reached (behind first b) bytes ≡ Some place = sym (reached_first first b bytes open_first) ∙ e in
-    reached_first first b (bytes ++ rest) open_first ∙ reached_more bytes rest (behind first b) place later
+    let open_first : is_inside first ≡ true = opened (is_inside first) (place_after_bytes (place_after_byte first b) bytes) place e in
+    let later : place_after_bytes (place_after_byte first b) bytes ≡ Some place = sym (reached_first first b bytes open_first) ∙ e in
+    reached_first first b (bytes ++ rest) open_first ∙ reached_more bytes rest (place_after_byte first b) place later
 
 -- a byte at the end
-pub reached_last : (bytes : List ℕ) (first place : Place) (byte : ℕ) → reached first bytes ≡ Some place → is_inside place ≡ true →
-    reached first (bytes ++ (byte ∷ [])) ≡ Some (behind place byte)
+pub reached_last : (bytes : List ℕ) (first place : Place) (byte : ℕ) → place_after_bytes first bytes ≡ Some place → is_inside place ≡ true →
+    place_after_bytes first (bytes ++ (byte ∷ [])) ≡ Some (place_after_byte place byte)
 reached_last bytes first place byte e inside = reached_more bytes (byte ∷ []) first place e ∙ reached_first place byte [] inside
 
--- behind a fault and behind a head nothing is taken
-pub bad_ends : (fault : SoundFault) (more : List ℕ) (place : Place) → reached (Bad fault) more ≡ Some place → (more ≡ []) × (Bad fault ≡ place)
+-- after a fault and after a header no byte is taken
+pub bad_ends : (fault : SoundFault) (more : List ℕ) (place : Place) → place_after_bytes (Bad fault) more ≡ Some place → (more ≡ []) × (Bad fault ≡ place)
 bad_ends fault [] place e = (refl, cc)
 bad_ends fault (b ∷ rest) place e = absurd cc
 
-pub head_ends : (head : SoundHead) (more : List ℕ) (place : Place) → reached (Head head) more ≡ Some place → (more ≡ []) × (Head head ≡ place)
+pub head_ends : (head : SoundHead) (more : List ℕ) (place : Place) → place_after_bytes (Head head) more ≡ Some place → (more ≡ []) × (Head head ≡ place)
 head_ends head [] place e = (refl, cc)
 head_ends head (b ∷ rest) place e = absurd cc
 
@@ -65,14 +65,14 @@ inside_says form bytes (Field of part) inside = tt
 inside_says form bytes (Annotation left head) inside = tt
 inside_says form bytes (Chunk left format) inside = tt
 
--- inside of a head nothing is said
+-- within a header nothing is reported
 pub unsaid : (form : SoundForm) (bytes : List ℕ) (inner place : Place) → Some inner ≡ Some place → is_inside inner ≡ true → Says form bytes place
 unsaid form bytes inner place e inside =
     let same : inner ≡ place = cc in
     subst (λ (p : Place). Says form bytes p) same (inside_says form bytes inner inside)
 
 -- four bytes are a field
-pub field_read : (of : fields.Field) (field rest : List ℕ) → length field ≡ 4 → reached (field_begun of) (field ++ rest) ≡ reached (behind_field of field) rest
+pub field_read : (of : fields.Field) (field rest : List ℕ) → length field ≡ 4 → place_after_bytes (field_start of) (field ++ rest) ≡ place_after_bytes (behind_field of field) rest
 field_read of (a ∷ b ∷ c ∷ d ∷ []) rest four = refl
 field_read of _ rest four = absurd (omega arith)
 

@@ -1,4 +1,4 @@
--- What a reader of WAVE files says.
+-- What a reader of WAVE files answers.
 use Rattle.std.proofs.Common.{◌≡◌, ◌<◌, ◌-◌, inl, inr, ℕ, Bool, true, false, nat_lt, Option, Some, None, List, [], ◌∷◌, ◌++◌, length, refl, sym, ap, ◌∙◌, arith, append_assoc}
 use Rattle.std.specs.Prelude.{if◌then◌else◌, ◌&&◌, codes, Result, Ok, Err}
 use Rattle.std.specs.Str.{bytes_eq}
@@ -16,69 +16,69 @@ use Rattle.af_sound.specs.declared.wave.WaveField.TheVariants as wave
 use Rattle.af_sound.specs.declared.wave.Format.{Format}
 use Rattle.af_sound.specs.declared.wave.FormatFields.{FormatFields}
 use Rattle.af_sound.specs.Wave.{chunk_bytes, chunks_bytes, HasDataFirst, HasSecondFormat, HasShortFormat, HasWaveFault, IsBeforeFormat, IsBehindFormat, IsRiff, IsWaveHead, StatesSound}
-use Rattle.af_sound.specs.Reading.{field_begun, format_coded, format_end, format_of, format_size, head_with, reached, start, wave_name}
+use Rattle.af_sound.specs.Reading.{field_start, format_coded, format_end, format_of, format_size, head_with, place_after_bytes, start, wave_name}
 use Rattle.af_sound.proofs.ReachedLemmas.{field_read}
 use Rattle.af_sound.proofs.ChunkLemmas.{at_name, others_pass}
 use Rattle.af_sound.proofs.FormatLemmas.{format_passes, sixteen_read, size_read}
 
 -- the front is passed
-riff_passes : (riff more : List ℕ) → IsRiff riff → reached (start form.Wave) (riff ++ more) ≡ reached (at_name None) more
+riff_passes : (riff more : List ℕ) → IsRiff riff → place_after_bytes (start form.Wave) (riff ++ more) ≡ place_after_bytes (at_name None) more
 riff_passes riff more r =
     let spelled : riff ++ more ≡ codes "RIFF" ++ (r.size ++ (codes "WAVE" ++ more)) = ap (λ (b : List ℕ). b ++ more) r.is ∙ simp append_assoc in
-    ap (λ (b : List ℕ). reached (start form.Wave) b) spelled ∙ field_read (field.Wave (wave.RiffSize true)) r.size (codes "WAVE" ++ more) r.is_size
+    ap (λ (b : List ℕ). place_after_bytes (start form.Wave) b) spelled ∙ field_read (field.Wave (wave.RiffSize true)) r.size (codes "WAVE" ++ more) r.is_size
 
-pub before_passes : (front more : List ℕ) → IsBeforeFormat front → reached (start form.Wave) (front ++ more) ≡ reached (at_name None) more
+pub before_passes : (front more : List ℕ) → IsBeforeFormat front → place_after_bytes (start form.Wave) (front ++ more) ≡ place_after_bytes (at_name None) more
 before_passes front more b =
     let spelled : front ++ more ≡ b.riff ++ (chunks_bytes b.chunks ++ more) =
     ap (λ (l : List ℕ). l ++ more) b.is ∙ append_assoc b.riff (chunks_bytes b.chunks) more in
-    ap (λ (l : List ℕ). reached (start form.Wave) l) spelled ∙ riff_passes b.riff (chunks_bytes b.chunks ++ more) b.is_riff
+    ap (λ (l : List ℕ). place_after_bytes (start form.Wave) l) spelled ∙ riff_passes b.riff (chunks_bytes b.chunks ++ more) b.is_riff
     ∙ others_pass b.chunks more None b.others
 
 behind_passes : (coding : Coding) (rate channels : ℕ) (front more : List ℕ) → IsBehindFormat coding rate channels front →
-    reached (start form.Wave) (front ++ more) ≡ reached (at_name (Some (record { coding = coding; rate = rate; channels = channels }))) more
+    place_after_bytes (start form.Wave) (front ++ more) ≡ place_after_bytes (at_name (Some (record { coding = coding; rate = rate; channels = channels }))) more
 behind_passes coding rate channels front more b =
     let rest : List ℕ = chunks_bytes b.behind ++ more in
     let spelled : front ++ more ≡ b.before ++ (chunk_bytes b.format ++ rest) =
     ap (λ (l : List ℕ). l ++ more) b.is ∙ append_assoc b.before (chunk_bytes b.format ++ chunks_bytes b.behind) more
     ∙ ap (λ (l : List ℕ). b.before ++ l) (append_assoc (chunk_bytes b.format) (chunks_bytes b.behind) more) in
-    ap (λ (l : List ℕ). reached (start form.Wave) l) spelled ∙ before_passes b.before (chunk_bytes b.format ++ rest) b.is_before
+    ap (λ (l : List ℕ). place_after_bytes (start form.Wave) l) spelled ∙ before_passes b.before (chunk_bytes b.format ++ rest) b.is_before
     ∙ format_passes b.format coding rate channels rest b.is_format
     ∙ others_pass b.behind more (Some (record { coding = coding; rate = rate; channels = channels })) b.others
 
--- a head is read as it
-pub wave_head_read : (bytes : List ℕ) (head : SoundHead) → IsWaveHead bytes head → reached (start form.Wave) bytes ≡ Some (at.Head head)
+-- a header is read as that
+pub wave_head_read : (bytes : List ℕ) (head : SoundHead) → IsWaveHead bytes head → place_after_bytes (start form.Wave) bytes ≡ Some (at.Head head)
 wave_head_read bytes head h =
     let format : Format = record { coding = head.coding; rate = head.rate; channels = head.channels } in
-    ap (λ (l : List ℕ). reached (start form.Wave) l) h.is ∙ behind_passes head.coding head.rate head.channels h.front (codes "data" ++ h.size_field) h.is_front
-    ∙ ap (λ (l : List ℕ). reached (field_begun (field.Wave (wave.DataSize format))) l) (sym (append-nil h.size_field))
+    ap (λ (l : List ℕ). place_after_bytes (start form.Wave) l) h.is ∙ behind_passes head.coding head.rate head.channels h.front (codes "data" ++ h.size_field) h.is_front
+    ∙ ap (λ (l : List ℕ). place_after_bytes (field_start (field.Wave (wave.DataSize format))) l) (sym (append-nil h.size_field))
     ∙ field_read (field.Wave (wave.DataSize format)) h.size_field [] h.is_size.size
     ∙ ap (λ (n : ℕ). Some (at.Head (head_with format n))) h.is_size.is
     ∙ ap (λ (l : Option ℕ). Some (at.Head (record { coding = head.coding; rate = head.rate; channels = head.channels; length = l }))) (sym h.is_length)
 
-data_first_read : (bytes : List ℕ) → HasDataFirst bytes → reached (start form.Wave) bytes ≡ Some (at.Bad BadHead)
-data_first_read bytes h = ap (λ (l : List ℕ). reached (start form.Wave) l) h.is ∙ before_passes h.front (codes "data") h.is_front
+data_first_read : (bytes : List ℕ) → HasDataFirst bytes → place_after_bytes (start form.Wave) bytes ≡ Some (at.Bad BadHead)
+data_first_read bytes h = ap (λ (l : List ℕ). place_after_bytes (start form.Wave) l) h.is ∙ before_passes h.front (codes "data") h.is_front
 
-second_format_read : (bytes : List ℕ) → HasSecondFormat bytes → reached (start form.Wave) bytes ≡ Some (at.Bad BadHead)
+second_format_read : (bytes : List ℕ) → HasSecondFormat bytes → place_after_bytes (start form.Wave) bytes ≡ Some (at.Bad BadHead)
 second_format_read bytes h =
-    ap (λ (l : List ℕ). reached (start form.Wave) l) h.is ∙ behind_passes h.coding h.rate h.channels h.front (codes "fmt ") h.is_front
+    ap (λ (l : List ℕ). place_after_bytes (start form.Wave) l) h.is ∙ behind_passes h.coding h.rate h.channels h.front (codes "fmt ") h.is_front
 
-short_format_read : (bytes : List ℕ) → HasShortFormat bytes → reached (start form.Wave) bytes ≡ Some (at.Bad BadHead)
+short_format_read : (bytes : List ℕ) → HasShortFormat bytes → place_after_bytes (start form.Wave) bytes ≡ Some (at.Bad BadHead)
 short_format_read bytes h =
     let low : h.size < 16 = h.bad in
     let test : nat_lt h.size 16 ≡ true = grind (arith, nat_tests) in
-    ap (λ (l : List ℕ). reached (start form.Wave) l) h.is ∙ before_passes h.front (codes "fmt " ++ h.size_field) h.is_front
-    ∙ ap (λ (l : List ℕ). reached (field_begun (field.Wave wave.FormatSize)) l) (sym (append-nil h.size_field))
-    ∙ field_read (field.Wave wave.FormatSize) h.size_field [] h.is_size.size ∙ ap (λ (n : ℕ). reached (format_size n) []) h.is_size.is
-    ∙ ap (λ (t : Bool). reached (if t then at.Bad BadHead else field_begun (field.Wave (wave.FormatTag (h.size - 16)))) []) test
+    ap (λ (l : List ℕ). place_after_bytes (start form.Wave) l) h.is ∙ before_passes h.front (codes "fmt " ++ h.size_field) h.is_front
+    ∙ ap (λ (l : List ℕ). place_after_bytes (field_start (field.Wave wave.FormatSize)) l) (sym (append-nil h.size_field))
+    ∙ field_read (field.Wave wave.FormatSize) h.size_field [] h.is_size.size ∙ ap (λ (n : ℕ). place_after_bytes (format_size n) []) h.is_size.is
+    ∙ ap (λ (t : Bool). place_after_bytes (if t then at.Bad BadHead else field_start (field.Wave (wave.FormatTag (h.size - 16)))) []) test
 
 sound_read : (tag channels rate bits : ℕ) (bytes : List ℕ) (fault : SoundFault) → (s : StatesSound tag channels rate bits bytes) →
-    format_of (record { more = s.size - 16; tag = tag; channels = channels; rate = rate }) bits ≡ Err fault → reached (start form.Wave) bytes ≡ Some (at.Bad fault)
+    format_of (record { more = s.size - 16; tag = tag; channels = channels; rate = rate }) bits ≡ Err fault → place_after_bytes (start form.Wave) bytes ≡ Some (at.Bad fault)
 sound_read tag channels rate bits bytes fault s said =
     let fields : FormatFields = record { more = s.size - 16; tag = tag; channels = channels; rate = rate } in
-    ap (λ (l : List ℕ). reached (start form.Wave) l) s.is ∙ before_passes s.front (codes "fmt " ++ (s.size_field ++ s.format)) s.is_front
+    ap (λ (l : List ℕ). place_after_bytes (start form.Wave) l) s.is ∙ before_passes s.front (codes "fmt " ++ (s.size_field ++ s.format)) s.is_front
     ∙ size_read s.size s.size_field s.format s.is_size s.good_size
-    ∙ ap (λ (l : List ℕ). reached (field_begun (field.Wave (wave.FormatTag (s.size - 16)))) l) (sym (append-nil s.format))
-    ∙ sixteen_read fields bits s.format [] s.states ∙ ap (λ (r : Result Format SoundFault). reached (format_end fields r) []) said
+    ∙ ap (λ (l : List ℕ). place_after_bytes (field_start (field.Wave (wave.FormatTag (s.size - 16)))) l) (sym (append-nil s.format))
+    ∙ sixteen_read fields bits s.format [] s.states ∙ ap (λ (r : Result Format SoundFault). place_after_bytes (format_end fields r) []) said
 
 -- twelve bytes that are no front
 twelve : (a b c d e f g h i j k l : ℕ) → (IsRiff (a ∷ b ∷ c ∷ d ∷ e ∷ f ∷ g ∷ h ∷ i ∷ j ∷ k ∷ l ∷ []) → ⊥) →
@@ -96,13 +96,13 @@ twelve a b c d e f g h i j k l not_riff = by (bytes_eq (a ∷ b ∷ c ∷ d ∷ 
   by true riff false wave = refl
   by false riff u wave = refl
 
-no_riff_read : (bytes : List ℕ) → length bytes ≡ 12 → (IsRiff bytes → ⊥) → reached (start form.Wave) bytes ≡ Some (at.Bad BadMagic)
+no_riff_read : (bytes : List ℕ) → length bytes ≡ 12 → (IsRiff bytes → ⊥) → place_after_bytes (start form.Wave) bytes ≡ Some (at.Bad BadMagic)
 no_riff_read (a ∷ b ∷ c ∷ d ∷ e ∷ f ∷ g ∷ h ∷ i ∷ j ∷ k ∷ l ∷ []) twelve_bytes not_riff =
-    ap (λ (t : Bool). reached (wave_name t) []) (twelve a b c d e f g h i j k l not_riff)
+    ap (λ (t : Bool). place_after_bytes (wave_name t) []) (twelve a b c d e f g h i j k l not_riff)
 no_riff_read _ twelve_bytes not_riff = absurd (omega arith)
 
--- a fault is read as it
-pub wave_fault_read : (bytes : List ℕ) (fault : SoundFault) → HasWaveFault bytes fault → reached (start form.Wave) bytes ≡ Some (at.Bad fault)
+-- a fault is read as that
+pub wave_fault_read : (bytes : List ℕ) (fault : SoundFault) → HasWaveFault bytes fault → place_after_bytes (start form.Wave) bytes ≡ Some (at.Bad fault)
 wave_fault_read bytes BadMagic h = no_riff_read bytes h.0 h.1
 wave_fault_read bytes BadHead (inl h) = data_first_read bytes h
 wave_fault_read bytes BadHead (inr (inl h)) = second_format_read bytes h

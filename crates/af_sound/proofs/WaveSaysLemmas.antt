@@ -1,4 +1,4 @@
--- What a reader of WAVE files says is so.
+-- What a reader of WAVE files answers is so.
 use Rattle.std.proofs.Common.{◌≡◌, ◌+◌, ◌-◌, ◌%◌, ◌⊎◌, inl, inr, ℕ, Bool, true, false, nat_lt, Option, Some, None, List, [], ◌∷◌, ◌++◌, length, take, drop, refl, sym, ap, ◌∙◌, subst, arith, append_assoc, length-take, length-drop}
 use Rattle.std.specs.Prelude.{if◌then◌else◌, ◌&&◌, codes, Ok, Err}
 use Rattle.std.specs.Int.{w16, w32, from_le_bytes}
@@ -19,13 +19,13 @@ use Rattle.af_sound.specs.declared.wave.Format.{Format}
 use Rattle.af_sound.specs.declared.wave.FormatFields.{FormatFields}
 use Rattle.af_sound.specs.Fields.{has_shape, IsLittle, IsLittle16}
 use Rattle.af_sound.specs.Wave.{Chunk, chunk_bytes, chunks_bytes, HasSecondFormat, HasShortFormat, HasWaveFault, IsBeforeFormat, IsBehindFormat, IsChunk, IsFormat, IsRiff, IsWaveHead, StatesFormat, StatesSound, wave_coding}
-use Rattle.af_sound.specs.Reading.{field_begun, format_coded, format_end, format_of, head_with, reached, start, wave_name}
+use Rattle.af_sound.specs.Reading.{field_start, format_coded, format_end, format_of, head_with, place_after_bytes, start, wave_name}
 use Rattle.af_sound.proofs.ReachedLemmas.{bad_ends, head_ends, inside_says, Says, unsaid}
 use Rattle.af_sound.proofs.ChunkLemmas.{at_name, BeginsWith, body_ends, chunks_end, Passes, pieces, Skips}
 use Rattle.af_sound.proofs.FormatLemmas.{sixteen_bytes}
 
--- a fault that bytes end with is said of them
-badly : (bytes more : List ℕ) (fault : SoundFault) (place : Place) → HasWaveFault bytes fault → reached (at.Bad fault) more ≡ Some place → Says form.Wave (bytes ++ more) place
+-- a fault with which bytes end is reported
+badly : (bytes more : List ℕ) (fault : SoundFault) (place : Place) → HasWaveFault bytes fault → place_after_bytes (at.Bad fault) more ≡ Some place → Says form.Wave (bytes ++ more) place
 badly bytes more fault place has e =
     let ends : (more ≡ []) × (at.Bad fault ≡ place) = bad_ends fault more place e in
     let all : bytes ++ more ≡ bytes = ap (λ (m : List ℕ). bytes ++ m) ends.0 ∙ append-nil bytes in
@@ -34,9 +34,9 @@ badly bytes more fault place has e =
 regrouped : (a b c : List ℕ) (place : Place) → Says form.Wave ((a ++ b) ++ c) place → Says form.Wave (a ++ (b ++ c)) place
 regrouped a b c place said = subst (λ (l : List ℕ). Says form.Wave l place) (append_assoc a b c) said
 
--- behind a name `data` that came behind `fmt `
+-- after a name `data` that came after `fmt `
 data_says : (front : List ℕ) (format : Format) (rest : List ℕ) (place : Place) → IsBehindFormat format.coding format.rate format.channels front →
-    reached (field_begun (field.Wave (wave.DataSize format))) rest ≡ Some place → Says form.Wave (front ++ (codes "data" ++ rest)) place
+    place_after_bytes (field_start (field.Wave (wave.DataSize format))) rest ≡ Some place → Says form.Wave (front ++ (codes "data" ++ rest)) place
 data_says front format (a ∷ b ∷ c ∷ d ∷ more) place is_front e =
     let size : List ℕ = a ∷ b ∷ c ∷ d ∷ [] in
     let head : SoundHead = head_with format (from_le_bytes w32 size) in
@@ -54,10 +54,10 @@ data_says front format (a ∷ b ∷ c ∷ d ∷ more) place is_front e =
     (subst (λ (m : List ℕ). Says form.Wave (front ++ (codes "data" ++ (size ++ m))) (at.Head head)) (sym ends.0) is)
 data_says front format rest place is_front e = unsaid form.Wave (front ++ (codes "data" ++ rest)) _ place e refl
 
--- behind a whole `fmt `
+-- after a whole `fmt `
 behind_says : (front : List ℕ) (format : Format) (rest : List ℕ) (place : Place) → (before : List ℕ) (chunk : Chunk) → IsBeforeFormat before →
     IsFormat format.coding format.rate format.channels chunk → front ≡ before ++ chunk_bytes chunk →
-    reached (at_name (Some format)) rest ≡ Some place → Says form.Wave (front ++ rest) place
+    place_after_bytes (at_name (Some format)) rest ≡ Some place → Says form.Wave (front ++ rest) place
 behind_says front format rest place before chunk is_before is_format is e =
     elim (chunks_end (length rest) rest (Some format) place (omega arith) e) [ inl inside ↦ inside_says form.Wave (front ++ rest) place inside | inr s ↦ by s s.begins ] where
       passed : (s : Skips (Some format) rest place) → IsBehindFormat format.coding format.rate format.channels (front ++ chunks_bytes s.chunks)
@@ -75,8 +75,8 @@ behind_says front format rest place before chunk is_before is_format is e =
       spelled s name b =
           ap (λ (l : List ℕ). front ++ l) (s.is ∙ ap (λ (l : List ℕ). chunks_bytes s.chunks ++ l) b.is) ∙ sym (append_assoc front (chunks_bytes s.chunks) (name ++ b.rest))
 
-      goes_on : (s : Skips (Some format) rest place) (name : List ℕ) (b : BeginsWith name s.rest) → reached (at_name (Some format)) (name ++ b.rest) ≡ Some place
-      goes_on s name b = ap (λ (l : List ℕ). reached (at_name (Some format)) l) (sym b.is) ∙ s.reaches
+      goes_on : (s : Skips (Some format) rest place) (name : List ℕ) (b : BeginsWith name s.rest) → place_after_bytes (at_name (Some format)) (name ++ b.rest) ≡ Some place
+      goes_on s name b = ap (λ (l : List ℕ). place_after_bytes (at_name (Some format)) l) (sym b.is) ∙ s.reaches
 
       by : (s : Skips (Some format) rest place) → BeginsWith (codes "data") s.rest ⊎ BeginsWith (codes "fmt ") s.rest → Says form.Wave (front ++ rest) place
       by s (inl b) =
@@ -132,9 +132,9 @@ format_chunk size sixteen more after format place tag bits is_size states is_cod
     ∙ sym (append_assoc sixteen front (pad ++ p.rest)) in
     (chunk, is_format, ap (λ (l : List ℕ). codes "fmt " ++ (size ++ l)) all ∙ sym (pieces chunk p.rest))
 
--- behind the sixteen bytes of `fmt `
+-- after the sixteen bytes of `fmt `
 sixteen_say : (before size sixteen after : List ℕ) (fields : FormatFields) (bits : ℕ) (place : Place) → IsBeforeFormat before → IsLittle (16 + fields.more) size →
-    StatesFormat fields.tag fields.channels fields.rate bits sixteen → reached (format_end fields (format_of fields bits)) after ≡ Some place →
+    StatesFormat fields.tag fields.channels fields.rate bits sixteen → place_after_bytes (format_end fields (format_of fields bits)) after ≡ Some place →
     Says form.Wave (before ++ (codes "fmt " ++ (size ++ (sixteen ++ after)))) place
 sixteen_say before size sixteen after fields bits place is_before is_size states e = by (wave_coding fields.tag bits) refl e where
   bytes : List ℕ
@@ -156,14 +156,14 @@ sixteen_say before size sixteen after fields bits place is_before is_size states
   spelled : (before ++ (codes "fmt " ++ (size ++ sixteen))) ++ after ≡ before ++ (codes "fmt " ++ (size ++ (sixteen ++ after)))
   spelled = simp append_assoc
 
-  faulty : (fault : SoundFault) → HasWaveFault (before ++ (codes "fmt " ++ (size ++ sixteen))) fault → reached (at.Bad fault) after ≡ Some place →
+  faulty : (fault : SoundFault) → HasWaveFault (before ++ (codes "fmt " ++ (size ++ sixteen))) fault → place_after_bytes (at.Bad fault) after ≡ Some place →
       Says form.Wave (before ++ (codes "fmt " ++ (size ++ (sixteen ++ after)))) place
   faulty fault has f =
       subst (λ (l : List ℕ). Says form.Wave l place) spelled (badly (before ++ (codes "fmt " ++ (size ++ sixteen))) after fault place has f)
 
   good : (format : Format) → wave_coding fields.tag bits ≡ Some format.coding → format.rate ≡ fields.rate → format.channels ≡ fields.channels → has_shape format.channels ≡ true →
       StatesFormat fields.tag format.channels format.rate bits sixteen →
-      reached (format_end fields (Ok format)) after ≡ Some place → Says form.Wave (before ++ (codes "fmt " ++ (size ++ (sixteen ++ after)))) place
+      place_after_bytes (format_end fields (Ok format)) after ≡ Some place → Says form.Wave (before ++ (codes "fmt " ++ (size ++ (sixteen ++ after)))) place
   good format coding same_rate same_channels shape states_it f =
       elim (body_ends after fields.more (Some format) place f) [
         | inl inside ↦ inside_says form.Wave (before ++ (codes "fmt " ++ (size ++ (sixteen ++ after)))) place inside
@@ -173,13 +173,13 @@ sixteen_say before size sixteen after fields bits place is_before is_size states
       ]
 
   by_shape : (coding : Coding) → wave_coding fields.tag bits ≡ Some coding → (t : Bool) → has_shape fields.channels ≡ t →
-      reached (format_end fields (if t then Ok (record { coding = coding; rate = fields.rate; channels = fields.channels }) else Err (BadShape fields.rate fields.channels))) after ≡ Some place →
+      place_after_bytes (format_end fields (if t then Ok (record { coding = coding; rate = fields.rate; channels = fields.channels }) else Err (BadShape fields.rate fields.channels))) after ≡ Some place →
       Says form.Wave (before ++ (codes "fmt " ++ (size ++ (sixteen ++ after)))) place
   by_shape coding is true test f = good (record { coding = coding; rate = fields.rate; channels = fields.channels }) is refl refl test states f
   by_shape coding is false test f =
       faulty (BadShape fields.rate fields.channels) (record { tag = fields.tag; bits = bits; coding = coding; states = sound; good_coding = is; bad = test }) f
 
-  by : (c : Option Coding) → wave_coding fields.tag bits ≡ c → reached (format_end fields (format_coded fields bits c)) after ≡ Some place →
+  by : (c : Option Coding) → wave_coding fields.tag bits ≡ c → place_after_bytes (format_end fields (format_coded fields bits c)) after ≡ Some place →
       Says form.Wave (before ++ (codes "fmt " ++ (size ++ (sixteen ++ after)))) place
   by (Some coding) is f = by_shape coding is (has_shape fields.channels) refl f
   by None is f = faulty (BadCoding fields.tag bits) (record { channels = fields.channels; rate = fields.rate; states = sound; bad = is }) f
@@ -187,9 +187,9 @@ sixteen_say before size sixteen after fields bits place is_before is_size states
 own16 : (a b : ℕ) → IsLittle16 (from_le_bytes w16 (a ∷ b ∷ [])) (a ∷ b ∷ [])
 own16 a b = record { size = refl; is = refl }
 
--- behind a size of `fmt ` that is large enough
+-- after a size of `fmt ` that is large enough
 tag_says : (before size rest : List ℕ) (more : ℕ) (place : Place) → IsBeforeFormat before → IsLittle (16 + more) size →
-    reached (field_begun (field.Wave (wave.FormatTag more))) rest ≡ Some place → Says form.Wave (before ++ (codes "fmt " ++ (size ++ rest))) place
+    place_after_bytes (field_start (field.Wave (wave.FormatTag more))) rest ≡ Some place → Says form.Wave (before ++ (codes "fmt " ++ (size ++ rest))) place
 tag_says before size (t0 ∷ t1 ∷ c0 ∷ c1 ∷ r0 ∷ r1 ∷ r2 ∷ r3 ∷ i0 ∷ i1 ∷ i2 ∷ i3 ∷ i4 ∷ i5 ∷ b0 ∷ b1 ∷ after) more place is_before is_size e =
     let tag : List ℕ = t0 ∷ t1 ∷ [] in
     let channels : List ℕ = c0 ∷ c1 ∷ [] in
@@ -213,12 +213,12 @@ tag_says before size (t0 ∷ t1 ∷ c0 ∷ c1 ∷ r0 ∷ r1 ∷ r2 ∷ r3 ∷ i0
     }) e
 tag_says before size rest more place is_before is_size e = unsaid form.Wave (before ++ (codes "fmt " ++ (size ++ rest))) _ place e refl
 
--- behind the name `fmt `
-format_says : (before rest : List ℕ) (place : Place) → IsBeforeFormat before → reached (field_begun (field.Wave wave.FormatSize)) rest ≡ Some place →
+-- after the name `fmt `
+format_says : (before rest : List ℕ) (place : Place) → IsBeforeFormat before → place_after_bytes (field_start (field.Wave wave.FormatSize)) rest ≡ Some place →
     Says form.Wave (before ++ (codes "fmt " ++ rest)) place
 format_says before (a ∷ b ∷ c ∷ d ∷ rest) place is_before e = by (nat_lt (from_le_bytes w32 (a ∷ b ∷ c ∷ d ∷ [])) 16) refl e where
   by : (t : Bool) → nat_lt (from_le_bytes w32 (a ∷ b ∷ c ∷ d ∷ [])) 16 ≡ t →
-      reached (if t then at.Bad BadHead else field_begun (field.Wave (wave.FormatTag (from_le_bytes w32 (a ∷ b ∷ c ∷ d ∷ []) - 16)))) rest ≡ Some place →
+      place_after_bytes (if t then at.Bad BadHead else field_start (field.Wave (wave.FormatTag (from_le_bytes w32 (a ∷ b ∷ c ∷ d ∷ []) - 16)))) rest ≡ Some place →
       Says form.Wave (before ++ (codes "fmt " ++ ((a ∷ b ∷ c ∷ d ∷ []) ++ rest))) place
   by true test f =
       let size : List ℕ = a ∷ b ∷ c ∷ d ∷ [] in
@@ -238,8 +238,8 @@ format_says before (a ∷ b ∷ c ∷ d ∷ rest) place is_before e = by (nat_lt
       tag_says before size rest (from_le_bytes w32 size - 16) place is_before (record { size = refl; is = all }) f
 format_says before rest place is_before e = unsaid form.Wave (before ++ (codes "fmt " ++ rest)) _ place e refl
 
--- behind the front
-front_says : (riff rest : List ℕ) (place : Place) → IsRiff riff → reached (at_name None) rest ≡ Some place → Says form.Wave (riff ++ rest) place
+-- after the front
+front_says : (riff rest : List ℕ) (place : Place) → IsRiff riff → place_after_bytes (at_name None) rest ≡ Some place → Says form.Wave (riff ++ rest) place
 front_says riff rest place is_riff e =
     elim (chunks_end (length rest) rest None place (omega arith) e) [ inl inside ↦ inside_says form.Wave (riff ++ rest) place inside | inr s ↦ by s s.begins ] where
       passed : (s : Skips None rest place) → IsBeforeFormat (riff ++ chunks_bytes s.chunks)
@@ -249,8 +249,8 @@ front_says riff rest place is_riff e =
       spelled s name b =
           ap (λ (l : List ℕ). riff ++ l) (s.is ∙ ap (λ (l : List ℕ). chunks_bytes s.chunks ++ l) b.is) ∙ sym (append_assoc riff (chunks_bytes s.chunks) (name ++ b.rest))
 
-      goes_on : (s : Skips None rest place) (name : List ℕ) (b : BeginsWith name s.rest) → reached (at_name None) (name ++ b.rest) ≡ Some place
-      goes_on s name b = ap (λ (l : List ℕ). reached (at_name None) l) (sym b.is) ∙ s.reaches
+      goes_on : (s : Skips None rest place) (name : List ℕ) (b : BeginsWith name s.rest) → place_after_bytes (at_name None) (name ++ b.rest) ≡ Some place
+      goes_on s name b = ap (λ (l : List ℕ). place_after_bytes (at_name None) l) (sym b.is) ∙ s.reaches
 
       by : (s : Skips None rest place) → BeginsWith (codes "data") s.rest ⊎ BeginsWith (codes "fmt ") s.rest → Says form.Wave (riff ++ rest) place
       by s (inl b) =
@@ -271,16 +271,16 @@ riff_back : (a b c d e f g h i j k l : ℕ) (size : List ℕ) → length size �
 riff_back a b c d e f g h i j k l (s0 ∷ s1 ∷ s2 ∷ s3 ∷ []) four is = ap (λ (x : List ℕ). drop 8 x) is
 riff_back a b c d e f g h i j k l _ four is = absurd (omega arith)
 
--- what is reached says what the bytes are
-pub wave_says : (bytes : List ℕ) (place : Place) → reached (start form.Wave) bytes ≡ Some place → Says form.Wave bytes place
+-- the place that is reached says what the bytes are
+pub wave_says : (bytes : List ℕ) (place : Place) → place_after_bytes (start form.Wave) bytes ≡ Some place → Says form.Wave bytes place
 wave_says (a ∷ b ∷ c ∷ d ∷ e ∷ f ∷ g ∷ h ∷ i ∷ j ∷ k ∷ l ∷ rest) place is =
     by (bytes_eq (a ∷ b ∷ c ∷ d ∷ []) (codes "RIFF")) refl (bytes_eq (i ∷ j ∷ k ∷ l ∷ []) (codes "WAVE")) refl is where
-      other : ((IsRiff (a ∷ b ∷ c ∷ d ∷ e ∷ f ∷ g ∷ h ∷ i ∷ j ∷ k ∷ l ∷ [])) → ⊥) → reached (at.Bad BadMagic) rest ≡ Some place →
+      other : ((IsRiff (a ∷ b ∷ c ∷ d ∷ e ∷ f ∷ g ∷ h ∷ i ∷ j ∷ k ∷ l ∷ [])) → ⊥) → place_after_bytes (at.Bad BadMagic) rest ≡ Some place →
           Says form.Wave ((a ∷ b ∷ c ∷ d ∷ e ∷ f ∷ g ∷ h ∷ i ∷ j ∷ k ∷ l ∷ []) ++ rest) place
       other not_riff r = badly (a ∷ b ∷ c ∷ d ∷ e ∷ f ∷ g ∷ h ∷ i ∷ j ∷ k ∷ l ∷ []) rest BadMagic place (refl, not_riff) r
 
       by : (t : Bool) → bytes_eq (a ∷ b ∷ c ∷ d ∷ []) (codes "RIFF") ≡ t → (u : Bool) → bytes_eq (i ∷ j ∷ k ∷ l ∷ []) (codes "WAVE") ≡ u →
-          reached (wave_name (t && u)) rest ≡ Some place → Says form.Wave ((a ∷ b ∷ c ∷ d ∷ e ∷ f ∷ g ∷ h ∷ i ∷ j ∷ k ∷ l ∷ []) ++ rest) place
+          place_after_bytes (wave_name (t && u)) rest ≡ Some place → Says form.Wave ((a ∷ b ∷ c ∷ d ∷ e ∷ f ∷ g ∷ h ∷ i ∷ j ∷ k ∷ l ∷ []) ++ rest) place
       by true riff true wave r =
           let front : (a ∷ b ∷ c ∷ d ∷ []) ≡ codes "RIFF" = same_text (a ∷ b ∷ c ∷ d ∷ []) (codes "RIFF") (sym riff) in
           let back : (i ∷ j ∷ k ∷ l ∷ []) ≡ codes "WAVE" = same_text (i ∷ j ∷ k ∷ l ∷ []) (codes "WAVE") (sym wave) in

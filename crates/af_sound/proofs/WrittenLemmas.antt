@@ -1,4 +1,4 @@
--- What is written is a head.
+-- What is written is a header.
 use Rattle.std.proofs.Common.{◌≡◌, ◌<◌, ◌*◌, ◌%◌, ◌^◌, ℕ, Option, Some, None, List, [], ◌++◌, refl, sym, arith, lit<}
 use Rattle.std.specs.Prelude.{IsTrue, codes}
 use Rattle.std.proofs.lemmas.Bool.Decides.{nat_tests}
@@ -11,9 +11,9 @@ use Rattle.af_sound.specs.declared.head.Coding.TheVariants as coding
 use Rattle.af_sound.specs.Fields.{IsBig, IsLittle, IsLittle16, length_of, has_shape}
 use Rattle.af_sound.specs.Au.{IsAuHead, StatesAu, au_coding}
 use Rattle.af_sound.specs.Wave.{Chunk, IsBeforeFormat, IsBehindFormat, IsFormat, IsWaveHead, StatesFormat, wave_coding}
-use Rattle.af_sound.specs.Written.{IsWritableHead, IsStatable, au_bytes, wave_bytes, size_of, encoding_of, is_written, big, little, little16, tag_of, sample_size, frame_size, riff_size}
+use Rattle.af_sound.specs.Written.{IsWritableHead, IsStatable, au_bytes, wave_bytes, size_of, encoding_of, is_written, big_bytes, little_bytes, little16_bytes, tag_of, sample_size, frame_size, riff_size}
 
-big_is : (number : ℕ) → number < 2 ^ 32 → IsBig number (big number)
+big_is : (number : ℕ) → number < 2 ^ 32 → IsBig number (big_bytes number)
 big_is number low = record { size = refl; is = from_be_bytes-to_be_bytes_4 number low }
 
 low_shape : (channels : ℕ) → IsTrue (has_shape channels) → channels < 2 ^ 16
@@ -46,11 +46,11 @@ unfolding au_bytes
 au_written head bytes is writable rate =
     let channels : head.channels < 2 ^ 32 = omega (arith, low_shape head.channels writable.shape) in
     let states : StatesAu 24 (size_of head.length) (encoding_of head.coding) head.rate head.channels bytes = record {
-      offset_field = big 24;
-      size_field = big (size_of head.length);
-      encoding_field = big (encoding_of head.coding);
-      rate_field = big head.rate;
-      channels_field = big head.channels;
+      offset_field = big_bytes 24;
+      size_field = big_bytes (size_of head.length);
+      encoding_field = big_bytes (encoding_of head.coding);
+      rate_field = big_bytes head.rate;
+      channels_field = big_bytes head.channels;
       is = is;
       is_offset = big_is 24 (lit< tt);
       is_size = big_is (size_of head.length) (low_size head.length writable.length);
@@ -72,10 +72,10 @@ au_written head bytes is writable rate =
       is_shape = writable.shape;
     }
 
-little_is : (number : ℕ) → number < 2 ^ 32 → IsLittle number (little number)
+little_is : (number : ℕ) → number < 2 ^ 32 → IsLittle number (little_bytes number)
 little_is number low = record { size = refl; is = from_le_bytes-to_le_bytes_4 number low }
 
-little16_is : (number : ℕ) → number < 2 ^ 16 → IsLittle16 number (little16 number)
+little16_is : (number : ℕ) → number < 2 ^ 16 → IsLittle16 number (little16_bytes number)
 little16_is number low = record { size = refl; is = from_le_bytes-to_le_bytes_2 number low }
 
 wave_coding_again : (c : Coding) → IsTrue (is_written Wave c) → wave_coding (tag_of c) (sample_size c * 8) ≡ Some c
@@ -102,21 +102,21 @@ low_bits coding.U8 = lit< tt
 -- the sixteen bytes of `fmt `
 sixteen : SoundHead → List ℕ
 sixteen head =
-    little16 (tag_of head.coding) ++ (little16 head.channels ++ (little head.rate
-    ++ ((little (head.rate * frame_size head % 2 ^ 32) ++ little16 (frame_size head)) ++ little16 (sample_size head.coding * 8))))
+    little16_bytes (tag_of head.coding) ++ (little16_bytes head.channels ++ (little_bytes head.rate
+    ++ ((little_bytes (head.rate * frame_size head % 2 ^ 32) ++ little16_bytes (frame_size head)) ++ little16_bytes (sample_size head.coding * 8))))
 
 format : SoundHead → Chunk
-format head = record { name = codes "fmt "; size = little 16; body = sixteen head; pad = [] }
+format head = record { name = codes "fmt "; size = little_bytes 16; body = sixteen head; pad = [] }
 
 format_is : (head : SoundHead) → IsWritableHead Wave head → head.rate < 2 ^ 32 → IsFormat head.coding head.rate head.channels (format head)
 unfolding format sixteen
 format_is head writable rate =
     let states : StatesFormat (tag_of head.coding) head.channels head.rate (sample_size head.coding * 8) (sixteen head) = record {
-      tag_field = little16 (tag_of head.coding);
-      channels_field = little16 head.channels;
-      rate_field = little head.rate;
-      ignored = little (head.rate * frame_size head % 2 ^ 32) ++ little16 (frame_size head);
-      bits_field = little16 (sample_size head.coding * 8);
+      tag_field = little16_bytes (tag_of head.coding);
+      channels_field = little16_bytes head.channels;
+      rate_field = little_bytes head.rate;
+      ignored = little_bytes (head.rate * frame_size head % 2 ^ 32) ++ little16_bytes (frame_size head);
+      bits_field = little16_bytes (sample_size head.coding * 8);
       is = refl;
       is_tag = little16_is (tag_of head.coding) (low_tag head.coding);
       is_channels = little16_is head.channels (low_shape head.channels writable.shape);
@@ -137,21 +137,21 @@ format_is head writable rate =
       is_shape = writable.shape;
     }
 
-before_is : (head : SoundHead) → IsBeforeFormat (codes "RIFF" ++ (little (riff_size head.length) ++ codes "WAVE"))
+before_is : (head : SoundHead) → IsBeforeFormat (codes "RIFF" ++ (little_bytes (riff_size head.length) ++ codes "WAVE"))
 before_is head = record {
-  riff = codes "RIFF" ++ (little (riff_size head.length) ++ codes "WAVE");
+  riff = codes "RIFF" ++ (little_bytes (riff_size head.length) ++ codes "WAVE");
   chunks = [];
-  is = sym (append-nil (codes "RIFF" ++ (little (riff_size head.length) ++ codes "WAVE")));
-  is_riff = record { size = little (riff_size head.length); is = refl; is_size = refl };
+  is = sym (append-nil (codes "RIFF" ++ (little_bytes (riff_size head.length) ++ codes "WAVE")));
+  is_riff = record { size = little_bytes (riff_size head.length); is = refl; is_size = refl };
   others = tt;
 }
 
 behind_is : (head : SoundHead) → IsWritableHead Wave head → head.rate < 2 ^ 32 →
     IsBehindFormat head.coding head.rate head.channels
-    ((codes "RIFF" ++ (little (riff_size head.length) ++ codes "WAVE")) ++ (codes "fmt " ++ (little 16 ++ sixteen head)))
+    ((codes "RIFF" ++ (little_bytes (riff_size head.length) ++ codes "WAVE")) ++ (codes "fmt " ++ (little_bytes 16 ++ sixteen head)))
 unfolding format sixteen
 behind_is head writable rate = record {
-  before = codes "RIFF" ++ (little (riff_size head.length) ++ codes "WAVE");
+  before = codes "RIFF" ++ (little_bytes (riff_size head.length) ++ codes "WAVE");
   format = format head;
   behind = [];
   is = refl;
@@ -163,8 +163,8 @@ behind_is head writable rate = record {
 pub wave_written : (head : SoundHead) (bytes : List ℕ) → bytes ≡ wave_bytes head → IsWritableHead Wave head → head.rate < 2 ^ 32 → IsWaveHead bytes head
 unfolding wave_bytes sixteen
 wave_written head bytes is writable rate = record {
-  front = (codes "RIFF" ++ (little (riff_size head.length) ++ codes "WAVE")) ++ (codes "fmt " ++ (little 16 ++ sixteen head));
-  size_field = little (size_of head.length);
+  front = (codes "RIFF" ++ (little_bytes (riff_size head.length) ++ codes "WAVE")) ++ (codes "fmt " ++ (little_bytes 16 ++ sixteen head));
+  size_field = little_bytes (size_of head.length);
   size = size_of head.length;
   is = is;
   is_front = behind_is head writable rate;

@@ -1,4 +1,4 @@
--- The head of an .au file: six big-endian numbers, of which the first is a name, and an annotation.
+-- The header of an .au file: six big-endian numbers and an annotation. The first number is a name.
 use Rattle.std.specs.Prelude.{◌≡◌, ◌≢◌, ◌<◌, ◌≤◌, ◌+◌, ℕ, IsTrue, false, ◌==◌, if◌then◌else◌, Option, Some, None, List, ◌++◌, length, codes}
 use Rattle.af_sound.specs.declared.head.Coding.{Coding}
 use Rattle.af_sound.specs.declared.head.Coding.TheVariants.{Mu255, Alaw, Lin16Big}
@@ -7,7 +7,7 @@ use Rattle.af_sound.specs.declared.head.SoundFault.{SoundFault}
 use Rattle.af_sound.specs.declared.head.SoundFault.TheVariants.{BadMagic, BadHead, BadCoding, BadShape}
 use Rattle.af_sound.specs.Fields.{IsBig, has_shape, length_of}
 
--- the coding of an encoding's number, if it is one that is read here
+-- the coding for an encoding's number, if it is read here
 abbrev pub au_coding : ℕ → Option Coding
 au_coding encoding =
     if encoding == 1 then Some Mu255
@@ -29,7 +29,7 @@ pub record StatesAu (offset size encoding rate channels : ℕ) (bytes : List ℕ
   pub is_rate : IsBig rate rate_field
   pub is_channels : IsBig channels channels_field
 
--- a head of an .au file: the sound begins where its offset says, which is behind the six numbers and the annotation
+-- a header of an .au file: the sound begins at its offset, after the six numbers and the annotation
 pub record IsAuHead (bytes : List ℕ) (head : SoundHead) : Type 0 where
   pub offset : ℕ
   pub size : ℕ
@@ -43,7 +43,7 @@ pub record IsAuHead (bytes : List ℕ) (head : SoundHead) : Type 0 where
   pub is_coding : au_coding encoding ≡ Some head.coding
   pub is_shape : IsTrue (has_shape head.channels)
 
--- six numbers of which the last that came makes the coding one that is not read here
+-- six numbers whose encoding is not read here
 pub record HasAuCoding (encoding : ℕ) (bytes : List ℕ) : Type 0 where
   pub offset : ℕ
   pub size : ℕ
@@ -53,7 +53,7 @@ pub record HasAuCoding (encoding : ℕ) (bytes : List ℕ) : Type 0 where
   pub good_offset : 24 ≤ offset
   pub bad : au_coding encoding ≡ None
 
--- six numbers of which the channels alone are bad
+-- six numbers; only the channels are bad
 pub record HasAuShape (rate channels : ℕ) (bytes : List ℕ) : Type 0 where
   pub offset : ℕ
   pub size : ℕ
@@ -64,7 +64,7 @@ pub record HasAuShape (rate channels : ℕ) (bytes : List ℕ) : Type 0 where
   pub good_coding : au_coding encoding ≡ Some coding
   pub bad : has_shape channels ≡ false
 
--- six numbers with an offset inside of them
+-- six numbers with an offset that points into them
 pub record HasAuOffset (bytes : List ℕ) : Type 0 where
   pub offset : ℕ
   pub size : ℕ
@@ -74,7 +74,7 @@ pub record HasAuOffset (bytes : List ℕ) : Type 0 where
   pub states : StatesAu offset size encoding rate channels bytes
   pub bad : offset < 24
 
--- the bytes end where a fault of an .au head shows: the name behind its four bytes, each other behind the six numbers
+-- the bytes end where a fault of an .au header shows: a bad name after its four bytes, and any other fault after the six numbers
 abbrev pub HasAuFault : List ℕ → SoundFault → Type 0
 HasAuFault bytes BadMagic = (length bytes ≡ 4) × (bytes ≢ codes ".snd")
 HasAuFault bytes BadHead = HasAuOffset bytes

@@ -1,18 +1,18 @@
--- The fields of heads, and what they state.
+-- The fields of headers, and what they state.
 use Rattle.std.specs.Prelude.{◌≡◌, ℕ, Bool, ◌==◌, ◌||◌, if◌then◌else◌, Option, Some, None, List, length}
 use Rattle.std.specs.Int.{w16, w32, from_be_bytes, from_le_bytes}
 
--- four bytes that spell a number, the high byte first
+-- four bytes that spell a number, the most significant first
 pub record IsBig (number : ℕ) (field : List ℕ) : Type 0 where
   pub size : length field ≡ 4
   pub is : from_be_bytes w32 field ≡ number
 
--- four bytes that spell a number, the low byte first
+-- four bytes that spell a number, the least significant first
 pub record IsLittle (number : ℕ) (field : List ℕ) : Type 0 where
   pub size : length field ≡ 4
   pub is : from_le_bytes w32 field ≡ number
 
--- two bytes that spell a number, the low byte first
+-- two bytes that spell a number, the least significant first
 pub record IsLittle16 (number : ℕ) (field : List ℕ) : Type 0 where
   pub size : length field ≡ 2
   pub is : from_le_bytes w16 field ≡ number
@@ -21,7 +21,7 @@ pub record IsLittle16 (number : ℕ) (field : List ℕ) : Type 0 where
 abbrev pub has_shape : ℕ → Bool
 has_shape channels = channels == 1 || channels == 2
 
--- what stands for a length that is not known: the greatest number of four bytes
+-- the number for a length that is not known: the greatest of four bytes
 abbrev pub unknown_length : ℕ
 unknown_length = 4294967295
 

@@ -1,4 +1,4 @@
--- Which bytes a reader of heads has taken.
+-- Which bytes a reader of headers has taken.
 use Rattle.std.specs.Prelude.{◌≡◌, ℕ, ◌+◌, ◌-◌, ◌%◌, ◌==◌, ◌&&◌, nat_lt, Bool, true, false, IsTrue, if◌then◌else◌, Option, Some, None, Result, Ok, Err, List, [], ◌∷◌, codes, slice_index}
 use Rattle.std.specs.Int.{w16, w32, from_be_bytes, from_le_bytes}
 use Rattle.std.specs.Str.{bytes_eq}
@@ -31,8 +31,8 @@ use Rattle.af_sound.specs.Au.{au_coding}
 use Rattle.af_sound.specs.Wave.{wave_coding}
 
 -- before a field
-abbrev pub field_begun : fields.Field → Place
-field_begun of = Field of Nothing
+abbrev pub field_start : fields.Field → Place
+field_start of = Field of Nothing
 
 -- what six numbers of an .au file say
 abbrev pub au_shaped : AuNumbers → ℕ → Coding → Result SoundHead SoundFault
@@ -54,41 +54,41 @@ au_end numbers (Ok head) = if nat_lt 24 numbers.offset then Annotation (numbers.
 au_end numbers (Err fault) = Bad fault
 
 abbrev pub au_name : Bool → Place
-au_name true = field_begun (field.Au au.Offset)
+au_name true = field_start (field.Au au.Offset)
 au_name false = Bad BadMagic
 
--- behind a field of an .au file
+-- after a field of an .au file
 abbrev pub au_number : AuField → ℕ → Place
 au_number au.Name number = Bad BadMagic
-au_number au.Offset number = field_begun (field.Au (au.Size number))
-au_number (au.Size offset) number = field_begun (field.Au (au.Encoding offset number))
-au_number (au.Encoding offset size) number = field_begun (field.Au (au.Rate offset size number))
+au_number au.Offset number = field_start (field.Au (au.Size number))
+au_number (au.Size offset) number = field_start (field.Au (au.Encoding offset number))
+au_number (au.Encoding offset size) number = field_start (field.Au (au.Rate offset size number))
 au_number (au.Rate offset size encoding) number =
-    field_begun (field.Au (au.Channels (record { offset = offset; size = size; encoding = encoding; rate = number })))
+    field_start (field.Au (au.Channels (record { offset = offset; size = size; encoding = encoding; rate = number })))
 au_number (au.Channels numbers) number = au_end numbers (au_head numbers number)
 
 abbrev pub au_behind : AuField → List ℕ → Place
 au_behind au.Name bytes = au_name (bytes_eq bytes (codes ".snd"))
 au_behind of bytes = au_number of (from_be_bytes w32 bytes)
 
--- what a chunk is by its name
+-- the kind of a chunk, by its name
 abbrev pub chunk_kind : List ℕ → ChunkKind
 chunk_kind name =
     if bytes_eq name (codes "fmt ") then kind.Format else if bytes_eq name (codes "data") then kind.Data else kind.Other
 
 abbrev pub behind_name : ChunkKind → Option Format → Place
-behind_name kind.Format None = field_begun (field.Wave wave.FormatSize)
+behind_name kind.Format None = field_start (field.Wave wave.FormatSize)
 behind_name kind.Format (Some format) = Bad BadHead
 behind_name kind.Data None = Bad BadHead
-behind_name kind.Data (Some format) = field_begun (field.Wave (wave.DataSize format))
-behind_name kind.Other format = field_begun (field.Wave (wave.ChunkSize format))
+behind_name kind.Data (Some format) = field_start (field.Wave (wave.DataSize format))
+behind_name kind.Other format = field_start (field.Wave (wave.ChunkSize format))
 
 -- before so many bytes of a chunk and its pad byte
 abbrev pub before_rest : ℕ → Option Format → Place
-before_rest left format = if left == 0 then field_begun (field.Wave (wave.ChunkName format)) else Chunk left format
+before_rest left format = if left == 0 then field_start (field.Wave (wave.ChunkName format)) else Chunk left format
 
-abbrev pub chunk_begun : ℕ → Option Format → Place
-chunk_begun count format = before_rest (count + count % 2) format
+abbrev pub chunk_start : ℕ → Option Format → Place
+chunk_start count format = before_rest (count + count % 2) format
 
 -- what `fmt ` says
 abbrev pub format_shaped : FormatFields → Coding → Result Format SoundFault
@@ -105,17 +105,17 @@ abbrev pub format_of : FormatFields → ℕ → Result Format SoundFault
 format_of fields bits = format_coded fields bits (wave_coding fields.tag bits)
 
 abbrev pub format_end : FormatFields → Result Format SoundFault → Place
-format_end fields (Ok format) = chunk_begun fields.more (Some format)
+format_end fields (Ok format) = chunk_start fields.more (Some format)
 format_end fields (Err fault) = Bad fault
 
 abbrev pub head_with : Format → ℕ → SoundHead
 head_with format size = record { coding = format.coding; rate = format.rate; channels = format.channels; length = length_of size }
 
 abbrev pub wave_name : Bool → Place
-wave_name true = field_begun (field.Wave (wave.ChunkName None))
+wave_name true = field_start (field.Wave (wave.ChunkName None))
 wave_name false = Bad BadMagic
 
--- the number of two bytes of four
+-- the number that the first two of four bytes spell
 abbrev pub low_half : List ℕ → ℕ
 low_half bytes = from_le_bytes w16 (slice_index bytes 0 ∷ slice_index bytes 1 ∷ [])
 
@@ -123,20 +123,20 @@ abbrev pub high_half : List ℕ → ℕ
 high_half bytes = from_le_bytes w16 (slice_index bytes 2 ∷ slice_index bytes 3 ∷ [])
 
 abbrev pub format_size : ℕ → Place
-format_size size = if nat_lt size 16 then Bad BadHead else field_begun (field.Wave (wave.FormatTag (size - 16)))
+format_size size = if nat_lt size 16 then Bad BadHead else field_start (field.Wave (wave.FormatTag (size - 16)))
 
--- behind four bytes of a WAVE file
+-- after four bytes of a WAVE file
 abbrev pub wave_behind : WaveField → List ℕ → Place
-wave_behind wave.Riff bytes = field_begun (field.Wave (wave.RiffSize (bytes_eq bytes (codes "RIFF"))))
-wave_behind (wave.RiffSize riff) bytes = field_begun (field.Wave (wave.Wave riff))
+wave_behind wave.Riff bytes = field_start (field.Wave (wave.RiffSize (bytes_eq bytes (codes "RIFF"))))
+wave_behind (wave.RiffSize riff) bytes = field_start (field.Wave (wave.Wave riff))
 wave_behind (wave.Wave riff) bytes = wave_name (riff && bytes_eq bytes (codes "WAVE"))
 wave_behind (wave.ChunkName format) bytes = behind_name (chunk_kind bytes) format
-wave_behind (wave.ChunkSize format) bytes = chunk_begun (from_le_bytes w32 bytes) format
+wave_behind (wave.ChunkSize format) bytes = chunk_start (from_le_bytes w32 bytes) format
 wave_behind wave.FormatSize bytes = format_size (from_le_bytes w32 bytes)
-wave_behind (wave.FormatTag more) bytes = field_begun (field.Wave (wave.FormatRate more (low_half bytes) (high_half bytes)))
+wave_behind (wave.FormatTag more) bytes = field_start (field.Wave (wave.FormatRate more (low_half bytes) (high_half bytes)))
 wave_behind (wave.FormatRate more tag channels) bytes =
-    field_begun (field.Wave (wave.FormatIgnored (record { more = more; tag = tag; channels = channels; rate = from_le_bytes w32 bytes })))
-wave_behind (wave.FormatIgnored fields) bytes = field_begun (field.Wave (wave.FormatBits fields))
+    field_start (field.Wave (wave.FormatIgnored (record { more = more; tag = tag; channels = channels; rate = from_le_bytes w32 bytes })))
+wave_behind (wave.FormatIgnored fields) bytes = field_start (field.Wave (wave.FormatBits fields))
 wave_behind (wave.FormatBits fields) bytes = format_end fields (format_of fields (high_half bytes))
 wave_behind (wave.DataSize format) bytes = Head (head_with format (from_le_bytes w32 bytes))
 
@@ -144,20 +144,20 @@ abbrev pub behind_field : fields.Field → List ℕ → Place
 behind_field (field.Au of) bytes = au_behind of bytes
 behind_field (field.Wave of) bytes = wave_behind of bytes
 
--- a byte more of a field
-abbrev pub grown : fields.Field → Part → ℕ → Place
-grown of Nothing byte = Field of (One byte)
-grown of (One a) byte = Field of (Two a byte)
-grown of (Two a b) byte = Field of (Three a b byte)
-grown of (Three a b c) byte = behind_field of (a ∷ b ∷ c ∷ byte ∷ [])
+-- a field with one more byte
+abbrev pub field_after_byte : fields.Field → Part → ℕ → Place
+field_after_byte of Nothing byte = Field of (One byte)
+field_after_byte of (One a) byte = Field of (Two a byte)
+field_after_byte of (Two a b) byte = Field of (Three a b byte)
+field_after_byte of (Three a b c) byte = behind_field of (a ∷ b ∷ c ∷ byte ∷ [])
 
--- the place behind a byte
-abbrev pub behind : Place → ℕ → Place
-behind (Field of part) byte = grown of part byte
-behind (Annotation left head) byte = if nat_lt 1 left then Annotation (left - 1) head else Head head
-behind (Chunk left format) byte = if nat_lt 1 left then Chunk (left - 1) format else field_begun (field.Wave (wave.ChunkName format))
-behind (Head head) byte = Head head
-behind (Bad fault) byte = Bad fault
+-- the place after a byte
+abbrev pub place_after_byte : Place → ℕ → Place
+place_after_byte (Field of part) byte = field_after_byte of part byte
+place_after_byte (Annotation left head) byte = if nat_lt 1 left then Annotation (left - 1) head else Head head
+place_after_byte (Chunk left format) byte = if nat_lt 1 left then Chunk (left - 1) format else field_start (field.Wave (wave.ChunkName format))
+place_after_byte (Head head) byte = Head head
+place_after_byte (Bad fault) byte = Bad fault
 
 -- what a reader says at a place
 abbrev pub step_at : Place → HeadStep
@@ -165,20 +165,20 @@ step_at (Head head) = step.Head head
 step_at (Bad fault) = step.Bad fault
 step_at _ = step.More
 
--- whether a place is inside of a head
+-- whether a place is within a header
 abbrev pub is_inside : Place → Bool
 is_inside (Head head) = false
 is_inside (Bad fault) = false
 is_inside _ = true
 
 abbrev pub start : SoundForm → Place
-start form.Au = field_begun (field.Au au.Name)
-start form.Wave = field_begun (field.Wave wave.Riff)
+start form.Au = field_start (field.Au au.Name)
+start form.Wave = field_start (field.Wave wave.Riff)
 
--- the place behind some bytes, if all of them can be taken
-abbrev pub reached : Place → List ℕ → Option Place
-reached place [] = Some place
-reached place (byte ∷ rest) = if is_inside place then reached (behind place byte) rest else None
+-- the place after some bytes, if all of them can be taken
+abbrev pub place_after_bytes : Place → List ℕ → Option Place
+place_after_bytes place [] = Some place
+place_after_bytes place (byte ∷ rest) = if is_inside place then place_after_bytes (place_after_byte place byte) rest else None
 
 -- each answer of a reader was More
 abbrev pub IsOpen : HeadReader → Type 0
@@ -186,4 +186,4 @@ IsOpen reader = IsTrue (is_inside reader.place)
 
 -- a reader of a form has taken these bytes, one after the other
 unfoldable pub HasTaken : HeadReader → SoundForm → List ℕ → Type 0
-HasTaken reader form bytes = reached (start form) bytes ≡ Some reader.place
+HasTaken reader form bytes = place_after_bytes (start form) bytes ≡ Some reader.place

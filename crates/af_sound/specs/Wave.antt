@@ -1,4 +1,4 @@
--- The head of a WAVE file: `RIFF`, a size, `WAVE`, chunks of which one is `fmt `, and the front of the chunk `data`.
+-- The header of a WAVE file: `RIFF`, a size, `WAVE`, chunks with one `fmt ` among them, and the front of the chunk `data`.
 use Rattle.std.specs.Prelude.{◌≡◌, ◌≢◌, ◌<◌, ◌≤◌, ◌%◌, ◌⊎◌, ℕ, IsTrue, false, ◌==◌, ◌&&◌, if◌then◌else◌, Option, Some, None, List, [], ◌∷◌, ◌++◌, length, codes}
 use Rattle.af_sound.specs.declared.head.Coding.{Coding}
 use Rattle.af_sound.specs.declared.head.Coding.TheVariants.{Mu255, Alaw, Lin16Little, U8}
@@ -7,7 +7,7 @@ use Rattle.af_sound.specs.declared.head.SoundFault.{SoundFault}
 use Rattle.af_sound.specs.declared.head.SoundFault.TheVariants.{BadMagic, BadHead, BadCoding, BadShape}
 use Rattle.af_sound.specs.Fields.{IsLittle, IsLittle16, has_shape, length_of}
 
--- a chunk: four bytes of name, a size, that many bytes, and one byte more where the size is odd
+-- a chunk: four bytes of name, a size, that many bytes, and one more byte if the size is odd
 pub record Chunk : Type 0 where
   pub name : List ℕ
   pub size : List ℕ
@@ -27,7 +27,7 @@ abbrev pub chunks_bytes : List Chunk → List ℕ
 chunks_bytes [] = []
 chunks_bytes (chunk ∷ rest) = chunk_bytes chunk ++ chunks_bytes rest
 
--- a chunk that a reader passes over
+-- a chunk that a reader skips
 pub record IsOther (chunk : Chunk) : Type 0 where
   pub is : IsChunk chunk
   pub no_format : chunk.name ≢ codes "fmt "
@@ -37,7 +37,7 @@ abbrev pub AreOthers : List Chunk → Type 0
 AreOthers [] = Unit {0}
 AreOthers (chunk ∷ rest) = IsOther chunk × AreOthers rest
 
--- the coding of a tag and of the bits of a sample, if it is one that is read here
+-- the coding for a tag and the bits of a sample, if it is read here
 abbrev pub wave_coding : ℕ → ℕ → Option Coding
 wave_coding tag bits =
     if tag == 1 && bits == 16 then Some Lin16Little
@@ -60,7 +60,7 @@ pub record StatesFormat (tag channels rate bits : ℕ) (bytes : List ℕ) : Type
   pub is_ignored : length ignored ≡ 6
   pub is_bits : IsLittle16 bits bits_field
 
--- a chunk `fmt ` that states what is read here
+-- a chunk `fmt ` that states a sound that is read here
 pub record IsFormat (coding : Coding) (rate channels : ℕ) (chunk : Chunk) : Type 0 where
   pub is : IsChunk chunk
   pub name : chunk.name ≡ codes "fmt "
@@ -79,7 +79,7 @@ pub record IsRiff (bytes : List ℕ) : Type 0 where
   pub is : bytes ≡ codes "RIFF" ++ (size ++ codes "WAVE")
   pub is_size : length size ≡ 4
 
--- the bytes from the first on, up to the end of some chunks of which none is `fmt ` or `data`
+-- the first bytes of a file, up to the end of some chunks without a `fmt ` or a `data`
 pub record IsBeforeFormat (bytes : List ℕ) : Type 0 where
   pub riff : List ℕ
   pub chunks : List Chunk
@@ -97,7 +97,7 @@ pub record IsBehindFormat (coding : Coding) (rate channels : ℕ) (bytes : List 
   pub is_format : IsFormat coding rate channels format
   pub others : AreOthers behind
 
--- a head of a WAVE file: exactly one chunk `fmt ` and no `data` among its chunks, and then `data` and a size
+-- a header of a WAVE file: exactly one chunk `fmt ` and no `data` among its chunks, and then `data` and a size
 pub record IsWaveHead (bytes : List ℕ) (head : SoundHead) : Type 0 where
   pub front : List ℕ
   pub size_field : List ℕ
@@ -107,7 +107,7 @@ pub record IsWaveHead (bytes : List ℕ) (head : SoundHead) : Type 0 where
   pub is_size : IsLittle size size_field
   pub is_length : head.length ≡ length_of size
 
--- bytes that end with the name `data` where no `fmt ` came
+-- bytes that end with the name `data` and have no `fmt `
 pub record HasDataFirst (bytes : List ℕ) : Type 0 where
   pub front : List ℕ
   pub is : bytes ≡ front ++ codes "data"
@@ -151,7 +151,7 @@ pub record HasWaveCoding (tag bits : ℕ) (bytes : List ℕ) : Type 0 where
   pub states : StatesSound tag channels rate bits bytes
   pub bad : wave_coding tag bits ≡ None
 
--- these, with the channels alone bad
+-- these, with only the channels bad
 pub record HasWaveShape (rate channels : ℕ) (bytes : List ℕ) : Type 0 where
   pub tag : ℕ
   pub bits : ℕ
@@ -160,7 +160,7 @@ pub record HasWaveShape (rate channels : ℕ) (bytes : List ℕ) : Type 0 where
   pub good_coding : wave_coding tag bits ≡ Some coding
   pub bad : has_shape channels ≡ false
 
--- the bytes end where a fault of a WAVE head shows
+-- the bytes end where a fault of a WAVE header shows
 abbrev pub HasWaveFault : List ℕ → SoundFault → Type 0
 HasWaveFault bytes BadMagic = (length bytes ≡ 12) × (IsRiff bytes → ⊥)
 HasWaveFault bytes BadHead = HasDataFirst bytes ⊎ HasSecondFormat bytes ⊎ HasShortFormat bytes

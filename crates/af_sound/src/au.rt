@@ -1,4 +1,4 @@
-// The six numbers of an .au file.
+// The six numbers of an .au header.
 ghost use Rattle.std.specs.Prelude.{◌≡◌};
 ghost use Rattle.af_sound.specs.Au.{au_coding};
 ghost use Rattle.af_sound.specs.Reading.{au_behind, au_end, au_head};
@@ -7,7 +7,7 @@ use crate::head::length_of;
 use crate::head_reader::{Field, Place};
 use crate::{Coding, SoundFault, SoundHead};
 
-// A field of an .au file, with what there is of those before it.
+// A field of an .au file, with the values of those before it.
 #[derive(Clone, Copy, Debug)]
 pub(crate) enum AuField {
     Name,
@@ -37,7 +37,7 @@ pub(crate) struct AuNumbers {
 }
 
 impl AuField {
-    // The place behind the field.
+    // The place after the field.
     pub(crate) fn behind(self, bytes: [u8; 4]) -> Place
         ensures { result ≡ au_behind self bytes }
     {
@@ -72,7 +72,7 @@ impl AuField {
 }
 
 impl AuNumbers {
-    // The place behind all six numbers.
+    // The place after all six numbers.
     fn behind(self, channels: u32) -> Place
         ensures { result ≡ au_end self (au_head self channels) }
     {

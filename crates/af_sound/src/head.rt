@@ -1,4 +1,4 @@
-// What the head of a sound file says.
+// What the header of a sound file says.
 ghost use Rattle.std.specs.Prelude.{◌≡◌};
 ghost use Rattle.af_sound.specs.Fields.{length_of};
 
@@ -7,7 +7,7 @@ ghost use Rattle.af_sound.specs.Fields.{length_of};
 pub enum SoundForm {
     /// .au: six big-endian numbers, an annotation, and the sound.
     Au,
-    /// WAVE: chunks, of which `fmt ` says what the sound is and `data` has it.
+    /// WAVE: chunks. `fmt ` says what the sound is, and `data` has it.
     Wave,
 }
 
@@ -22,7 +22,7 @@ pub enum Coding {
     Lin16Big,
     /// Two's complement numbers of 16 bits, the low byte first.
     Lin16Little,
-    /// Numbers of 8 bits, of which 128 is silence.
+    /// Numbers of 8 bits, with 128 as silence.
     U8,
 }
 
@@ -61,7 +61,7 @@ pub enum HeadStep {
     Bad(SoundFault),
 }
 
-// The length that a number in a head states.
+// The length that a number in a header states.
 pub(crate) fn length_of(size: u32) -> Option<u32>
     ensures { result ≡ length_of size }
 {

@@ -1,11 +1,11 @@
-// Reading the head of a sound file, byte by byte.
+// Reading the header of a sound file, byte by byte.
 ghost use Rattle.std.specs.Prelude.{◌≡◌, ◌↔◌, ◌++◌, ℕ, List, [], ◌∷◌};
 ghost use Rattle.af_sound.specs.declared.head.HeadStep.TheVariants as step;
 ghost use Rattle.af_sound.specs.declared.head.SoundForm.{SoundForm};
 ghost use Rattle.af_sound.specs.declared.head.SoundHead.{SoundHead};
 ghost use Rattle.af_sound.specs.declared.head.SoundFault.{SoundFault};
 ghost use Rattle.af_sound.specs.Heads.{HasFault, IsHead};
-ghost use Rattle.af_sound.specs.Reading.{HasTaken, IsOpen, field_begun, behind, behind_field, grown, start, step_at};
+ghost use Rattle.af_sound.specs.Reading.{HasTaken, IsOpen, field_start, place_after_byte, behind_field, field_after_byte, start, step_at};
 
 use crate::au::AuField;
 use crate::wave::{Format, WaveField};
@@ -20,7 +20,7 @@ pub struct HeadReader {
 // Where a reader is.
 #[derive(Clone, Copy, Debug)]
 pub(crate) enum Place {
-    /// In a field of four bytes, of which some are there.
+    /// In a field of four bytes. Some of them are there.
     Field { of: Field, part: Part },
     /// Before the last bytes of an annotation.
     Annotation { left: u32, head: SoundHead },
@@ -39,7 +39,7 @@ pub(crate) enum Field {
     Wave(WaveField),
 }
 
-// What there is of a field.
+// The bytes of a field that were read so far.
 #[derive(Clone, Copy, Debug)]
 pub(crate) enum Part {
     Nothing,
@@ -64,8 +64,8 @@ impl HeadReader {
         }
     }
 
-    /// Takes the next byte, as long as each answer was More. It is Bad where the bytes end at the first fault of a header, Head where they
-    /// are a complete header, and else More.
+    /// Takes the next byte, as long as each answer was More. It is Bad where the bytes end at the first fault of a header, Head
+    /// where they are a complete header, and else More.
     pub fn take(&mut self, byte: u8) -> HeadStep
         requires { IsOpen self.old }
         ensures taken { (form : SoundForm) (bytes : List ℕ) → HasTaken self.old form bytes → HasTaken self.new form (bytes ++ (byte ∷ [])) }
@@ -81,9 +81,9 @@ impl HeadReader {
 }
 
 impl Place {
-    // The place behind a byte.
+    // The place after a byte.
     fn behind(self, byte: u8) -> Place
-        ensures { result ≡ behind self byte }
+        ensures { result ≡ place_after_byte self byte }
     {
         match self {
             Place::Field { of, part } => part.grown(of, byte),
@@ -103,7 +103,7 @@ impl Place {
         }
     }
 
-    // What the reader says there.
+    // What the reader says at this place.
     fn step(self) -> HeadStep
         ensures { result ≡ step_at self }
     {
@@ -118,7 +118,7 @@ impl Place {
 impl Field {
     // The place before the field.
     pub(crate) fn field_begun(self) -> Place
-        ensures { result ≡ field_begun self }
+        ensures { result ≡ field_start self }
     {
         Place::Field {
             of: self,
@@ -126,7 +126,7 @@ impl Field {
         }
     }
 
-    // The place behind the field.
+    // The place after the field.
     fn behind(self, bytes: [u8; 4]) -> Place
         ensures { result ≡ behind_field self bytes }
     {
@@ -138,9 +138,9 @@ impl Field {
 }
 
 impl Part {
-    // The place where there is a byte more of a field.
+    // The place with one more byte of a field.
     fn grown(self, of: Field, byte: u8) -> Place
-        ensures { result ≡ grown of self byte }
+        ensures { result ≡ field_after_byte of self byte }
     {
         let part = match self {
             Part::Nothing => Part::One(byte),

@@ -23,8 +23,8 @@ pub fn a_head_is_final()
         IsHead form bytes head → HasFault form (bytes ++ rest) fault → ⊥ }
 {}
 
-/// What the front of some bytes says is what it is: where they begin with a header or with a fault, that one is said after it; what
-/// is said is so; and where nothing is, they end inside of a header.
+/// What the front of some bytes says is what it is: where they begin with a header or with a fault, that one is said after it;
+/// what is said is so; and where nothing is, they end inside of a header.
 pub fn a_front_is_decided()
     ensures head { (form : SoundForm) (bytes rest : List ℕ) (head : SoundHead) → IsHead form bytes head →
         front_of form (bytes ++ rest) ≡ record { says = step.Head head; size = length bytes } }

@@ -1,13 +1,13 @@
 // The chunks of a WAVE file.
 ghost use Rattle.std.specs.Prelude.{◌≡◌, ◌<◌, ◌^◌};
 ghost use Rattle.af_sound.specs.Wave.{wave_coding};
-ghost use Rattle.af_sound.specs.Reading.{behind_name, chunk_begun, chunk_kind, format_end, format_of, head_with, wave_behind};
+ghost use Rattle.af_sound.specs.Reading.{behind_name, chunk_start, chunk_kind, format_end, format_of, head_with, wave_behind};
 
 use crate::head::length_of;
 use crate::head_reader::{Field, Place};
 use crate::{Coding, SoundFault, SoundHead};
 
-// Four bytes of a WAVE file, with what is still needed of those before them.
+// Four bytes of a WAVE file, with the values from those before them that are still needed.
 #[derive(Clone, Copy, Debug)]
 pub(crate) enum WaveField {
     Riff,
@@ -34,7 +34,7 @@ pub(crate) struct Format {
     channels: u8,
 }
 
-// What there is of `fmt ` before the bits of a sample, in sixteen bytes that each such chunk has.
+// The values of `fmt ` before the bits of a sample. Each such chunk has these sixteen bytes.
 #[derive(Clone, Copy, Debug)]
 pub(crate) struct FormatFields {
     /// The bytes of the chunk after the sixteen that are read.
@@ -44,7 +44,7 @@ pub(crate) struct FormatFields {
     rate: u32,
 }
 
-// What a chunk is by its name.
+// The kind of a chunk, by its name.
 #[derive(Clone, Copy)]
 pub(crate) enum ChunkKind {
     Format,
@@ -53,7 +53,7 @@ pub(crate) enum ChunkKind {
 }
 
 impl WaveField {
-    // The place behind four bytes.
+    // The place after four bytes.
     pub(crate) fn behind(self, bytes: [u8; 4]) -> Place
         ensures { result ≡ wave_behind self bytes }
     {
@@ -108,7 +108,7 @@ impl ChunkKind {
         }
     }
 
-    // The place behind the name of a chunk: `data` has to come behind `fmt `, and that only once.
+    // The place after the name of a chunk: `data` has to come after `fmt `, which has to come only once.
     fn behind(self, format: Option<Format>) -> Place
         ensures { result ≡ behind_name self format }
     {
@@ -122,10 +122,10 @@ impl ChunkKind {
     }
 }
 
-// The place before the last bytes of a chunk, which has a pad byte where their number is odd.
+// The place before the last bytes of a chunk. A chunk with an odd number of them has a pad byte.
 fn chunk_begun(count: u64, format: Option<Format>) -> Place
     requires { count < 2 ^ 32 }
-    ensures { result ≡ chunk_begun count format }
+    ensures { result ≡ chunk_start count format }
 {
     match count + count % 2 {
         0 => Field::Wave(WaveField::ChunkName { format }).field_begun(),
@@ -134,7 +134,7 @@ fn chunk_begun(count: u64, format: Option<Format>) -> Place
 }
 
 impl FormatFields {
-    // The place behind the sixteen bytes of `fmt `.
+    // The place after the sixteen bytes of `fmt `.
     fn behind(self, bits: u16) -> Place
         ensures { result ≡ format_end self (format_of self bits) }
     {
@@ -169,7 +169,7 @@ impl FormatFields {
 }
 
 impl Format {
-    // The head of a file whose sound has so many bytes.
+    // What the header of a file says if its sound has so many bytes.
     fn head(self, size: u32) -> SoundHead
         ensures { result ≡ head_with self size }
     {

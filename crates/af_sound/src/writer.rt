@@ -1,11 +1,11 @@
-// Writing the head of a sound file.
+// Writing the header of a sound file.
 ghost use Rattle.std.specs.Prelude.{◌≡◌, ◌<◌, ◌≤◌, ◌+◌, ◌^◌, ◌++◌, IsTrue, ℕ, length, slice_index, take};
 ghost use Rattle.af_sound.specs.Fields.{has_shape};
 ghost use Rattle.af_sound.specs.Heads.{IsHead};
 ghost use Rattle.af_sound.specs.Au.{IsAuHead};
 ghost use Rattle.af_sound.specs.Wave.{IsWaveHead};
 ghost use Rattle.af_sound.specs.declared.head.SoundForm.TheVariants.{Au, Wave};
-ghost use Rattle.af_sound.specs.Written.{IsStatable, IsWritableHead, au_bytes, big, encoding_of, head_size, little, riff_bytes, riff_size, sample_size, size_of, tag_of, wave_bytes, with_format, written};
+ghost use Rattle.af_sound.specs.Written.{IsStatable, IsWritableHead, au_bytes, big_bytes, encoding_of, head_size, little_bytes, riff_bytes, riff_size, sample_size, size_of, tag_of, wave_bytes, with_format, written_head};
 
 use crate::{Coding, SoundForm, SoundHead};
 
@@ -15,7 +15,7 @@ pub fn write_sound_head(form: SoundForm, head: &SoundHead, out: &mut [u8]) -> us
     requires room { 44 ≤ length out.old }
     requires writable { IsWritableHead form head.now }
     ensures size { result ≡ head_size form }
-    ensures bytes { take result out.new ≡ written form head.now }
+    ensures bytes { take result out.new ≡ written_head form head.now }
     ensures rest { (k : ℕ) → result ≤ k → slice_index out.new k ≡ slice_index out.old k }
     ensures head { IsHead form (take result out.new) head.now }
 {
@@ -25,7 +25,7 @@ pub fn write_sound_head(form: SoundForm, head: &SoundHead, out: &mut [u8]) -> us
     }
 }
 
-// An .au head without an annotation.
+// An .au header without an annotation.
 #[tactic(auto, unfolding(crate::specs::Written::au_bytes))]
 fn write_au(head: SoundHead, out: &mut [u8]) -> usize
     requires room { 44 ≤ length out.old }
@@ -43,7 +43,7 @@ fn write_au(head: SoundHead, out: &mut [u8]) -> usize
     put_big(out, at, u32::from(head.channels))
 }
 
-// A WAVE head whose one chunk is `fmt `.
+// A WAVE header with one chunk before the data, `fmt `.
 #[tactic(auto, unfolding(crate::specs::Written::wave_bytes))]
 fn write_wave(head: SoundHead, out: &mut [u8]) -> usize
     requires room { 44 ≤ length out.old }
@@ -59,7 +59,7 @@ fn write_wave(head: SoundHead, out: &mut [u8]) -> usize
     put_little(out, at, size_of(head.length))
 }
 
-// The front of a WAVE head, up to the size of `fmt `.
+// The front of a WAVE header, up to the size of `fmt `.
 fn put_riff(head: SoundHead, out: &mut [u8]) -> usize
     requires room { 44 ≤ length out.old }
     requires stated { IsStatable head.length }
@@ -93,22 +93,22 @@ fn put_format(head: SoundHead, at: usize, out: &mut [u8]) -> usize
     put(out, at, &(sample_size * 8).to_le_bytes())
 }
 
-// Writes a number of four bytes at `at`, the high byte first, and answers where it ends.
+// Writes a number of four bytes at `at`, the most significant byte first, and answers where it ends.
 fn put_big(out: &mut [u8], at: usize, number: u32) -> usize
     requires { at + 4 ≤ length out.old }
     ensures end { result ≡ at + 4 }
-    ensures bytes { take result out.new ≡ take at out.old ++ big number }
+    ensures bytes { take result out.new ≡ take at out.old ++ big_bytes number }
     ensures rest { (k : ℕ) → result ≤ k → slice_index out.new k ≡ slice_index out.old k }
     ensures low { number < 2 ^ 32 }
 {
     put(out, at, &number.to_be_bytes())
 }
 
-// The same, the low byte first.
+// The same, the least significant byte first.
 fn put_little(out: &mut [u8], at: usize, number: u32) -> usize
     requires { at + 4 ≤ length out.old }
     ensures end { result ≡ at + 4 }
-    ensures bytes { take result out.new ≡ take at out.old ++ little number }
+    ensures bytes { take result out.new ≡ take at out.old ++ little_bytes number }
     ensures rest { (k : ℕ) → result ≤ k → slice_index out.new k ≡ slice_index out.old k }
     ensures low { number < 2 ^ 32 }
 {
@@ -167,7 +167,7 @@ fn sample_size(coding: Coding) -> u16
     }
 }
 
-// What `RIFF` counts: all behind its size, if that is known and fits.
+// What `RIFF` counts: all bytes after its size, if that is known and fits.
 fn riff_size(length: Option<u32>) -> u32
     ensures { result ≡ riff_size length }
 {

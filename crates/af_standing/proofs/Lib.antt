@@ -1,3 +1,3 @@
-pub mod StandingLemmas
+pub mod ControlsReportLemmas
 pub mod ListedLemmas
 pub mod ListLemmas

@@ -1,4 +1,4 @@
--- Devices that are told, one after the other.
+-- The lines of devices, one after another.
 use Rattle.std.proofs.Common.{◌≡◌, ◌<◌, ◌≤◌, ◌+◌, ℕ, List, [], ◌∷◌, ◌++◌, drop, length, append-nil, ap, sym, subst, ◌∙◌, refl, inl}
 use Rattle.std.proofs.lemmas.List.{drop_all, drop_more}
 use Rattle.std.specs.Prelude.{Ok, Err, slice_index_or}
@@ -7,18 +7,18 @@ use Rattle.std.specs.declared.option.Option.TheVariants.{Some}
 use Rattle.af_request.specs.declared.reply.DeviceInfo.{DeviceInfo}
 use Rattle.af_request.specs.Asked.{get_time}
 use Rattle.af_lib.specs.Calls.{as_time}
-use Rattle.af_tool.specs.declared.end.ToolEnd.{ToolEnd}
-use Rattle.af_tool.specs.declared.end.ToolEnd.TheVariants as end
-use Rattle.af_tool.specs.Trace.{Trace, ClientState, done, ends}
-use Rattle.af_tool.specs.Ends.{MatchesTrace, ObservedPart, ObservedTrace, TracePart, is_outer}
-use Rattle.af_tool.proofs.TracePartLemmas.{goes_stop}
-use Rattle.af_tool.proofs.PartProgressLemmas.{Reaches, goes_same, goes_value, reaches_goes, reaches_none, reaches_on}
-use Rattle.af_tool.proofs.ToolEndLemmas.{IsDoneOrRefused, asked_finish, done_where_answered, ends_by_reply, finish_done}
+use Rattle.af_toolkit.specs.declared.end.ToolEnd.{ToolEnd}
+use Rattle.af_toolkit.specs.declared.end.ToolEnd.TheVariants as end
+use Rattle.af_toolkit.specs.Trace.{Trace, ClientState, done, ends}
+use Rattle.af_toolkit.specs.Ends.{MatchesTrace, ObservedPart, ObservedTrace, TracePart, is_outer}
+use Rattle.af_toolkit.proofs.TracePartLemmas.{goes_stop}
+use Rattle.af_toolkit.proofs.PartProgressLemmas.{Reaches, goes_same, goes_value, reaches_goes, reaches_none, reaches_on}
+use Rattle.af_toolkit.proofs.ToolEndLemmas.{IsDoneOrRefused, asked_finish, done_where_answered, ends_by_reply, finish_done}
 use Rattle.af_standing.specs.List.{list_trace, tells_device, tells_from, HasLines, ListRan}
 use Rattle.af_standing.proofs.ListedLemmas.{list_lines}
-use Rattle.af_standing.proofs.StandingLemmas.{standing_finish}
+use Rattle.af_standing.proofs.ControlsReportLemmas.{controls_report_finish}
 
--- the devices with this number and greater ones are left to be told
+-- the devices with this number and greater ones are left to be listed
 abbrev pub left_to_tell : List DeviceInfo → ℕ → ClientState → TracePart (Unit {0})
 left_to_tell devices number w = λ next. tells_from number (drop number devices) w next
 
@@ -50,21 +50,21 @@ unfolding tells_from
 tell_none devices number w beyond next = ap (λ (l : List DeviceInfo). tells_from number l w next) (drop_all number devices beyond)
 
 module _ (devices : List DeviceInfo) (number : ℕ) (first : ClientState) (told : Option (List ℕ)) (wire : List ℕ → ClientState) (s s' h h' : Option (List ℕ)) (t : IsTelling devices number first told wire s s' h h') where
-  -- all were told
+  -- all were listed
   pub telling_done : length devices ≤ number → ObservedPart (left_to_tell devices 0 first) (Ok tt) told wire s s' h h'
   telling_done beyond =
       reaches_goes (left_to_tell devices 0 first) (left_to_tell devices number (wire t.input)) (Ok tt) told wire s s' s' h h' h' t.reaches
       (goes_value (left_to_tell devices number (wire t.input)) tt t.input told wire s' h' t.is_told (tell_none devices number (wire t.input) beyond))
 
   module _ (device : DeviceInfo) (is : drop number devices ≡ device ∷ drop (number + 1) devices) (told' : Option (List ℕ)) (wire' : List ℕ → ClientState) (s'' h'' : Option (List ℕ)) where
-    -- the next one could not be told
+    -- the next one could not be listed
     pub telling_stop : (how : ToolEnd) → ObservedPart {X = Unit {0}} (tells_device number device (wire t.input)) (Err how) told' wire' s' s'' h' h'' → ObservedPart {X = Unit {0}} (left_to_tell devices 0 first) (Err how) told' wire' s s'' h h''
     telling_stop how g =
         reaches_goes (left_to_tell devices 0 first) (left_to_tell devices number (wire t.input)) (Err how) told' wire' s s' s'' h h' h'' t.reaches
         (goes_same (left_to_tell devices number (wire t.input)) (λ next. tells_device number device (wire t.input) (λ _ w. left_to_tell devices (number + 1) w next)) (Err how) told' wire' s' s'' h' h'' (tell_next devices number device (wire t.input) is)
         (goes_stop (tells_device number device (wire t.input)) (λ _ w. left_to_tell devices (number + 1) w) how told' told' wire' wire' s' s'' h' h'' g))
 
-    -- the next one was told
+    -- the next one was listed
     pub telling_on : ObservedPart {X = Unit {0}} (tells_device number device (wire t.input)) (Ok tt) told' wire' s' s'' h' h'' → IsTelling devices (number + 1) first told' wire' s s'' h h''
     telling_on g =
         let k = reaches_on (left_to_tell devices 0 first) (left_to_tell devices number (wire t.input)) (tells_device number device (wire t.input)) (λ _ w. left_to_tell devices (number + 1) w) tt told' wire' s s' s'' h h' h'' t.reaches (tell_next devices number device (wire t.input) is) g in
@@ -75,7 +75,7 @@ tells_finish : (number : ℕ) (devices : List DeviceInfo) (w : ClientState) (nex
 unfolding tells_from tells_device
 tells_finish number [] w next more = more tt w
 tells_finish number (device ∷ devices) w next more =
-    standing_finish device.line number w _ (λ standing v.
+    controls_report_finish device.line number w _ (λ controls_report v.
     asked_finish (get_time number) as_time v _ (λ now v.
     tells_finish (number + 1) devices v next more))
 

@@ -10,14 +10,14 @@ use Rattle.af_request.specs.Answer.{Answer}
 use Rattle.af_request.specs.Requests.{request_bytes}
 use Rattle.af_lib.specs.declared.fault.ConnFault.{ConnFault}
 use Rattle.af_lib.specs.Calls.{as_controls, as_phone, as_time}
-use Rattle.af_tool.specs.Trace.{Trace, ClientState, after_reply, answer_on, answered_by, asks, done, ends, refused, sending}
-use Rattle.af_standing.specs.declared.standing.Standing.{Standing}
-use Rattle.af_standing.specs.Standing.{asks_line, asks_standing}
+use Rattle.af_toolkit.specs.Trace.{Trace, ClientState, after_reply, answer_on, after_answer, asks, done, ends, refused, sends_first}
+use Rattle.af_standing.specs.declared.controls_report.ControlsReport.{ControlsReport}
+use Rattle.af_standing.specs.ControlsReport.{asks_line, asks_controls_report}
 use Rattle.af_standing.specs.List.{list_trace, tells_device, tells_from, HasLines}
 
 -- a trace that is done goes on after a request
-answer_done : {X : Type 0} (bytes : List ℕ) (r : Result X ConnFault) (w : ClientState) (next : X → ClientState → Trace) → (sending bytes (answered_by r w next)).finish ≡ done →
-    (x : X) × (v : ClientState) × ((next x v).finish ≡ done) × ((sending bytes (answered_by r w next)).output ≡ (next x v).output)
+answer_done : {X : Type 0} (bytes : List ℕ) (r : Result X ConnFault) (w : ClientState) (next : X → ClientState → Trace) → (sends_first bytes (after_answer r w next)).finish ≡ done →
+    (x : X) × (v : ClientState) × ((next x v).finish ≡ done) × ((sends_first bytes (after_answer r w next)).output ≡ (next x v).output)
 answer_done bytes (Ok x) w next is = (x, w, is, refl)
 answer_done bytes (Err f) w next is = let bad : refused f ≡ done = is in absurd (cc bad)
 
@@ -33,20 +33,20 @@ line_done true device w next is =
     (Some a.0, a.1, refl, a.2, a.3)
 line_done false device w next is = (None, w, refl, is, refl)
 
-standing_done : (line : Bool) (device : ℕ) (w : ClientState) (next : Standing → ClientState → Trace) → (asks_standing line device w next).finish ≡ done →
-    (standing : Standing) × (v : ClientState) × (is_some standing.phone ≡ line) × ((next standing v).finish ≡ done) × ((asks_standing line device w next).output ≡ (next standing v).output)
-unfolding asks_standing
-standing_done line device w next is =
+controls_report_done : (line : Bool) (device : ℕ) (w : ClientState) (next : ControlsReport → ClientState → Trace) → (asks_controls_report line device w next).finish ≡ done →
+    (controls_report : ControlsReport) × (v : ClientState) × (is_some controls_report.phone ≡ line) × ((next controls_report v).finish ≡ done) × ((asks_controls_report line device w next).output ≡ (next controls_report v).output)
+unfolding asks_controls_report
+controls_report_done line device w next is =
     let a = asked_done (query_controls device) as_controls w _ is in
     let b = line_done line device a.1 _ a.2 in
-    let standing : Standing = record { controls = a.0; phone = b.0 } in
-    (standing, b.1, b.2, b.3, a.3 ∙ b.4)
+    let controls_report : ControlsReport = record { controls = a.0; phone = b.0 } in
+    (controls_report, b.1, b.2, b.3, a.3 ∙ b.4)
 
 lines_told : (number : ℕ) (devices : List DeviceInfo) (w : ClientState) → (tells_from number devices w (λ _ _. ends done)).finish ≡ done → HasLines number devices (tells_from number devices w (λ _ _. ends done)).output
 unfolding tells_from tells_device
 lines_told number [] w is = refl
 lines_told number (device ∷ more) w is =
-    let a = standing_done device.line number w _ is in
+    let a = controls_report_done device.line number w _ is in
     let t = asked_done (get_time number) as_time a.1 _ a.3 in
     (a.0, t.0.0, (tells_from (number + 1) more t.1 (λ _ _. ends done)).output, a.2, a.4 ∙ t.3, lines_told (number + 1) more t.1 t.2)
 

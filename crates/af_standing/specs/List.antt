@@ -1,4 +1,4 @@
--- What list does: of each device of the server, by rising number, it asks how it stands and for its time, and writes a line.
+-- What list does: for each device of the server, in the order of numbers, it asks for its state and its time, and writes a line.
 use Rattle.std.specs.Prelude.{◌≡◌, ◌⊎◌, ℕ, ◌+◌, Bool, true, List, [], ◌∷◌, ◌++◌, codes, decimal, is_some}
 use Rattle.std.specs.declared.option.Option.{Option}
 use Rattle.std.specs.declared.option.Option.TheVariants.{None, Some}
@@ -8,14 +8,14 @@ use Rattle.af_request.specs.declared.reply.DeviceInfo.{DeviceInfo}
 use Rattle.af_request.specs.declared.reply.Phone.{Phone}
 use Rattle.af_request.specs.Asked.{get_time}
 use Rattle.af_lib.specs.Calls.{ConnState, as_time}
-use Rattle.af_tool.specs.declared.end.ToolEnd.{ToolEnd}
-use Rattle.af_tool.specs.declared.end.ToolEnd.TheVariants as end
-use Rattle.af_tool.specs.Trace.{Trace, ClientState, asks, done, ends, writing}
-use Rattle.af_tool.specs.Ends.{client_of, is_of_link, is_outer, EndsByReply, IsAnswered, ObservedTrace}
-use Rattle.af_standing.specs.declared.standing.Standing.{Standing}
-use Rattle.af_standing.specs.Standing.{asks_standing, control_text, phone_text}
+use Rattle.af_toolkit.specs.declared.end.ToolEnd.{ToolEnd}
+use Rattle.af_toolkit.specs.declared.end.ToolEnd.TheVariants as end
+use Rattle.af_toolkit.specs.Trace.{Trace, ClientState, asks, done, ends, writes_first}
+use Rattle.af_toolkit.specs.Ends.{client_of, is_of_link, is_outer, EndsByReply, IsAnswered, ObservedTrace}
+use Rattle.af_standing.specs.declared.controls_report.ControlsReport.{ControlsReport}
+use Rattle.af_standing.specs.ControlsReport.{asks_controls_report, control_text, phone_text}
 
--- the word for a type of samples
+-- the word for a sample type
 abbrev pub type_text : SampleType → List ℕ
 type_text ty.Mu255 = codes "mu255"
 type_text ty.Alaw = codes "alaw"
@@ -32,25 +32,25 @@ abbrev pub line_words : Option Phone → List ℕ
 line_words (Some p) = codes " " ++ phone_text p
 line_words None = []
 
--- how it stands, in the words of aset
-abbrev pub standing_words : Standing → List ℕ
-standing_words s =
+-- its state, in the words of aset
+abbrev pub controls_report_words : ControlsReport → List ℕ
+controls_report_words s =
     codes " " ++ control_text (codes "input") s.controls.input_on s.controls.input_gain
     ++ codes " " ++ control_text (codes "output") s.controls.output_on s.controls.output_gain
     ++ line_words s.phone
 
 -- the line of a device
-unfoldable pub device_line : (number : ℕ) → DeviceInfo → Standing → (now : ℕ) → List ℕ
-device_line number device standing now = front_text number device now ++ standing_words standing ++ codes "\n"
+unfoldable pub device_line : (number : ℕ) → DeviceInfo → ControlsReport → (now : ℕ) → List ℕ
+device_line number device controls_report now = front_text number device now ++ controls_report_words controls_report ++ codes "\n"
 
--- it is asked how a device stands, and for its time, and its line is written
+-- a device is asked for its state, and for its time, and its line is written
 unfoldable pub tells_device : (number : ℕ) → DeviceInfo → ClientState → (Unit {0} → ClientState → Trace) → Trace
 tells_device number device w next =
-    asks_standing device.line number w (λ standing w.
+    asks_controls_report device.line number w (λ controls_report w.
     asks (get_time number) as_time w (λ now w.
-    writing (device_line number device standing now.0) (next tt w)))
+    writes_first (device_line number device controls_report now.0) (next tt w)))
 
--- the same of devices, one after the other, the first of which has this number
+-- the same for devices, one after another, from this number on
 unfoldable pub tells_from : (number : ℕ) → List DeviceInfo → ClientState → (Unit {0} → ClientState → Trace) → Trace
 tells_from number [] w next = next tt w
 tells_from number (device ∷ more) w next = tells_device number device w (λ _ w. tells_from (number + 1) more w next)
@@ -63,13 +63,6 @@ tells_all devices w next = tells_from 0 devices w next
 unfoldable pub list_trace : List DeviceInfo → ClientState → Trace
 list_trace devices w = tells_all devices w (λ _ _. ends done)
 
--- what list sends, and what it writes
-abbrev pub list_sends : List DeviceInfo → ClientState → List ℕ
-list_sends devices w = (list_trace devices w).sends
-
-abbrev pub list_output : List DeviceInfo → ClientState → List ℕ
-list_output devices w = (list_trace devices w).output
-
 -- the ends of telling a device: those of its link, and of writing
 abbrev pub is_of_lines : ToolEnd → Bool
 is_of_lines end.SinkFault = true
@@ -80,24 +73,24 @@ abbrev pub is_of_list : ToolEnd → Bool
 is_of_list end.Done = true
 is_of_list how = is_of_lines how
 
--- A text has a line for each of some devices, in order, the first of which has this number: with some standing and some time, and with
--- the flags of a telephone line exactly where the device has one.
+-- A text has a line for each of some devices, in order, from this number on: with some state and some time, and with the flags of
+-- a telephone line exactly if the device has one.
 abbrev pub HasLines : (number : ℕ) → List DeviceInfo → List ℕ → Type 0
 HasLines number [] text = text ≡ []
 HasLines number (device ∷ more) text =
-    (standing : Standing) × (now : ℕ) × (rest : List ℕ) × (is_some standing.phone ≡ device.line)
-    × (text ≡ device_line number device standing now ++ rest) × HasLines (number + 1) more rest
+    (controls_report : ControlsReport) × (now : ℕ) × (rest : List ℕ) × (is_some controls_report.phone ≡ device.line)
+    × (text ≡ device_line number device controls_report now ++ rest) × HasLines (number + 1) more rest
 
--- list ran, by the devices of its server and what its link gives. What the link was sent and the sink gained are those of the trace, or
--- prefixes of them where something from outside ended it. Done, it wrote a line for each device. An end of a reply is that of the
--- trace. With an awaited reply for each request it is done, unless something from outside ended it.
+-- list ran, by the devices of its server and what its link gives. What the link was sent, and what the sink gained, are those of
+-- the trace, or prefixes of them if something from outside ended it. If it is done, it wrote a line for each device. An end for a
+-- reply is that of the trace. If each request gets its reply it is done, unless something from outside ended it.
 pub record ListRan (devices : List DeviceInfo) (w : ClientState) (how : ToolEnd) (sent sent' held held' : Option (List ℕ)) : Type 0 where
   pub followed : ObservedTrace (list_trace devices w) how sent sent' held held'
   pub listed : how ≡ end.Done → HasLines 0 devices followed.output
   pub reply : EndsByReply (list_trace devices w) how
   pub complete : IsAnswered (list_trace devices w) → (how ≡ end.Done) ⊎ (is_outer how ≡ true)
 
--- the same over a connection whose link tells what it gives
+-- the same over a connection whose link is observable
 abbrev pub RunsList : {L K : Type 0} → (left sent : L → Option (List ℕ)) → (held : K → Option (List ℕ)) →
     ToolEnd → (conn conn' : ConnState L) → (sink sink' : K) → Type 0
 RunsList left sent held how conn conn' sink sink' = (input : List ℕ) → left conn.link ≡ Some input →

@@ -1,14 +1,14 @@
-// How a device stands is asked.
+// Asks for the state of a device.
 ghost use Rattle.std.specs.Prelude.{◌≡◌, true, IfErr};
 ghost use Rattle.std.specs.declared.option.Option.TheVariants.{None};
-ghost use Rattle.af_tool.specs.Ends.{is_of_link, ObservedPartOver, KeepsConnection};
-ghost use Rattle.af_standing.specs.Standing.{asks_line, asks_standing};
+ghost use Rattle.af_toolkit.specs.Ends.{is_of_link, ObservedPartOver, KeepsConnection};
+ghost use Rattle.af_standing.specs.ControlsReport.{asks_line, asks_controls_report};
 
-use crate::standing::Standing;
+use crate::controls_report::ControlsReport;
 use af_io::Link;
 use af_lib::Conn;
 use af_request::Phone;
-use af_tool::ToolEnd;
+use af_toolkit::ToolEnd;
 
 // The state of a device's line, if it has one.
 fn phone_of<L: Link + Drop>(
@@ -29,17 +29,17 @@ fn phone_of<L: Link + Drop>(
 }
 
 /// How the controls of a device stand, and its line, if it has one.
-pub fn standing_of<L: Link + Drop>(
+pub fn controls_report_of<L: Link + Drop>(
     number: u8,
     line: bool,
     conn: &mut Conn<L>,
-) -> Result<Standing, ToolEnd>
+) -> Result<ControlsReport, ToolEnd>
     requires { conn.old.cause ≡ None }
-    ensures goes { ObservedPartOver L.left L.sent conn.old conn.new (λ w. asks_standing line number w) result }
+    ensures goes { ObservedPartOver L.left L.sent conn.old conn.new (λ w. asks_controls_report line number w) result }
     ensures holds { KeepsConnection L.left L.faults conn.old conn.new result }
     ensures end { IfErr result (λ how. is_of_link how ≡ true) }
 {
     let controls = conn.query_controls(number)?;
     let phone = phone_of(number, line, conn)?;
-    Ok(Standing { controls, phone })
+    Ok(ControlsReport { controls, phone })
 }

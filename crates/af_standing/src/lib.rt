@@ -2,10 +2,10 @@
 #![tactic(auto)]
 
 mod ask;
+mod controls_report;
 mod line;
 mod lister;
-mod standing;
 
-pub use ask::standing_of;
+pub use ask::controls_report_of;
+pub use controls_report::{ControlsReport, write_controls_report};
 pub use lister::list;
-pub use standing::{Standing, write_standing};

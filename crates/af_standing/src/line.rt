@@ -1,14 +1,14 @@
-// The line that list writes of a device.
+// The line that list writes for a device.
 ghost use Rattle.std.specs.Prelude.{◌≡◌, ◌<◌, ◌≤◌, ◌+◌, ◌++◌, length, take};
-ghost use Rattle.af_standing.specs.List.{device_line, front_text, line_words, standing_words, type_text};
+ghost use Rattle.af_standing.specs.List.{device_line, front_text, line_words, controls_report_words, type_text};
 
-use crate::standing::{Standing, put_control, put_phone};
+use crate::controls_report::{ControlsReport, put_control, put_phone};
 use af_request::{DeviceInfo, Phone};
 use af_sample::SampleType;
 use af_time::DevTime;
-use af_tool::{put, put_number};
+use af_toolkit::{put, put_number};
 
-// Writes the word for a type of samples behind what stands before a place.
+// Writes the word for a sample type at a place.
 fn put_type(out: &mut [u8], at: usize, ty: SampleType) -> usize
     requires { at + 5 ≤ length out.old }
     ensures at { result ≤ at + 5 }
@@ -23,7 +23,7 @@ fn put_type(out: &mut [u8], at: usize, ty: SampleType) -> usize
     }
 }
 
-// Writes what a device is, and its time, into a buffer: their length.
+// Writes what a device is, and its time, into a buffer, and answers their length.
 fn write_front(out: &mut [u8], number: u8, device: DeviceInfo, now: DevTime) -> usize
     requires { 169 ≤ length out.old }
     ensures at { result ≤ 169 }
@@ -41,7 +41,7 @@ fn write_front(out: &mut [u8], number: u8, device: DeviceInfo, now: DevTime) -> 
     put_number(out, at, u64::from(now.0))
 }
 
-// Writes the flags of a telephone line, if there is one, behind what stands before a place.
+// Writes the flags of a telephone line at a place, if there is one.
 fn put_line(out: &mut [u8], at: usize, line: Option<Phone>) -> usize
     requires { at + 15 ≤ length out.old }
     ensures at { result ≤ at + 15 }
@@ -57,19 +57,19 @@ fn put_line(out: &mut [u8], at: usize, line: Option<Phone>) -> usize
     }
 }
 
-// Writes how a device stands behind what stands before a place.
-fn put_standing(out: &mut [u8], at: usize, standing: Standing) -> usize
+// Writes the state of a device at a place.
+fn put_controls_report(out: &mut [u8], at: usize, controls_report: ControlsReport) -> usize
     requires { at + 127 ≤ length out.old }
     ensures at { result ≤ at + 127 }
     ensures room { length out.new ≡ length out.old }
-    ensures bytes { take result out.new ≡ take at out.old ++ standing_words standing }
+    ensures bytes { take result out.new ≡ take at out.old ++ controls_report_words controls_report }
 {
-    let controls = standing.controls;
+    let controls = controls_report.controls;
     let at = put(out, at, b" ");
     let at = put_control(out, at, b"input", controls.input_on, controls.input_gain);
     let at = put(out, at, b" ");
     let at = put_control(out, at, b"output", controls.output_on, controls.output_gain);
-    put_line(out, at, standing.phone)
+    put_line(out, at, controls_report.phone)
 }
 
 /// Writes the line of a device into a buffer: its length.
@@ -77,15 +77,15 @@ pub fn write_device_line(
     out: &mut [u8],
     number: u8,
     device: DeviceInfo,
-    standing: Standing,
+    controls_report: ControlsReport,
     now: DevTime,
 ) -> usize
     requires { 297 ≤ length out.old }
     ensures within { result ≤ length out.new }
     ensures some { 0 < result }
-    ensures bytes { take result out.new ≡ device_line number device standing now.0 }
+    ensures bytes { take result out.new ≡ device_line number device controls_report now.0 }
 {
     let at = write_front(out, number, device, now);
-    let at = put_standing(out, at, standing);
+    let at = put_controls_report(out, at, controls_report);
     put(out, at, b"\n")
 }

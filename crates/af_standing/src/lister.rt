@@ -2,35 +2,35 @@
 ghost use Rattle.std.specs.Prelude.{◌≡◌, true, Err, IfErr};
 ghost use Rattle.std.specs.declared.option.Option.TheVariants.{None};
 ghost use Rattle.af_io.specs.Observed.{CountsFault};
-ghost use Rattle.af_tool.specs.Ends.{KeepsConnection, ObservedPartWriting, Writes};
+ghost use Rattle.af_toolkit.specs.Ends.{KeepsConnection, ObservedPartWriting, Writes};
 ghost use Rattle.af_standing.specs.List.{device_line, is_of_lines, is_of_list, tells_all, tells_device, RunsList};
 
-use crate::ask::standing_of;
+use crate::ask::controls_report_of;
+use crate::controls_report::ControlsReport;
 use crate::line::write_device_line;
-use crate::standing::Standing;
 use af_io::{Link, Sink};
 use af_lib::Conn;
 use af_request::DeviceInfo;
 use af_time::DevTime;
-use af_tool::{ToolEnd, device_time, write_piece};
+use af_toolkit::{ToolEnd, device_time, write_piece};
 
 // Writes the line of a device.
 fn report<K: Sink>(
     sink: &mut K,
     number: u8,
     device: DeviceInfo,
-    standing: Standing,
+    controls_report: ControlsReport,
     now: DevTime,
 ) -> Result<(), ToolEnd>
-    ensures written { Writes K.held (device_line number device standing now.0) result sink.old sink.new }
+    ensures written { Writes K.held (device_line number device controls_report now.0) result sink.old sink.new }
     ensures fault { CountsFault (result ≡ Err ToolEnd.SinkFault) (K.faults sink.old) (K.faults sink.new) }
 {
     let mut line = [0; 297];
-    let length = write_device_line(&mut line, number, device, standing, now);
+    let length = write_device_line(&mut line, number, device, controls_report, now);
     write_piece(sink, &line[..length])
 }
 
-// Asks how a device stands and for its time, and writes its line.
+// Asks for the state of a device and for its time, and writes its line.
 fn tell_device<L: Link + Drop, K: Sink>(
     number: u8,
     device: DeviceInfo,
@@ -44,12 +44,12 @@ fn tell_device<L: Link + Drop, K: Sink>(
     ensures end { IfErr result (λ how. is_of_lines how ≡ true) }
     ensures fault { CountsFault (result ≡ Err ToolEnd.SinkFault) (K.faults sink.old) (K.faults sink.new) }
 {
-    let standing = standing_of(number, device.line, conn)?;
+    let controls_report = controls_report_of(number, device.line, conn)?;
     let now = device_time(conn, number)?;
-    report(sink, number, device, standing, now)
+    report(sink, number, device, controls_report, now)
 }
 
-// Writes a line for each device, by rising number.
+// Writes a line for each device, in the order of their numbers.
 fn tell_devices<L: Link + Drop, K: Sink>(conn: &mut Conn<L>, sink: &mut K) -> Result<(), ToolEnd>
     requires { conn.old.cause ≡ None }
     ensures goes { ObservedPartWriting L.left L.sent K.held conn.old conn.new sink.old sink.new

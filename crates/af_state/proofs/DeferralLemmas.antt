@@ -1,4 +1,4 @@
--- What is kept of links that wait goes on standing for them.
+-- What is kept of deferred requests goes on standing for them.
 use Rattle.std.proofs.Common.{◌≡◌, ◌≢◌, ℕ, zero, suc, ℤ, ◌+◌, ◌-◌, ◌*◌, ◌<◌, ◌≤◌, ◌==◌, ◌&&◌, ◌||◌, nat_le, Bool, true, false, not, cond, eqb-true, List, [], ◌∷◌, ◌++◌, length, map, find, slice_get, slice_set, refl, sym, ap, ◌∙◌, subst, arith, append_assoc, append-nil}
 use Rattle.std.proofs.lemmas.Bool.Decides.{nat_tests}
 use Rattle.std.specs.declared.option.Option.TheVariants.{None, Some}
@@ -6,14 +6,14 @@ use Rattle.std.proofs.Math.Nat.{div-le_self}
 use Rattle.af_limits.specs.Limits.{longest_tick, longest_play, longest_record}
 use Rattle.af_wait.specs.declared.Wait.{Wait}
 use Rattle.af_wait.specs.Waits.{without_first}
-use Rattle.af_wait.proofs.WaitLemmas.{passed-link}
+use Rattle.af_wait.proofs.WaitLemmas.{wait_after_frames-link}
 use Rattle.af_model.specs.State.{DeviceState, Deferred, deferred_play, deferred_record, Deferral}
 use Rattle.af_model.specs.Reply.{horizon_of}
-use Rattle.af_model.specs.Waiting.{due, falls_due, has_deferral}
-use Rattle.af_model.specs.Tick.{later}
+use Rattle.af_model.specs.Waiting.{due_time, falls_due, has_deferral}
+use Rattle.af_model.specs.Tick.{device_after}
 use Rattle.af_model.specs.Events.{without_waiter}
 use Rattle.af_model.proofs.ListLemmas.{get-set_other, get-set_same}
-use Rattle.af_state.specs.Deferrals.{KeptDeferral, has_waiting, kept_due, kept_passed, kept_without, AreLater, AreLaterBut, AreNew, OnlyQueues, LeavesOthers, IsNear, IsShort, StandsForDeferral, StandForDeferrals}
+use Rattle.af_state.specs.Deferrals.{KeptDeferral, has_waiting, kept_due, deferral_after_frames, kept_without, AreLater, AreLaterBut, AreNew, OnlyQueues, LeavesOthers, IsNear, IsShort, StandsForDeferral, StandForDeferrals}
 
 -- Devices change
 
@@ -37,12 +37,12 @@ found (x ∷ devices) (suc d) (suc e) s s' t here there now rate channels =
 
 wait_after : (devices devices' : List DeviceState) (k : KeptDeferral) (w : Deferral) (h : StandsForDeferral devices k w) → Found devices' w.device h.state → StandsForDeferral devices' k w
 wait_after devices devices' k w h r =
-    let at : ℕ → ℕ → ℕ → Type 0 = λ channels rate now. (k.wait.left ≡ due channels (rate * 4) w.deferred - now) × IsNear (rate * 4) now w.deferred × IsShort channels w.deferred in
+    let at : ℕ → ℕ → ℕ → Type 0 = λ channels rate now. (k.wait.left ≡ due_time channels (rate * 4) w.deferred - now) × IsNear (rate * 4) now w.deferred × IsShort channels w.deferred in
     let all = subst (λ now. at r.state.channels r.state.rate now) (sym r.now)
     (subst (λ rate. at r.state.channels rate h.state.now) (sym r.rate) (subst (λ channels. at channels h.state.rate h.state.now) (sym r.channels) (h.left, h.near, h.short))) in
     record { link = h.link; device = h.device; deferred = h.deferred; state = r.state; here = r.here; left = all.0; near = all.1; short = all.2 }
 
--- a device changes, but not its time, its rate and its channels
+-- a device changes, but not its time, its rate or its channels
 pub waits_set : (devices : List DeviceState) (d : ℕ) (s s' : DeviceState) (ks : List KeptDeferral) (ws : List Deferral) → slice_get devices d ≡ Some s → s'.now ≡ s.now → s'.rate ≡ s.rate → s'.channels ≡ s.channels →
     StandForDeferrals devices ks ws → StandForDeferrals (slice_set devices d s') ks ws
 waits_set devices d s s' [] [] here now rate channels h = tt
@@ -53,7 +53,7 @@ waits_set devices d s s' (k ∷ ks) (w ∷ ws) here now rate channels h =
 
 -- Time goes on
 
-near_later : (channels horizon now n : ℕ) (deferred : Deferred) → 32000 ≤ horizon → n ≤ longest_tick → IsShort channels deferred → now < due channels horizon deferred → IsNear horizon now deferred → IsNear horizon (now + n) deferred
+near_later : (channels horizon now n : ℕ) (deferred : Deferred) → 32000 ≤ horizon → n ≤ longest_tick → IsShort channels deferred → now < due_time channels horizon deferred → IsNear horizon now deferred → IsNear horizon (now + n) deferred
 near_later channels horizon now n (deferred_play quiet start sound preempt) far few short before near =
     let a = near.0 in
     let b = near.1 in
@@ -67,38 +67,38 @@ near_later channels horizon now n (deferred_record context start frames) far few
     (omega arith, omega arith)
 
 wait_passed : (devices : List DeviceState) (d n : ℕ) (s : DeviceState) (captured : List ℤ) (is_dead : Bool) (k : KeptDeferral) (w : Deferral) → slice_get devices d ≡ Some s → n ≤ longest_tick → 32000 ≤ s.rate * 4 →
-    0 < k.wait.left → StandsForDeferral devices k w → StandsForDeferral (slice_set devices d (later n captured is_dead s)) (kept_passed d n k) w
+    0 < k.wait.left → StandsForDeferral devices k w → StandsForDeferral (slice_set devices d (device_after n captured is_dead s)) (deferral_after_frames d n k) w
 wait_passed devices d n s captured is_dead k w here few far some h =
-    elim (w.device == d) as (λ b. (w.device == d) ≡ b → StandsForDeferral (slice_set devices d (later n captured is_dead s)) (kept_passed d n k) w) [
+    elim (w.device == d) as (λ b. (w.device == d) ≡ b → StandsForDeferral (slice_set devices d (device_after n captured is_dead s)) (deferral_after_frames d n k) w) [
       | true ↦ λ same.
           let number : w.device ≡ d = grind (arith, nat_tests) in
           let is : h.state ≡ s = let both : Some h.state ≡ Some s = sym h.here ∙ ap (slice_get devices) number ∙ here in cc in
-          let left : k.wait.left ≡ due s.channels (s.rate * 4) w.deferred - s.now = h.left ∙ ap (λ (t : DeviceState). due t.channels (t.rate * 4) w.deferred - t.now) is in
+          let left : k.wait.left ≡ due_time s.channels (s.rate * 4) w.deferred - s.now = h.left ∙ ap (λ (t : DeviceState). due_time t.channels (t.rate * 4) w.deferred - t.now) is in
           let near : IsNear (s.rate * 4) s.now w.deferred = subst (λ (t : DeviceState). IsNear (t.rate * 4) t.now w.deferred) is h.near in
           let short : IsShort s.channels w.deferred = subst (λ (t : DeviceState). IsShort t.channels w.deferred) is h.short in
           let test : (k.wait.device == d) ≡ true = ap (λ m. m == d) h.device ∙ same in
-          let on : kept_passed d n k ≡ record k { wait = record k.wait { left = k.wait.left - n } } = ap (λ b. record k { wait = cond b (record k.wait { left = k.wait.left - n }) k.wait }) test in
-          subst (λ (x : KeptDeferral). StandsForDeferral (slice_set devices d (later n captured is_dead s)) x w) (sym on)
+          let on : deferral_after_frames d n k ≡ record k { wait = record k.wait { left = k.wait.left - n } } = ap (λ b. record k { wait = cond b (record k.wait { left = k.wait.left - n }) k.wait }) test in
+          subst (λ (x : KeptDeferral). StandsForDeferral (slice_set devices d (device_after n captured is_dead s)) x w) (sym on)
           (record {
             link = h.link;
             device = h.device;
             deferred = h.deferred;
-            state = later n captured is_dead s;
-            here = ap (slice_get (slice_set devices d (later n captured is_dead s))) number ∙ get-set_same devices d s (later n captured is_dead s) here;
+            state = device_after n captured is_dead s;
+            here = ap (slice_get (slice_set devices d (device_after n captured is_dead s))) number ∙ get-set_same devices d s (device_after n captured is_dead s) here;
             left = omega arith;
             near = near_later s.channels (s.rate * 4) s.now n w.deferred far few short (omega arith) near;
             short = short;
           })
       | false ↦ λ apart.
           let test : (k.wait.device == d) ≡ false = ap (λ m. m == d) h.device ∙ apart in
-          let on : kept_passed d n k ≡ k = ap (λ b. record k { wait = cond b (record k.wait { left = k.wait.left - n }) k.wait }) test in
-          subst (λ (x : KeptDeferral). StandsForDeferral (slice_set devices d (later n captured is_dead s)) x w) (sym on)
+          let on : deferral_after_frames d n k ≡ k = ap (λ b. record k { wait = cond b (record k.wait { left = k.wait.left - n }) k.wait }) test in
+          subst (λ (x : KeptDeferral). StandsForDeferral (slice_set devices d (device_after n captured is_dead s)) x w) (sym on)
           (record {
             link = h.link;
             device = h.device;
             deferred = h.deferred;
             state = h.state;
-            here = get-set_other devices d w.device (later n captured is_dead s) (let other : w.device ≢ d = grind (arith, nat_tests) in other) ∙ h.here;
+            here = get-set_other devices d w.device (device_after n captured is_dead s) (let other : w.device ≢ d = grind (arith, nat_tests) in other) ∙ h.here;
             left = h.left;
             near = h.near;
             short = h.short;
@@ -107,15 +107,15 @@ wait_passed devices d n s captured is_dead k w here few far some h =
 
 -- n frames of a device go by
 pub waits_passed : (devices : List DeviceState) (d n : ℕ) (s : DeviceState) (captured : List ℤ) (is_dead : Bool) (ks : List KeptDeferral) (ws : List Deferral) → slice_get devices d ≡ Some s → n ≤ longest_tick → 32000 ≤ s.rate * 4 →
-    AreLater ks → StandForDeferrals devices ks ws → StandForDeferrals (slice_set devices d (later n captured is_dead s)) (map (kept_passed d n) ks) ws
+    AreLater ks → StandForDeferrals devices ks ws → StandForDeferrals (slice_set devices d (device_after n captured is_dead s)) (map (deferral_after_frames d n) ks) ws
 waits_passed devices d n s captured is_dead [] [] here few far l h = tt
 waits_passed devices d n s captured is_dead [] (w ∷ ws) here few far l h = absurd h
 waits_passed devices d n s captured is_dead (k ∷ ks) [] here few far l h = absurd h
 waits_passed devices d n s captured is_dead (k ∷ ks) (w ∷ ws) here few far l h =
     (wait_passed devices d n s captured is_dead k w here few far l.0 h.0, waits_passed devices d n s captured is_dead ks ws here few far l.1 h.1)
 
--- then each that is not due waits a frame or more still
-pub later_passed : (d n : ℕ) (ks : List KeptDeferral) → AreLater ks → AreLaterBut d (map (kept_passed d n) ks)
+-- then each that is not due waits for at least one more frame
+pub later_passed : (d n : ℕ) (ks : List KeptDeferral) → AreLater ks → AreLaterBut d (map (deferral_after_frames d n) ks)
 later_passed d n [] l = tt
 later_passed d n (k ∷ ks) l = (
   elim (k.wait.device == d) as (λ b. let w : Wait = cond b (record k.wait { left = k.wait.left - n }) k.wait in (k.wait.device == d) ≡ b → ((w.device == d) && (w.left == 0)) ≡ false → 0 < w.left) [
@@ -130,16 +130,16 @@ later_passed d n (k ∷ ks) l = (
 same_due : (devices : List DeviceState) (d : ℕ) (s : DeviceState) (k : KeptDeferral) (w : Deferral) → slice_get devices d ≡ Some s → StandsForDeferral devices k w → kept_due d k ≡ falls_due d s w
 same_due devices d s k w here h =
     ap (λ m. m == d && k.wait.left == 0) h.device
-    ∙ elim (w.device == d) as (λ b. (w.device == d) ≡ b → (b && k.wait.left == 0) ≡ (b && nat_le (due s.channels (horizon_of s) w.deferred) s.now)) [
+    ∙ elim (w.device == d) as (λ b. (w.device == d) ≡ b → (b && k.wait.left == 0) ≡ (b && nat_le (due_time s.channels (horizon_of s) w.deferred) s.now)) [
       | true ↦ λ same.
           let number : w.device ≡ d = grind (arith, nat_tests) in
           let is : h.state ≡ s = let both : Some h.state ≡ Some s = sym h.here ∙ ap (slice_get devices) number ∙ here in cc in
-          let left : k.wait.left ≡ due s.channels (s.rate * 4) w.deferred - s.now = h.left ∙ ap (λ (t : DeviceState). due t.channels (t.rate * 4) w.deferred - t.now) is in
+          let left : k.wait.left ≡ due_time s.channels (s.rate * 4) w.deferred - s.now = h.left ∙ ap (λ (t : DeviceState). due_time t.channels (t.rate * 4) w.deferred - t.now) is in
           grind (arith, nat_tests)
       | false ↦ λ apart. refl
     ] refl
 
--- if one is due of what is kept, it stands for the first that is due
+-- if a kept request is due, it stands for the first one that is due
 pub record FirstDue (devices : List DeviceState) (d : ℕ) (s : DeviceState) (ks : List KeptDeferral) (ws : List Deferral) (k : KeptDeferral) : Type 0 where
   pub waiter : Deferral
   pub first : find (falls_due d s) ws ≡ Some waiter
@@ -188,7 +188,7 @@ none_due devices d s (x ∷ ks) (w ∷ ws) here h e =
           ap (λ b. cond b (Some w) (find (falls_due d s) ws)) t ∙ none_due devices d s ks ws here h.1 (ap (λ b. cond b (Some x) (find (kept_due d) ks)) (sym t') ∙ e)
     ] refl
 
--- Who waits
+-- Which links have one
 
 pub same_waiting : (devices : List DeviceState) (ks : List KeptDeferral) (ws : List Deferral) (link : ℕ) → StandForDeferrals devices ks ws → has_waiting ks link ≡ has_deferral ws link
 same_waiting devices [] [] link h = refl
@@ -197,9 +197,9 @@ same_waiting devices (k ∷ ks) [] link h = absurd h
 same_waiting devices (k ∷ ks) (w ∷ ws) link h =
     ap (λ m. m == link || has_waiting ks link) h.0.link ∙ ap (λ b. w.link == link || b) (same_waiting devices ks ws link h.1)
 
-pub passed_waiting : (d n : ℕ) (ks : List KeptDeferral) (link : ℕ) → has_waiting (map (kept_passed d n) ks) link ≡ has_waiting ks link
+pub passed_waiting : (d n : ℕ) (ks : List KeptDeferral) (link : ℕ) → has_waiting (map (deferral_after_frames d n) ks) link ≡ has_waiting ks link
 passed_waiting d n [] link = refl
-passed_waiting d n (k ∷ ks) link = ap (λ m. m == link || has_waiting (map (kept_passed d n) ks) link) (passed-link d n k.wait) ∙ ap (λ b. k.wait.link == link || b) (passed_waiting d n ks link)
+passed_waiting d n (k ∷ ks) link = ap (λ m. m == link || has_waiting (map (deferral_after_frames d n) ks) link) (wait_after_frames-link d n k.wait) ∙ ap (λ b. k.wait.link == link || b) (passed_waiting d n ks link)
 
 pub waits_push : (devices : List DeviceState) (ks : List KeptDeferral) (ws : List Deferral) (k : KeptDeferral) (w : Deferral) → StandForDeferrals devices ks ws → StandsForDeferral devices k w → StandForDeferrals devices (ks ++ k ∷ []) (ws ++ w ∷ [])
 waits_push devices [] [] k w h one = (one, tt)
@@ -279,7 +279,7 @@ others_append link j [] (y ∷ ys) apart n =
     ap (λ b. b || has_waiting ys j) other ∙ others_append link j [] ys apart n.2
 others_append link j (x ∷ xs) ys apart n = ap (λ b. x.wait.link == j || b) (others_append link j xs ys apart n)
 
--- no other link begins to wait
+-- no other link gets a deferred request
 pub only_queues_others : (link j : ℕ) (old new : List KeptDeferral) → OnlyQueues link old new → j ≢ link → has_waiting new j ≡ has_waiting old j
 only_queues_others link j old new g apart = ap (λ ks. has_waiting ks j) g.is ∙ others_append link j old g.more apart g.are_new
 
@@ -336,7 +336,7 @@ pub later_but : (d : ℕ) (ks : List KeptDeferral) → AreLaterBut d ks → AreL
 later_but d [] l = tt
 later_but d (k ∷ ks) l = elim (kept_due d k) as (λ b. AreLaterBut d (cond b ks (k ∷ without_first (kept_due d) ks))) [ true ↦ l.1 | false ↦ (l.0, later_but d ks l.1) ]
 
--- if none is due each waits a frame or more still
+-- if none is due, each waits for at least one more frame
 pub all_later : (d : ℕ) (ks : List KeptDeferral) → find (kept_due d) ks ≡ None → AreLaterBut d ks → AreLater ks
 all_later d [] e l = tt
 all_later d (k ∷ ks) e l =

@@ -1,21 +1,21 @@
--- Deferred requests, and the room that they stand in.
+-- Deferred requests, and the room that holds them.
 use Rattle.std.proofs.Common.{◌≡◌, ◌≢◌, ℕ, ℤ, zero, suc, ◌%◌, ◌^◌, ◌<◌, ◌==◌, ◌||◌, Bool, true, false, not, cond, List, [], ◌∷◌, ◌++◌, length, map, find, get_or, slice_set, option_map, IfSome, refl, sym, ap, ◌∙◌, subst, arith}
 use Rattle.std.proofs.lemmas.Bool.Decides.{nat_tests}
 use Rattle.std.specs.declared.option.Option.{Option}
 use Rattle.std.specs.declared.option.Option.TheVariants.{None, Some}
 use Rattle.af_context.specs.declared.Context.{Context}
 use Rattle.af_wait.specs.declared.Wait.{Wait}
-use Rattle.af_wait.specs.Waits.{first_due, is_due, is_waiting, passed, without_first, without_link, without_taken}
-use Rattle.af_wait.proofs.WaitLemmas.{passed-link}
+use Rattle.af_wait.specs.Waits.{first_due, is_due, is_waiting, wait_after_frames, without_first, without_link, without_taken}
+use Rattle.af_wait.proofs.WaitLemmas.{wait_after_frames-link}
 use Rattle.af_model.specs.State.{Deferred, deferred_play, deferred_record}
-use Rattle.af_state.specs.Deferrals.{KeptDeferral, has_waiting, kept_due, kept_passed, kept_deferral, kept_without, waits_of, worded}
+use Rattle.af_state.specs.Deferrals.{KeptDeferral, has_waiting, kept_due, deferral_after_frames, kept_deferral, kept_without, waits_of, with_start_word}
 
 -- a deferred request is of one kind
-pub play_is : (deferred : Deferred) (quiet : Bool) (start : ℕ) (sound : List ℤ) (preempt : Bool) → deferred_play quiet start sound preempt ≡ worded deferred → (whole : ℕ) × (deferred ≡ deferred_play quiet whole sound preempt) × (start ≡ whole % 2 ^ 32)
+pub play_is : (deferred : Deferred) (quiet : Bool) (start : ℕ) (sound : List ℤ) (preempt : Bool) → deferred_play quiet start sound preempt ≡ with_start_word deferred → (whole : ℕ) × (deferred ≡ deferred_play quiet whole sound preempt) × (start ≡ whole % 2 ^ 32)
 play_is (deferred_play q whole xs p) quiet start sound preempt e = (whole, cc, cc)
 play_is (deferred_record c whole n) quiet start sound preempt e = absurd cc
 
-pub record_is : (deferred : Deferred) (c : Context) (start frames : ℕ) → deferred_record c start frames ≡ worded deferred → (whole : ℕ) × (deferred ≡ deferred_record c whole frames) × (start ≡ whole % 2 ^ 32)
+pub record_is : (deferred : Deferred) (c : Context) (start frames : ℕ) → deferred_record c start frames ≡ with_start_word deferred → (whole : ℕ) × (deferred ≡ deferred_record c whole frames) × (start ≡ whole % 2 ^ 32)
 record_is (deferred_play q whole xs p) c start frames e = absurd cc
 record_is (deferred_record d whole n) c start frames e = (whole, cc, cc)
 
@@ -24,7 +24,7 @@ pub waits_of-kept : (room : List Deferred) (order : List Wait) → waits_of (map
 waits_of-kept room [] = refl
 waits_of-kept room (w ∷ order) = ap (λ l. w ∷ l) (waits_of-kept room order)
 
--- the room of a link is of that link alone
+-- the room of a link is only that link's
 other_room : (room : List Deferred) (i j : ℕ) (h d : Deferred) → i ≢ j → get_or (slice_set room i h) j d ≡ get_or room j d
 other_room [] i j h d apart = refl
 other_room (x ∷ room) zero zero h d apart = absurd (apart refl)
@@ -52,7 +52,7 @@ kept_push : (room : List Deferred) (order : List Wait) (w : Wait) → map (kept_
 kept_push room [] w = refl
 kept_push room (x ∷ order) w = ap (λ l. kept_deferral room x ∷ l) (kept_push room order w)
 
--- a link begins to wait
+-- a link's request is deferred
 pub begins : (room : List Deferred) (order order' : List Wait) (w : Wait) (h : Deferred) → w.link < length room → is_waiting order w.link ≡ false → order' ≡ order ++ w ∷ [] →
     map (kept_deferral (slice_set room w.link h)) order' ≡ map (kept_deferral room) order ++ record { wait = w; deferred = h } ∷ []
 begins room order order' w h low free is =
@@ -61,11 +61,11 @@ begins room order order' w h low free is =
     ∙ ap (λ x. map (kept_deferral room) order ++ record { wait = w; deferred = x } ∷ []) (own_room room w.link h (deferred_play false 0 [] false) low)
 
 -- frames pass
-pub kept_pass : (room : List Deferred) (order : List Wait) (d n : ℕ) → map (kept_deferral room) (map (passed d n) order) ≡ map (kept_passed d n) (map (kept_deferral room) order)
+pub kept_pass : (room : List Deferred) (order : List Wait) (d n : ℕ) → map (kept_deferral room) (map (wait_after_frames d n) order) ≡ map (deferral_after_frames d n) (map (kept_deferral room) order)
 kept_pass room [] d n = refl
 kept_pass room (w ∷ order) d n =
-    let one : kept_deferral room (passed d n w) ≡ kept_passed d n (kept_deferral room w) = ap (λ i. record { wait = passed d n w; deferred = get_or room i (deferred_play false 0 [] false) }) (passed-link d n w) in
-    ap (λ x. x ∷ map (kept_deferral room) (map (passed d n) order)) one ∙ ap (λ l. kept_passed d n (kept_deferral room w) ∷ l) (kept_pass room order d n)
+    let one : kept_deferral room (wait_after_frames d n w) ≡ deferral_after_frames d n (kept_deferral room w) = ap (λ i. record { wait = wait_after_frames d n w; deferred = get_or room i (deferred_play false 0 [] false) }) (wait_after_frames-link d n w) in
+    ap (λ x. x ∷ map (kept_deferral room) (map (wait_after_frames d n) order)) one ∙ ap (λ l. deferral_after_frames d n (kept_deferral room w) ∷ l) (kept_pass room order d n)
 
 -- what is due
 pub kept_first : (room : List Deferred) (order : List Wait) (d : ℕ) → option_map (λ w. w.link) (first_due d order) ≡ option_map (λ k. k.wait.link) (find (kept_due d) (map (kept_deferral room) order))
@@ -84,7 +84,7 @@ kept_taken room (w ∷ order) d =
       | false ↦ ap (λ l. kept_deferral room w ∷ l) (kept_taken room order d)
     ]
 
--- a room that is there
+-- a room that exists
 pub same_room : (room : List Deferred) (i : ℕ) (d e : Deferred) → i < length room → get_or room i d ≡ get_or room i e
 same_room [] i d e low = absurd (omega arith)
 same_room (x ∷ room) zero d e low = refl
@@ -97,7 +97,7 @@ room_of room [] link h is k d low e = absurd (omega arith)
 room_of room (w ∷ order) link h is zero d low e = is ∙ ap (λ i. get_or room i (deferred_play false 0 [] false)) (sym e)
 room_of room (w ∷ order) link h is (suc k) d low e = room_of room order link h is k d (omega arith) e
 
--- a link that is taken out waits no more
+-- a link that is taken out has no deferred request
 without_gone : (order : List Wait) (link : ℕ) → is_waiting (without_link order link) link ≡ false
 without_gone [] link = refl
 without_gone (w ∷ order) link =
@@ -115,7 +115,7 @@ taken_free room order order' d taken is rest =
       | Some link ↦ λ e. ap (λ ws. is_waiting ws link) (waits_of-kept room order') ∙ ap (λ ws. is_waiting ws link) e ∙ without_gone order link
     ] rest)
 
--- a link whose request is due waits
+-- a link whose request is due has one
 pub due_waits : (d : ℕ) (ks : List KeptDeferral) (link : ℕ) → option_map (λ k. k.wait.link) (find (kept_due d) ks) ≡ Some link → has_waiting ks link ≡ true
 due_waits d [] link e = absurd cc
 due_waits d (k ∷ ks) link e =

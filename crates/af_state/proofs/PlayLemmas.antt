@@ -20,12 +20,12 @@ use Rattle.af_buffers.proofs.HorizonLemmas.{horizon_of_rate, horizon_within}
 use Rattle.af_buffers.proofs.PlayBufferLemmas.{hears_silence, hears_play, hears_hand_out, gives_heard_from, frames_beyond-same as play_later, frames_within-same}
 use Rattle.af_buffers.proofs.RecordBufferLemmas.{keeps_silence, keeps_capture, reads_window, frames_before-same, frames_beyond-same as record_later}
 use Rattle.af_model.specs.State.{DeviceState, Deferred, opening_controls, opening_device, opening_line}
-use Rattle.af_model.specs.Play.{accepting}
+use Rattle.af_model.specs.Play.{accept_play}
 use Rattle.af_model.specs.Record.{recorded_bytes}
 use Rattle.af_request.specs.declared.reply.Controls.{Controls}
 use Rattle.af_request.specs.declared.reply.Phone.{Phone}
 use Rattle.af_model.specs.Controls.{through_output_control, through_control, through_input_control}
-use Rattle.af_model.specs.Tick.{completing, later, next_sound, with_deferred, with_deferred_actor}
+use Rattle.af_model.specs.Tick.{complete_deferred, device_after, next_sound, with_deferred, with_deferred_actor}
 use Rattle.af_model.specs.NoLoss.{IsWholeAt}
 use Rattle.af_state.specs.Kept.{KeptDevice, StandsForDevice}
 
@@ -88,12 +88,12 @@ start_meant d s start word h = unwrap_meant s.now start h.hears.late word
 pub horizon_bounds : (s : DeviceState) (d : KeptDevice) → StandsForDevice d s → (32000 ≤ s.rate * 4) × (s.rate * 4 ≤ 192000)
 horizon_bounds s d h = horizon_within (s.rate * 4) (horizon_of_rate s.rate h.listed)
 
--- a play without a sample is none
-pub accepts_nothing : (k : ℕ) (d : KeptDevice) (start : ℕ) (sound : List ℤ) (preempt : Bool) (s : DeviceState) → length sound ≡ 0 → StandsForDevice d s → StandsForDevice d (accepting k (accepted_at s.now start sound preempt) s)
+-- a play without a sample changes nothing
+pub accepts_nothing : (k : ℕ) (d : KeptDevice) (start : ℕ) (sound : List ℤ) (preempt : Bool) (s : DeviceState) → length sound ≡ 0 → StandsForDevice d s → StandsForDevice d (accept_play k (accepted_at s.now start sound preempt) s)
 accepts_nothing k d start sound preempt s none h =
     subst (λ n. StandsForDevice d (record s { accepted = cond (n == 0) s.accepted (s.accepted ++ accepted_at s.now start sound preempt ∷ []); actors = cond (n == 0) s.actors (s.actors ++ k ∷ []) })) (sym none) h
 
--- whole frames of some samples are some frames
+-- samples in whole frames have a frame if there are any
 some_frame : (channels : ℕ) (sound : List ℤ) → IsChannelCount channels → 0 < length sound → AreWholeFrames channels sound → 0 < frame_count channels sound
 some_frame channels sound count some whole = elim (one_or_two channels count) [
   | inl one ↦ let all : length sound ≡ 1 * frame_count channels sound = whole ∙ ap (λ c. c * frame_count channels sound) one in omega (arith, all, some)
@@ -102,7 +102,7 @@ some_frame channels sound count some whole = elim (one_or_two channels count) [
 
 -- a play
 pub accepts : (k : ℕ) (d : KeptDevice) (next : PlayWindow) (start : ℕ) (sound : List ℤ) (preempt : Bool) → start < 2 ^ 32 → 0 < length sound → AreWholeFrames d.next.channels sound → frame_count d.next.channels sound ≤ frames_within d.next start →
-    Plays d.next next (accepted_by d.next start sound preempt) → (s : DeviceState) → StandsForDevice d s → StandsForDevice (record d { next = next }) (accepting k (accepted_at s.now start sound preempt) s)
+    Plays d.next next (accepted_by d.next start sound preempt) → (s : DeviceState) → StandsForDevice d s → StandsForDevice (record d { next = next }) (accept_play k (accepted_at s.now start sound preempt) s)
 accepts k d next start sound preempt word some whole few p s h =
     let same : d.next.channels ≡ s.channels = h.hears.channels in
     let whole' : AreWholeFrames s.channels sound = subst (λ c. AreWholeFrames c sound) same whole in
@@ -127,8 +127,8 @@ accepts k d next start sound preempt word some whole few p s h =
       dead = h.dead;
     })
 
--- a request that had waited, of which nothing is lost
-pub completes : (k : ℕ) (d : KeptDevice) (s : DeviceState) (deferred : Deferred) → StandsForDevice d (record s { accepted = with_deferred deferred s.now s.accepted; actors = with_deferred_actor k deferred s.actors }) → IsWholeAt (s.rate * 4) s.now deferred → StandsForDevice d (completing k deferred s)
+-- a deferred request, of which nothing is lost
+pub completes : (k : ℕ) (d : KeptDevice) (s : DeviceState) (deferred : Deferred) → StandsForDevice d (record s { accepted = with_deferred deferred s.now s.accepted; actors = with_deferred_actor k deferred s.actors }) → IsWholeAt (s.rate * 4) s.now deferred → StandsForDevice d (complete_deferred k deferred s)
 completes k d s deferred h whole = record {
   ty = h.ty;
   rate = h.rate;
@@ -153,7 +153,7 @@ records d c start n s word h =
 
 -- sample periods go by
 pub passes : (d : KeptDevice) (next : PlayWindow) (last : RecordWindow) (captured taken given : List ℤ) → taken ≡ through_input_control d.controls captured → length given ≡ length captured → AreWholeFrames d.next.channels captured →
-    HandsOut d.next next given → Captures d.last last taken → (s : DeviceState) → StandsForDevice d s → StandsForDevice (record d { next = next; last = last }) (later (frame_count s.channels captured) captured s.is_dead s)
+    HandsOut d.next next given → Captures d.last last taken → (s : DeviceState) → StandsForDevice d s → StandsForDevice (record d { next = next; last = last }) (device_after (frame_count s.channels captured) captured s.is_dead s)
 passes d next last captured taken given is same whole o more s h =
     let ch : d.next.channels ≡ s.channels = h.hears.channels in
     let size : length taken ≡ length captured = ap length is ∙ length-map captured (through_control d.controls.input_on d.controls.input_gain) in
@@ -183,7 +183,7 @@ hands_out d next given out n same whole is o s h =
     let all : given ≡ next_sound s (n / s.channels) = gives_heard_from d.next next s.channels s.accepted s.now (n / s.channels) given h.hears o (whole' ∙ ap (λ m. s.channels * (m / s.channels)) same) in
     is ∙ ap (through_output_control d.controls) all ∙ ap (λ (c : Controls). through_output_control c (next_sound s (n / s.channels))) h.controls
 
--- silence is what is switched off
+-- what is switched off is silence
 pub silenced : (gain : ℤ) (xs : List ℤ) → replicate (length xs) (pos 0) ≡ map (through_control false gain) xs
 silenced gain [] = refl
 silenced gain (x ∷ xs) = ap (λ l. pos 0 ∷ l) (silenced gain xs)

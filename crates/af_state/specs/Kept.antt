@@ -14,7 +14,7 @@ use Rattle.af_model.specs.State.{DeviceState, LinkState}
 use Rattle.af_model.specs.Reply.{horizon_of}
 use Rattle.af_model.specs.NoLoss.{LosesNone}
 
--- A device: the frames next from its time on, and the last ones up to then. The time and the channels are those of both.
+-- A device: the next frames from its time on, and the last ones before it. The time and the channels are those of both.
 pub record KeptDevice : Type 0 where
   pub ty : SampleType
   pub rate : ℕ
@@ -24,9 +24,9 @@ pub record KeptDevice : Type 0 where
   pub line : Option Phone
   pub is_dead : Bool
 
--- A device stands for each state of which its time is the 32-bit word, its next samples are what is heard of the accepted plays
--- from then on, and its last samples are what was captured of late, and in which no request that had waited has lost a sample.
--- None of the history is kept.
+-- A device stands for each state in which its time is the 32-bit word, its next samples are what is heard of the accepted plays
+-- from then on, and its last samples are what was captured recently. In such a state no deferred request has lost a sample. None
+-- of the history is kept.
 pub record StandsForDevice (d : KeptDevice) (s : DeviceState) : Type 0 where
   pub ty : d.ty ≡ s.ty
   pub rate : d.rate ≡ s.rate
@@ -47,11 +47,11 @@ StandForDevices [] (s ∷ ss) = ⊥
 StandForDevices (d ∷ ds) [] = ⊥
 StandForDevices (d ∷ ds) (s ∷ ss) = StandsForDevice d s × StandForDevices ds ss
 
--- the channels of a device, if it is there
+-- the channels of a device, if it exists
 abbrev pub kept_channels_at : List KeptDevice → ℕ → Option ℕ
 kept_channels_at ds d = option_map (λ device. device.next.channels) (slice_get ds d)
 
--- of the device at a number this holds, if it is there
+-- this holds of the device at a number, if it exists
 abbrev pub OfDeviceAt : List KeptDevice → ℕ → (KeptDevice → Type 0) → Type 0
 OfDeviceAt ds d Holds = (device : KeptDevice) → slice_get ds d ≡ Some device → Holds device
 
@@ -59,8 +59,7 @@ OfDeviceAt ds d Holds = (device : KeptDevice) → slice_get ds d ≡ Some device
 abbrev pub kept_info : KeptDevice → DeviceInfo
 kept_info d = record { ty = d.ty; channels = d.next.channels; line = is_some d.line; rate = d.rate; horizon = d.rate * 4 }
 
--- A link never has more than 32768 bytes unread, nor more to send than 49152 bytes and the reply that is made while no more
--- than these wait to be sent.
+-- A link never has more than 32768 bytes unread. It never has more to send than 49152 bytes and one reply.
 pub record IsBounded (l : LinkState) : Type 0 where
   pub rest : length l.rest ≤ most_unread
   pub pending : length l.pending ≤ event_limit + longest_message

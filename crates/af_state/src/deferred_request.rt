@@ -1,4 +1,4 @@
-// A request that waits, with room for the samples of a play that is taken once.
+// A deferred request, with room for the samples of a play that is taken once.
 ghost use Rattle.std.specs.Prelude.{◌≡◌, ◌≤◌, length};
 ghost use Rattle.af_limits.specs.Limits.{longest_play};
 ghost use Rattle.af_state.specs.Deferred.{deferred_as, deferred_of_play, deferred_of_record};

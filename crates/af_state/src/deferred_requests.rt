@@ -1,14 +1,14 @@
-// The requests that wait, each with what it will do.
-// How they lie: `order` lists who waits, oldest first, each with its device and the frames that are left; `deferred` has a place for
-// each link, by number: the request, and room for the samples of a play, all taken once. A link that begins to wait fills
-// its place and goes to the end of the list. One that ends leaves the list alone: no sample is moved, and what stands in its
-// place means nothing any more. Contracts see one list: each that waits, in order, joined with what its place holds.
+// The deferred requests, each with what it will do.
+// Layout: `order` lists the links with one, the longest deferred first, each with its device and the frames that are left.
+// `deferred` has a place for each link, by number: the request, and room for the samples of a play, all taken once. A link with a
+// new request fills its place and goes to the end of the list. A request that ends only leaves the list: no sample is moved, and
+// what is in its place means nothing any more. Contracts see one list: each entry of `order`, joined with its place.
 ghost use Rattle.std.specs.Prelude.{◌≡◌, ◌<◌, ◌≤◌, false, [], ◌∷◌, ◌++◌, length, map, find, option_map, IfOk, IfSome};
 ghost use Rattle.std.specs.List.{All};
 ghost use Rattle.af_limits.specs.Limits.{most_links, longest_play};
 ghost use Rattle.af_wait.specs.Waits.{without_first};
 ghost use Rattle.af_state.specs.Deferred.{deferred_of_play, deferred_of_record};
-ghost use Rattle.af_state.specs.Deferrals.{has_waiting, kept_due, kept_passed, kept_without, waiting, waits_of};
+ghost use Rattle.af_state.specs.Deferrals.{has_waiting, kept_due, deferral_after_frames, kept_without, deferral_of, waits_of};
 
 use crate::deferred_request::{DeferredRequest, Play, Record};
 use af_limits::MOST_LINKS;
@@ -89,7 +89,7 @@ impl DeferredRequests {
         requires apart { has_waiting self.old link ≡ false }
         requires later { 0 < left }
         requires few { length play.now.sound.now ≤ longest_play }
-        ensures { self.new ≡ self.old ++ waiting link play.now.device left (deferred_of_play play.now) ∷ [] }
+        ensures { self.new ≡ self.old ++ deferral_of link play.now.device left (deferred_of_play play.now) ∷ [] }
     {
         self.order.add(link, play.device, left);
         self.deferred[usize::from(link)].defer_play(play);
@@ -100,7 +100,7 @@ impl DeferredRequests {
         requires link { link < most_links }
         requires apart { has_waiting self.old link ≡ false }
         requires later { 0 < left }
-        ensures { self.new ≡ self.old ++ waiting link asked.context.device left (deferred_of_record asked) ∷ [] }
+        ensures { self.new ≡ self.old ++ deferral_of link asked.context.device left (deferred_of_record asked) ∷ [] }
     {
         self.order.add(link, asked.context.device, left);
         self.deferred[usize::from(link)].defer_record(asked);
@@ -108,7 +108,7 @@ impl DeferredRequests {
 
     /// n frames of a device have passed.
     pub fn pass(&mut self, device: u8, n: u32)
-        ensures { self.new ≡ map (kept_passed device n) self.old }
+        ensures { self.new ≡ map (deferral_after_frames device n) self.old }
     {
         self.order.pass(device, n);
     }

@@ -8,10 +8,10 @@ ghost use Rattle.af_sample.specs.Rates.{IsListedRate};
 ghost use Rattle.af_buffers.specs.PlayBuffer.{accepted_at, frames_beyond as play_beyond, frames_within};
 ghost use Rattle.af_buffers.specs.RecordBuffer.{frames_before, frames_until_past as record_beyond};
 ghost use Rattle.af_model.specs.State.{DeviceState, opening_controls, opening_device, opening_line};
-ghost use Rattle.af_model.specs.Play.{accepting};
+ghost use Rattle.af_model.specs.Play.{accept_play};
 ghost use Rattle.af_model.specs.Record.{recorded_bytes};
 ghost use Rattle.af_model.specs.Controls.{through_output_control};
-ghost use Rattle.af_model.specs.Tick.{later, next_sound};
+ghost use Rattle.af_model.specs.Tick.{device_after, next_sound};
 ghost use Rattle.af_state.specs.Kept.{StandsForDevice, kept_info};
 
 use crate::level::level;
@@ -177,7 +177,7 @@ impl Device {
         requires whole { AreWholeFrames self.old.next.channels sound.now }
         requires within { frame_count self.old.next.channels sound.now ≤ frames_within self.old.next start.0 }
         ensures { (k : ℕ) (s : DeviceState) → StandsForDevice self.old s →
-            StandsForDevice self.new (accepting k (accepted_at s.now start.0 sound.now preempt) s) }
+            StandsForDevice self.new (accept_play k (accepted_at s.now start.0 sound.now preempt) s) }
     {
         if sound.is_empty() {
             return;
@@ -198,14 +198,14 @@ impl Device {
         convert_out(context.ty, samples, bytes);
     }
 
-    /// As many sample periods go by as frames came. These go through the input control and are kept, and the next ones are handed out
-    /// through the output control.
+    /// As many sample periods go by as frames came. These go through the input control and are kept, and the next ones are handed
+    /// out through the output control.
     pub fn pass(&mut self, captured: &mut [i16], sound: &mut [i16])
         requires same { length sound.old ≡ length captured.old }
         requires few { frame_count self.old.next.channels captured.old ≤ longest_tick }
         requires whole { AreWholeFrames self.old.next.channels captured.old }
         ensures stands { (s : DeviceState) → StandsForDevice self.old s →
-            StandsForDevice self.new (later (frame_count s.channels captured.old) captured.old s.is_dead s) }
+            StandsForDevice self.new (device_after (frame_count s.channels captured.old) captured.old s.is_dead s) }
         ensures sound { (s : DeviceState) → StandsForDevice self.old s →
             sound.new ≡ through_output_control s.controls (next_sound s (frame_count s.channels captured.old)) }
     {

@@ -1,8 +1,8 @@
-// A link, as the core keeps it. There is one small method for each thing that becomes of a link.
-// How it lies: the bytes are a session, whose memory is taken once; all else lies in the struct itself, and the next link of the
-// same number uses it again. The 16 contexts are in order of creation. The masks of the events that it selects stand by the
-// numbers of the devices. That it waits with a request is not noted here, but in the list of those that wait, so `wants_read` and
-// `takes_more` are told of it. Contracts see the link of the abstract server, field by field.
+// A link, as the core keeps it. Each method is one thing that may happen to a link.
+// Layout: the bytes are a session, whose memory is taken once. All else is in the struct itself, and the next link of the same
+// number uses it again. The 16 contexts are in order of creation. The masks of selected events are by the numbers of the devices.
+// Whether the link has a deferred request is noted only in the list of those, so `wants_read` and `takes_more` are told of it.
+// Contracts see the link of the abstract server, field by field.
 ghost use Rattle.std.specs.Prelude.{◌≡◌, ◌+◌, ◌==◌, ◌≤◌, nat_le, not, [], ◌∷◌, ◌++◌, length, drop, take, slice_set, true, false, IfOk, IfSome, OnOk, OnErr};
 ghost use Rattle.std.specs.declared.option.Option.TheVariants.{Some};
 ghost use Rattle.std.specs.Borrow.{sem};
@@ -14,13 +14,13 @@ ghost use Rattle.af_request.specs.Opcodes as opcodes;
 ghost use Rattle.af_wire.specs.Message.{error};
 ghost use Rattle.af_wire.specs.Event.{event_bytes};
 ghost use Rattle.af_phone.specs.Lines.{selects};
-ghost use Rattle.af_model.specs.State.{none_selected, opened, stopped};
+ghost use Rattle.af_model.specs.State.{none_selected, new_link_state, closing_link};
 ghost use Rattle.af_model.specs.Events.{mask_of};
 ghost use Rattle.af_model.specs.Reply.{code_of_cause, reply_message};
-ghost use Rattle.af_model.specs.Perform.{request_counted};
+ghost use Rattle.af_model.specs.Perform.{count_request};
 ghost use Rattle.af_model.specs.Advance.{takes_more, without_front};
 ghost use Rattle.af_model.specs.More.{wants_turn};
-ghost use Rattle.af_model.specs.Turn.{wants_read, wants_write, close_due, ready, sent, writable};
+ghost use Rattle.af_model.specs.Turn.{wants_read, wants_write, close_due, mark_readable, send_pending, mark_writable};
 ghost use Rattle.af_state.specs.Deferrals.{has_waiting};
 ghost use Rattle.af_state.specs.Kept.{IsBounded};
 
@@ -72,7 +72,7 @@ impl ServedLink {
     ghost use Rattle.af_state.specs.Lending.{unchanged_after_loan};
 
     pub fn new(alloc: Global) -> Result<ServedLink, OutOfMemory>
-        ensures { IfOk result (λ l. l ≡ opened) }
+        ensures { IfOk result (λ l. l ≡ new_link_state) }
     {
         let session = Session::new(alloc)?;
         Ok(ServedLink {
@@ -159,7 +159,7 @@ impl ServedLink {
 
     /// The link is to be closed.
     pub fn stop(&mut self, cause: Why)
-        ensures { self.new ≡ stopped cause self.old }
+        ensures { self.new ≡ closing_link cause self.old }
     {
         self.session.drop_front(self.session.rest().len());
         self.closing = Some(cause);
@@ -183,7 +183,7 @@ impl ServedLink {
         self.order = order;
     }
 
-    /// The first bytes of the input are taken off, and come to stand in `front`.
+    /// Takes the first bytes off the input, and copies them into `front`.
     pub fn take_front(&mut self, front: &mut [u8])
         requires { length front.old ≤ length self.old.rest }
         ensures link { self.new ≡ without_front (length front.old) self.old }
@@ -212,12 +212,12 @@ impl ServedLink {
 
     /// One more request is made.
     pub fn count(&mut self)
-        ensures { self.new ≡ request_counted self.old }
+        ensures { self.new ≡ count_request self.old }
     {
         self.sequence = self.sequence.wrapping_add(1);
     }
 
-    /// The request with this opcode is replied to. The message comes to stand in `message`.
+    /// Replies to the request with this opcode. The message is built in `message`.
     pub fn reply(&mut self, opcode: u8, reply: &Reply<'_>, message: &mut [u8])
         requires room { length self.old.pending ≤ event_limit }
         requires samples { FitsMessage (reply_meaning reply.now) }
@@ -229,8 +229,8 @@ impl ServedLink {
         self.session.push_out(&message[..n]);
     }
 
-    /// A Record is replied to. So many bytes of its samples stand in `message` already, from `RECORDED_AT` on; the rest of it comes
-    /// to stand around them.
+    /// Replies to a Record. So many bytes of its samples are in `message` already, from `RECORDED_AT` on; the rest is built
+    /// around them.
     pub fn reply_recorded(&mut self, time: DevTime, n: usize, message: &mut [u8])
         requires room { length self.old.pending ≤ event_limit }
         requires samples { n ≤ longest_record }
@@ -371,12 +371,12 @@ impl ServedLink {
 
     /// There may be something to read.
     pub fn set_ready(&mut self)
-        ensures { self.new ≡ ready self.old }
+        ensures { self.new ≡ mark_readable self.old }
     {
         self.is_ready = true;
     }
 
-    /// All of its output, where it lies, if that is in one piece.
+    /// All of its output, in place, if it is one piece.
     pub fn pending_piece(&self) -> Option<&[u8]>
         ensures { IfSome result (λ piece. piece.now ≡ self.now.pending) }
     {
@@ -394,7 +394,7 @@ impl ServedLink {
     /// The first n bytes of the output were sent. If they were not all, the link is blocked.
     pub fn took(&mut self, n: usize)
         requires { n ≤ length self.old.pending }
-        ensures { self.new ≡ sent n self.old }
+        ensures { self.new ≡ send_pending n self.old }
     {
         self.is_stuck = n < self.session.pending_len();
         self.session.took(n);
@@ -402,14 +402,14 @@ impl ServedLink {
 
     /// It may take something again.
     pub fn set_writable(&mut self)
-        ensures { self.new ≡ writable self.old }
+        ensures { self.new ≡ mark_writable self.old }
     {
         self.is_stuck = false;
     }
 
     /// The link is opened again.
     pub fn reset(&mut self)
-        ensures { self.new ≡ opened }
+        ensures { self.new ≡ new_link_state }
     {
         self.is_set_up = false;
         self.order = Order::Big;

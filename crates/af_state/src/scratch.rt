@@ -1,4 +1,4 @@
-// Room for what a turn has in hand. It is taken once.
+// The room in which a turn works, taken once.
 
 use af_limits::{LONGEST_CAPTURE, LONGEST_FRAME, LONGEST_MESSAGE};
 use af_time::OutOfMemory;
@@ -17,7 +17,7 @@ impl Model for Work {
     ghost use Rattle.std.specs.Prelude.{◌≡◌, length};
     ghost use Rattle.af_limits.specs.Limits.{longest_frame, longest_message};
 
-    // what stands there means nothing from one use to the next
+    // its content means nothing from one use to the next
     ghost Value = { Unit {0} };
 
     ghost view = { λ a. tt };

@@ -15,68 +15,68 @@ unwrap_or-position p xs r e =
     ap (λ o. unwrap_or o (length xs)) e ∙ whole
 
 -- how far it is to the first byte that is this one
-abbrev pub before : ℕ → List ℕ → ℕ
-before stop bytes = position_or_len (λ b. nat_eq b stop) bytes
+abbrev pub length_before : ℕ → List ℕ → ℕ
+length_before stop bytes = position_or_len (λ b. nat_eq b stop) bytes
 
 -- the first line ends before the first LF
-pub lines_first : (text : List ℕ) → 0 < length text → lines text ≡ take (before 10 text) text ∷ lines (drop (suc (before 10 text)) text)
+pub lines_first : (text : List ℕ) → 0 < length text → lines text ≡ take (length_before 10 text) text ∷ lines (drop (suc (length_before 10 text)) text)
 lines_first [] h = absurd (omega arith)
 lines_first (b ∷ []) h =
     elim (nat_eq b 10) as (λ t. cond t ([] ∷ []) ((b ∷ []) ∷ []) ≡ take (cond (not t) 1 0) (b ∷ []) ∷ lines (drop (suc (cond (not t) 1 0)) (b ∷ []))) [ true ↦ refl | false ↦ refl ]
 lines_first (b ∷ c ∷ rest) h =
     let ih = lines_first (c ∷ rest) (omega arith) in
     let text = b ∷ c ∷ rest in
-    let n = before 10 (c ∷ rest) in
+    let n = length_before 10 (c ∷ rest) in
     let one : 1 + n ≡ suc n = omega arith in
     elim (nat_eq b 10) as (λ t. cond t ([] ∷ lines (c ∷ rest)) (put_in_front b (lines (c ∷ rest))) ≡ take (cond (not t) (1 + n) 0) text ∷ lines (drop (suc (cond (not t) (1 + n) 0)) text)) [
       | true ↦ refl
       | false ↦ ap (put_in_front b) ih ∙ ap (λ m. take m text ∷ lines (drop (suc m) text)) (sym one)
     ]
 
--- the parts behind the first space
-abbrev behind : List ℕ → List (List ℕ)
-behind [] = []
-behind (b ∷ rest) = parts rest
+-- the parts after the first space
+abbrev parts_after : List ℕ → List (List ℕ)
+parts_after [] = []
+parts_after (b ∷ rest) = parts rest
 
-abbrev kept : List (List ℕ) → List (List ℕ)
-kept ps = filter (λ part. not (is_nil part)) ps
+abbrev filled_parts : List (List ℕ) → List (List ℕ)
+filled_parts ps = filter (λ part. not (is_nil part)) ps
 
 -- the first part ends before the first space
-parts_first : (line : List ℕ) → parts line ≡ take (before 32 line) line ∷ behind (drop (before 32 line) line)
+parts_first : (line : List ℕ) → parts line ≡ take (length_before 32 line) line ∷ parts_after (drop (length_before 32 line) line)
 parts_first [] = refl
 parts_first (b ∷ rest) =
     let ih = parts_first rest in
     let line = b ∷ rest in
-    let n = before 32 rest in
+    let n = length_before 32 rest in
     let one : 1 + n ≡ suc n = omega arith in
-    elim (nat_eq b 32) as (λ t. cond t ([] ∷ parts rest) (put_in_front b (parts rest)) ≡ take (cond (not t) (1 + n) 0) line ∷ behind (drop (cond (not t) (1 + n) 0) line)) [
+    elim (nat_eq b 32) as (λ t. cond t ([] ∷ parts rest) (put_in_front b (parts rest)) ≡ take (cond (not t) (1 + n) 0) line ∷ parts_after (drop (cond (not t) (1 + n) 0) line)) [
       | true ↦ refl
-      | false ↦ ap (put_in_front b) ih ∙ ap (λ m. take m line ∷ behind (drop m line)) (sym one)
+      | false ↦ ap (put_in_front b) ih ∙ ap (λ m. take m line ∷ parts_after (drop m line)) (sym one)
     ]
 
--- what comes behind the first part has the words of the parts behind it
-words_behind : (line : List ℕ) → words (drop (before 32 line) line) ≡ kept (behind (drop (before 32 line) line))
+-- what comes after the first part has the words of the later parts
+words_behind : (line : List ℕ) → words (drop (length_before 32 line) line) ≡ filled_parts (parts_after (drop (length_before 32 line) line))
 words_behind [] = refl
 words_behind (b ∷ rest) =
     let ih = words_behind rest in
     let line = b ∷ rest in
-    let n = before 32 rest in
+    let n = length_before 32 rest in
     let one : 1 + n ≡ suc n = omega arith in
-    elim (nat_eq b 32) as (λ t. nat_eq b 32 ≡ t → words (drop (cond (not t) (1 + n) 0) line) ≡ kept (behind (drop (cond (not t) (1 + n) 0) line))) [
-      | true ↦ λ e. ap (λ t. kept (cond t ([] ∷ parts rest) (put_in_front b (parts rest)))) e
-      | false ↦ λ e. ap (λ m. words (drop m line)) one ∙ ih ∙ ap (λ m. kept (behind (drop m line))) (sym one)
+    elim (nat_eq b 32) as (λ t. nat_eq b 32 ≡ t → words (drop (cond (not t) (1 + n) 0) line) ≡ filled_parts (parts_after (drop (cond (not t) (1 + n) 0) line))) [
+      | true ↦ λ e. ap (λ t. filled_parts (cond t ([] ∷ parts rest) (put_in_front b (parts rest)))) e
+      | false ↦ λ e. ap (λ m. words (drop m line)) one ∙ ih ∙ ap (λ m. filled_parts (parts_after (drop m line))) (sym one)
     ] refl
 
-first_kept : (b : ℕ) (rest : List ℕ) (n : ℕ) → 0 < n → kept (take n (b ∷ rest) ∷ behind (drop n (b ∷ rest))) ≡ take n (b ∷ rest) ∷ kept (behind (drop n (b ∷ rest)))
+first_kept : (b : ℕ) (rest : List ℕ) (n : ℕ) → 0 < n → filled_parts (take n (b ∷ rest) ∷ parts_after (drop n (b ∷ rest))) ≡ take n (b ∷ rest) ∷ filled_parts (parts_after (drop n (b ∷ rest)))
 first_kept b rest zero h = absurd (omega arith)
 first_kept b rest (suc n) h = refl
 
 -- the first word of a line that does not begin with a space
-pub words_first : (line : List ℕ) → 0 < before 32 line → 0 < length line → words line ≡ take (before 32 line) line ∷ words (drop (before 32 line) line)
+pub words_first : (line : List ℕ) → 0 < length_before 32 line → 0 < length line → words line ≡ take (length_before 32 line) line ∷ words (drop (length_before 32 line) line)
 words_first [] h some = absurd (omega arith)
 words_first (b ∷ rest) h some =
     let line = b ∷ rest in
-    ap kept (parts_first line) ∙ first_kept b rest (before 32 line) h ∙ ap (λ ws. take (before 32 line) line ∷ ws) (sym (words_behind line))
+    ap filled_parts (parts_first line) ∙ first_kept b rest (length_before 32 line) h ∙ ap (λ ws. take (length_before 32 line) line ∷ ws) (sym (words_behind line))
 
 -- spaces in front of a line are no words
 pub words_skip : (line : List ℕ) → words line ≡ words (drop (position_or_len (λ b. not (nat_eq b 32)) line) line)
@@ -86,39 +86,39 @@ words_skip (b ∷ rest) =
     let n = position_or_len (λ b. not (nat_eq b 32)) rest in
     let one : 1 + n ≡ suc n = omega arith in
     elim (nat_eq b 32) as (λ t. nat_eq b 32 ≡ t → words line ≡ words (drop (cond (not (not t)) (1 + n) 0) line)) [
-      | true ↦ λ e. ap (λ t. kept (cond t ([] ∷ parts rest) (put_in_front b (parts rest)))) e ∙ words_skip rest ∙ ap (λ m. words (drop m line)) (sym one)
+      | true ↦ λ e. ap (λ t. filled_parts (cond t ([] ∷ parts rest) (put_in_front b (parts rest)))) e ∙ words_skip rest ∙ ap (λ m. words (drop m line)) (sym one)
       | false ↦ λ e. refl
     ] refl
 
--- behind them no space comes first
-pub before_skipped : (line : List ℕ) → 0 < length (drop (position_or_len (λ b. not (nat_eq b 32)) line) line) → 0 < before 32 (drop (position_or_len (λ b. not (nat_eq b 32)) line) line)
+-- after them comes no space
+pub before_skipped : (line : List ℕ) → 0 < length (drop (position_or_len (λ b. not (nat_eq b 32)) line) line) → 0 < length_before 32 (drop (position_or_len (λ b. not (nat_eq b 32)) line) line)
 before_skipped [] h = absurd (omega arith)
 before_skipped (b ∷ rest) h =
     let line = b ∷ rest in
     let n = position_or_len (λ b. not (nat_eq b 32)) rest in
     let one : 1 + n ≡ suc n = omega arith in
-    elim (nat_eq b 32) as (λ t. nat_eq b 32 ≡ t → 0 < length (drop (cond (not (not t)) (1 + n) 0) line) → 0 < before 32 (drop (cond (not (not t)) (1 + n) 0) line)) [
-      | true ↦ λ e. subst (λ m. 0 < length (drop m line) → 0 < before 32 (drop m line)) (sym one) (before_skipped rest)
-      | false ↦ λ e h. subst (λ t. 0 < cond (not t) (1 + before 32 rest) 0) (sym e) (omega arith)
+    elim (nat_eq b 32) as (λ t. nat_eq b 32 ≡ t → 0 < length (drop (cond (not (not t)) (1 + n) 0) line) → 0 < length_before 32 (drop (cond (not (not t)) (1 + n) 0) line)) [
+      | true ↦ λ e. subst (λ m. 0 < length (drop m line) → 0 < length_before 32 (drop m line)) (sym one) (before_skipped rest)
+      | false ↦ λ e h. subst (λ t. 0 < cond (not t) (1 + length_before 32 rest) 0) (sym e) (omega arith)
     ] refl h
 
 no_words : (line : List ℕ) → length line ≡ 0 → words line ≡ []
 no_words [] h = refl
 no_words (b ∷ rest) h = absurd (omega arith)
 
--- a line of so many spaces alone
+-- a line of only so many spaces
 pub words_none : (line : List ℕ) (s : ℕ) → s ≡ position_or_len (λ b. not (nat_eq b 32)) line → length (take (length line - s) (drop s line)) ≡ 0 → words line ≡ []
 words_none line s at h =
     words_skip line ∙ ap (λ n. words (drop n line)) (sym at) ∙ no_words (drop s line) (sym (ap length (take_rest line s)) ∙ h)
 
 -- a line of so many spaces, a word and a rest
-pub words_some : (line : List ℕ) (s e : ℕ) (word rest : List ℕ) → s ≡ position_or_len (λ b. not (nat_eq b 32)) line → 0 < length (take (length line - s) (drop s line)) → e ≡ before 32 (take (length line - s) (drop s line)) → word ≡ take e (take (length line - s) (drop s line)) → rest ≡ drop e (take (length line - s) (drop s line)) → words line ≡ word ∷ words rest
+pub words_some : (line : List ℕ) (s e : ℕ) (word rest : List ℕ) → s ≡ position_or_len (λ b. not (nat_eq b 32)) line → 0 < length (take (length line - s) (drop s line)) → e ≡ length_before 32 (take (length line - s) (drop s line)) → word ≡ take e (take (length line - s) (drop s line)) → rest ≡ drop e (take (length line - s) (drop s line)) → words line ≡ word ∷ words rest
 words_some line s e word rest at some end is_word is_rest =
     let from = drop s line in
     let whole = take_rest line s in
     let some_left : 0 < length from = subst (λ l. 0 < length l) whole some in
-    let ends : e ≡ before 32 from = end ∙ ap (before 32) whole in
-    let some_word : 0 < before 32 from = subst (λ n. 0 < length (drop n line) → 0 < before 32 (drop n line)) (sym at) (before_skipped line) some_left in
+    let ends : e ≡ length_before 32 from = end ∙ ap (length_before 32) whole in
+    let some_word : 0 < length_before 32 from = subst (λ n. 0 < length (drop n line) → 0 < length_before 32 (drop n line)) (sym at) (before_skipped line) some_left in
     words_skip line ∙ ap (λ n. words (drop n line)) (sym at) ∙ words_first from some_word some_left
     ∙ ap (λ n. take n from ∷ words (drop n from)) (sym ends)
     ∙ ap (λ w. w ∷ words (drop e from)) (ap (take e) (sym whole) ∙ sym is_word)

@@ -7,9 +7,9 @@ use Rattle.std.proofs.lemmas.List.{take_rest}
 use Rattle.std.proofs.lemmas.List.Sums.{prefix_len-le-length, passes_at_first}
 use Rattle.std.proofs.lemmas.Str.{IsUtf8-take, IsUtf8-drop, IsCharBoundary-after_ascii, IsCharBoundary-before_ascii, IsCharBoundary-end}
 use Rattle.std.proofs.lemmas.Bool.Decides.{nat_tests}
-use Rattle.af_text.proofs.LineSplitLemmas.{before}
+use Rattle.af_text.proofs.LineSplitLemmas.{length_before}
 
--- behind the spaces in front of a text is a text
+-- a text without the spaces at its front is a text
 skipped_text : (line : List ℕ) → IsUtf8 line → IsUtf8 (drop (position_or_len (λ b. not (nat_eq b 32)) line) line)
 skipped_text [] u = u
 skipped_text (b ∷ rest) u =
@@ -25,19 +25,19 @@ skipped_text (b ∷ rest) u =
     ] refl
 
 -- a text may be cut before its first space
-space_cuts : (line : List ℕ) → IsCharBoundary line (before 32 line)
+space_cuts : (line : List ℕ) → IsCharBoundary line (length_before 32 line)
 space_cuts line =
-    let le : before 32 line ≤ length line = prefix_len-le-length (λ b. not (nat_eq b 32)) line in
-    elim (nat_eq (before 32 line) (length line)) as (λ t. nat_eq (before 32 line) (length line) ≡ t → IsCharBoundary line (before 32 line)) [
-      | true ↦ λ e. let whole : length line ≡ before 32 line = grind (arith, nat_tests) in subst (IsCharBoundary line) whole (IsCharBoundary-end line)
+    let le : length_before 32 line ≤ length line = prefix_len-le-length (λ b. not (nat_eq b 32)) line in
+    elim (nat_eq (length_before 32 line) (length line)) as (λ t. nat_eq (length_before 32 line) (length line) ≡ t → IsCharBoundary line (length_before 32 line)) [
+      | true ↦ λ e. let whole : length line ≡ length_before 32 line = grind (arith, nat_tests) in subst (IsCharBoundary line) whole (IsCharBoundary-end line)
       | false ↦ λ e.
-          let inside : before 32 line < length line = grind (arith, nat_tests) in
-          let space : nat_eq (get_or line (before 32 line) 0) 32 ≡ true = passes_at_first (λ b. nat_eq b 32) line 0 inside in
-          IsCharBoundary-before_ascii line (before 32 line) inside (grind (arith, nat_tests))
+          let inside : length_before 32 line < length line = grind (arith, nat_tests) in
+          let space : nat_eq (get_or line (length_before 32 line) 0) 32 ≡ true = passes_at_first (λ b. nat_eq b 32) line 0 inside in
+          IsCharBoundary-before_ascii line (length_before 32 line) inside (grind (arith, nat_tests))
     ] refl
 
--- the first word of a text, and the text behind it
-pub word_text : (line : List ℕ) (s e : ℕ) (word rest : List ℕ) → s ≡ position_or_len (λ b. not (nat_eq b 32)) line → e ≡ before 32 (take (length line - s) (drop s line)) → word ≡ take e (take (length line - s) (drop s line)) → rest ≡ drop e (take (length line - s) (drop s line)) → IsUtf8 line → IsUtf8 word × IsUtf8 rest
+-- the first word of a text, and the text after it
+pub word_text : (line : List ℕ) (s e : ℕ) (word rest : List ℕ) → s ≡ position_or_len (λ b. not (nat_eq b 32)) line → e ≡ length_before 32 (take (length line - s) (drop s line)) → word ≡ take e (take (length line - s) (drop s line)) → rest ≡ drop e (take (length line - s) (drop s line)) → IsUtf8 line → IsUtf8 word × IsUtf8 rest
 word_text line s e word rest at end is_word is_rest u =
     let from = take (length line - s) (drop s line) in
     let text : IsUtf8 from = subst IsUtf8 (sym (take_rest line s)) (subst (λ n. IsUtf8 (drop n line)) (sym at) (skipped_text line u)) in

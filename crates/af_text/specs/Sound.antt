@@ -1,4 +1,4 @@
--- The words that say how a device sounds.
+-- Words for the sound of a device.
 use Rattle.std.specs.Prelude.{ℕ, List, [], ◌∷◌, codes, bytes_eq, Option, Some, None, option_and_then, if◌then◌else◌}
 use Rattle.af_sample.specs.Rates.{is_listed_rate}
 use Rattle.af_sample.specs.declared.sample_type.SampleType.{SampleType}
@@ -18,12 +18,12 @@ type_of word =
 abbrev pub rate_of : List ℕ → Option ℕ
 rate_of word = option_and_then (only_if is_listed_rate) (number_of word)
 
--- how many channels a device has by the words behind `device TYPE RATE START`: two if `stereo` is the first, and else one
+-- how many channels a device has by the words after `device TYPE RATE START`: two if `stereo` is the first, and else one
 abbrev pub channels_stated : List (List ℕ) → ℕ
 channels_stated [] = 1
 channels_stated (word ∷ words) = if bytes_eq word (codes "stereo") then 2 else 1
 
--- the words behind `stereo`, if that is the first of these, and else all of them
+-- the words after `stereo`, if that is the first of these, and else all of them
 abbrev pub behind_channels : List (List ℕ) → List (List ℕ)
 behind_channels [] = []
 behind_channels (word ∷ words) = if bytes_eq word (codes "stereo") then words else word ∷ words

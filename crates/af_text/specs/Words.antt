@@ -3,7 +3,7 @@ use Rattle.std.specs.Prelude.{ℕ, nat_le, ◌&&◌, Bool, List, length, Option,
 use Rattle.std.specs.Str.{all_ascii_digits}
 use Rattle.std.specs.Str.Parse.{digits_value}
 
--- a value, if it is there
+-- a value, if the flag is set
 abbrev pub then_some : {A : Type 0} → Bool → A → Option A
 then_some is_there x = if is_there then Some x else None
 
@@ -11,12 +11,12 @@ then_some is_there x = if is_there then Some x else None
 abbrev pub only_if : {A : Type 0} → (A → Bool) → A → Option A
 only_if test x = then_some (test x) x
 
--- the number of a word of decimal digits, of which there are 1 to so many
+-- the number that a word of decimal digits states, if it has 1 to so many digits
 abbrev pub number_up_to : ℕ → List ℕ → Option ℕ
 number_up_to most word =
     if nat_le 1 (length word) && nat_le (length word) most && all_ascii_digits word then Some (digits_value 10 word) else None
 
--- a number, where it lies between these two
+-- a number, if it lies between these two
 abbrev pub lying_between : ℕ → ℕ → Option ℕ → Option ℕ
 lying_between low high number = option_and_then (only_if (λ n. nat_le low n && nat_le n high)) number
 
@@ -24,7 +24,7 @@ lying_between low high number = option_and_then (only_if (λ n. nat_le low n && 
 abbrev pub number_of : List ℕ → Option ℕ
 number_of word = number_up_to 10 word
 
--- the number of a word, where it lies between these two
+-- the number of a word, if it lies between these two
 abbrev pub number_within : ℕ → ℕ → List ℕ → Option ℕ
 number_within low high word = lying_between low high (number_of word)
 
@@ -32,6 +32,6 @@ number_within low high word = lying_between low high (number_of word)
 abbrev pub long_number_of : List ℕ → Option ℕ
 long_number_of word = number_up_to 20 word
 
--- the number of such a word, where it lies between these two
+-- the number of such a word, if it lies between these two
 abbrev pub long_number_within : ℕ → ℕ → List ℕ → Option ℕ
 long_number_within low high word = lying_between low high (long_number_of word)

@@ -37,7 +37,7 @@ pub fn next_line(text: &[u8]) -> (&[u8], &[u8])
     }
 }
 
-/// The first word of a line, and the line after it. Of a text both are texts.
+/// The first word of a line, and the line after it. If the line is text, so are both.
 pub fn next_word(line: &[u8]) -> Option<(&[u8], &[u8])>
     ensures split { MatchOption result (words line.now ≡ []) (λ found. words line.now ≡ found.0.now ∷ words found.1.now) }
     ensures text { IsUtf8 line.now → IfSome result (λ found. IsUtf8 found.0.now × IsUtf8 found.1.now) }
@@ -51,7 +51,7 @@ pub fn next_word(line: &[u8]) -> Option<(&[u8], &[u8])>
     Some((word, rest))
 }
 
-/// The word of a line that has just this one. Of a text it is a text.
+/// The word of a line that has just this one. If the line is text, so is the word.
 pub fn one_word(line: &[u8]) -> Option<&[u8]>
     ensures split { MatchOption result ((w : List ℕ) → words line.now ≢ w ∷ []) (λ w. words line.now ≡ w.now ∷ []) }
     ensures text { IsUtf8 line.now → IfSome result (λ w. IsUtf8 w.now) }
@@ -64,7 +64,7 @@ pub fn one_word(line: &[u8]) -> Option<&[u8]>
     }
 }
 
-/// The words of a line that has just two. Of a text both are texts.
+/// The words of a line that has just two. If the line is text, so are both.
 pub fn two_words(line: &[u8]) -> Option<(&[u8], &[u8])>
     ensures split { MatchOption result ((v w : List ℕ) → words line.now ≢ v ∷ w ∷ [])
         (λ p. words line.now ≡ p.0.now ∷ p.1.now ∷ []) }
@@ -75,7 +75,7 @@ pub fn two_words(line: &[u8]) -> Option<(&[u8], &[u8])>
     Some((first, second))
 }
 
-/// Whether a line is passed over: it is a comment, or has no words.
+/// Whether a line is skipped: it is a comment, or has no words.
 pub fn passes_over(line: &[u8]) -> bool
     ensures { result ≡ is_passed_over line.now }
 {

@@ -2,7 +2,7 @@
 ghost use Rattle.std.specs.Prelude.{◌≡◌, ◌≤◌, ◌<◌, ◌^◌, IfSome};
 ghost use Rattle.af_text.specs.Words.{number_of, number_up_to, number_within, long_number_of, long_number_within};
 
-// The number of a word of 1 to n decimal digits.
+// The number that a word of 1 to n decimal digits is.
 fn number_up_to(most: usize, word: &[u8]) -> Option<u128>
     requires { most ≤ 20 }
     ensures value { result ≡ number_up_to most word.now }
@@ -29,7 +29,7 @@ pub fn number(word: &[u8]) -> Option<u64>
     Some(value as u64)
 }
 
-/// The number of a word of 1 to 10 decimal digits, where it lies between these two.
+/// The number of a word of 1 to 10 decimal digits, if it lies between these two.
 pub fn number_between(low: u32, high: u32, word: &[u8]) -> Option<u32>
     ensures { result ≡ number_within low high word.now }
 {
@@ -41,7 +41,7 @@ pub fn number_between(low: u32, high: u32, word: &[u8]) -> Option<u32>
     }
 }
 
-/// The number of a word of 1 to 20 decimal digits, where it lies between these two.
+/// The number of a word of 1 to 20 decimal digits, if it lies between these two.
 pub fn long_number_between(low: u64, high: u64, word: &[u8]) -> Option<u64>
     ensures value { result ≡ long_number_within low high word.now }
     ensures range { IfSome result (λ n. (low ≤ n) × (n ≤ high)) }

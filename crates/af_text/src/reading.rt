@@ -1,4 +1,4 @@
-// A text is read line by line.
+// Reading a text line by line.
 ghost use Rattle.std.specs.Prelude.{◌≡◌, ◌≤◌, ◌⊎◌, ℕ, length, false, IfOk, IfErr};
 ghost use Rattle.af_limits.specs.Limits.{longest_script};
 ghost use Rattle.af_text.specs.Lines.{lines};

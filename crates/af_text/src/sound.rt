@@ -1,4 +1,4 @@
-// Words that say how a device sounds: its sample type, its rate, and its channels.
+// Words for the sound of a device: its sample type, its rate, and its channels.
 ghost use Rattle.std.specs.Prelude.{◌≡◌, IfSome};
 ghost use Rattle.std.specs.Str.{IsUtf8};
 ghost use Rattle.af_sample.specs.Channels.{IsChannelCount};

@@ -1,4 +1,4 @@
--- The whole time that a word means, and the arithmetic behind it.
+-- The whole time that a word means, and its arithmetic.
 use Rattle.std.proofs.Common.{◌≡◌, ℕ, ◌+◌, ◌-◌, ◌^◌, ◌<◌, ◌≤◌, inl, inr, true, false, cond, nat_lt, ap, arith, rules}
 use Rattle.std.proofs.lemmas.Bool.{cases_lt}
 use Rattle.af_time.specs.DeviceTime.{ahead, unwrap, IsMeant}

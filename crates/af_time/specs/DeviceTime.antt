@@ -1,7 +1,7 @@
 -- Device time as a whole number, and as the 32-bit word that requests and replies carry.
 --
--- A device's time is a natural number that begins at the device's stated start plus 2^32, so that a
--- start before it is a natural number too. Only times modulo 2^32, and differences, are ever seen.
+-- A device's time is a natural number that begins at the device's stated start plus 2^32, so that times before the start are
+-- natural numbers too. Only times modulo 2^32, and differences, are ever seen.
 use Rattle.std.specs.Prelude.{◌≡◌, ℕ, ◌+◌, ◌-◌, ◌*◌, ◌/◌, ◌%◌, ◌^◌, ◌<◌, ◌≤◌, ℤ, if◌then◌else◌, nat_lt}
 use Rattle.std.specs.Int.{w32, cast_signed}
 
@@ -9,7 +9,7 @@ use Rattle.std.specs.Int.{w32, cast_signed}
 abbrev pub ahead : ℕ → ℕ → ℕ
 ahead now w = (w + (2 ^ 32 - now % 2 ^ 32)) % 2 ^ 32
 
--- the whole time that a word means at a time: the nearest with that word, 2^31 ahead counting as late
+-- the whole time that a word means at a time: the nearest one with that word; one that is 2^31 ahead counts as late
 unfoldable pub unwrap : ℕ → ℕ → ℕ
 unwrap now w =
     if nat_lt (ahead now w) (2 ^ 31) then now + ahead now w else now - (2 ^ 32 - ahead now w)

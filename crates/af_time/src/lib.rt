@@ -36,8 +36,7 @@ impl DevTime {
         DevTime(self.0.wrapping_add(n))
     }
 
-    /// This time minus the other, as a 32-bit two's complement number: their true difference where
-    /// that lies in -2^31..2^31 - 1.
+    /// This time minus the other, as a 32-bit two's complement number: their true difference if that lies in -2^31..2^31 - 1.
     pub fn diff(self, other: DevTime) -> i32
         ensures words { result ≡ word_difference self.0 other.0 }
         ensures whole { (a b : ℕ) → AreNear a b self.0 other.0 → result ≡ pos a -ℤ pos b }

@@ -1,23 +1,26 @@
 -- A tool on a device that is there, or not.
-use Rattle.std.proofs.Common.{◌≡◌, ℕ, ◌<◌, ◌≤◌, ◌↔◌, true, false, List, [], length, slice_get, sym, ap, ◌∙◌, subst, refl, arith, inl, inr}
+use Rattle.std.proofs.Common.{◌≡◌, ℕ, ◌<◌, ◌≤◌, ◌↔◌, List, [], length, slice_get, sym, ap, ◌∙◌, subst, refl, arith, inl, inr}
 use Rattle.std.specs.Prelude.{Result, Ok, Err}
 use Rattle.std.proofs.lemmas.Option.{slice_get_cases}
 use Rattle.std.specs.declared.option.Option.{Option}
 use Rattle.std.specs.declared.option.Option.TheVariants.{None, Some}
 use Rattle.af_request.specs.declared.reply.DeviceInfo.{DeviceInfo}
 use Rattle.af_request.specs.Replies.{IsDeviceInfo}
-use Rattle.af_tool.specs.declared.end.ToolEnd.{ToolEnd}
-use Rattle.af_tool.specs.declared.end.ToolEnd.TheVariants as end
+use Rattle.af_toolkit.specs.declared.end.ToolEnd.{ToolEnd}
+use Rattle.af_toolkit.specs.declared.end.ToolEnd.TheVariants as end
 use Rattle.af_cli.specs.declared.job.PlayJob.{PlayJob}
-use Rattle.af_tool.specs.Trace.{Trace, ClientState, done, ends, no_device, on_device, writing}
-use Rattle.af_tool.specs.Device.{device_or_end}
-use Rattle.af_tools.specs.Play.{aplay_trace, played, played_on}
-use Rattle.af_tool.specs.Ends.{ObservedTrace, is_of_link, is_of_report}
+use Rattle.af_toolkit.specs.Trace.{Trace, ClientState, done, ends, no_device, on_device, writes_first}
+use Rattle.af_toolkit.specs.Device.{device_or_end}
+use Rattle.af_toolkit.specs.Talk.{creates}
+use Rattle.af_toolkit.specs.declared.talk.ToolContext.{ToolContext}
+use Rattle.af_lib.specs.Calls.{device_channels}
+use Rattle.af_request.specs.Asked.{Asked}
+use Rattle.af_tools.specs.declared.sound.SourceSound.{SourceSound}
+use Rattle.af_tools.specs.Play.{aplay_trace, played_text, plays_on}
+use Rattle.af_toolkit.specs.Ends.{ObservedTrace}
 use Rattle.af_tools.specs.Sounds.{reads_sound}
-use Rattle.af_tools.specs.SoundReads.{is_of_sound}
-use Rattle.af_tools.specs.Outcomes.{is_of_blocks, is_of_records}
 use Rattle.af_io.proofs.AppendedLemmas.{appended_none}
-use Rattle.af_tool.proofs.TracePartLemmas.{ended_at_once}
+use Rattle.af_toolkit.proofs.TracePartLemmas.{ended_at_once}
 
 -- the device with a number
 pub record IsThere (devices : List DeviceInfo) (number : ℕ) (device : DeviceInfo) : Type 0 where
@@ -66,20 +69,24 @@ stated_at devices number device there stated d get =
 pub missing_at : (devices : List DeviceInfo) (number : ℕ) → slice_get devices number ≡ None → (d : DeviceInfo) → slice_get devices number ≡ Some d → IsDeviceInfo d
 missing_at devices number none d get = absurd (some_none d (sym get ∙ none))
 
+-- a sound is played on a device, and then that is written
+abbrev pub reported : PlayJob → DeviceInfo → ClientState → SourceSound → List ℕ → Trace
+reported job device w sound bytes = plays_on job sound device bytes w (λ frames start _. writes_first (played_text frames start) (ends done))
+
 module _ (devices : List DeviceInfo) (w : ClientState) where
   pub aplay_there : (job : PlayJob) (bytes : List ℕ) (device : DeviceInfo) → slice_get devices job.device ≡ Some device →
-      aplay_trace job devices bytes w ≡ reads_sound job.form job device bytes (λ sound rest. played_on job sound device rest w (λ frames start _. writing (played frames start) (ends done)))
+      aplay_trace job devices bytes w ≡ reads_sound job.form job device bytes (reported job device w)
   unfolding aplay_trace
-  aplay_there job bytes device get = ap (λ (o : Option DeviceInfo). on_device o (length devices) (λ device. reads_sound job.form job device bytes (λ sound rest. played_on job sound device rest w (λ frames start _. writing (played frames start) (ends done))))) get
+  aplay_there job bytes device get = ap (λ (o : Option DeviceInfo). on_device o (length devices) (λ device. reads_sound job.form job device bytes (reported job device w))) get
 
   pub aplay_missing : (job : PlayJob) (bytes : List ℕ) → slice_get devices job.device ≡ None → aplay_trace job devices bytes w ≡ ends (no_device (length devices))
   unfolding aplay_trace
-  aplay_missing job bytes get = ap (λ (o : Option DeviceInfo). on_device o (length devices) (λ device. reads_sound job.form job device bytes (λ sound rest. played_on job sound device rest w (λ frames start _. writing (played frames start) (ends done))))) get
+  aplay_missing job bytes get = ap (λ (o : Option DeviceInfo). on_device o (length devices) (λ device. reads_sound job.form job device bytes (reported job device w))) get
 
 pub followed_same : (c d : Trace) (how : ToolEnd) (s s' h h' : Option (List ℕ)) → d ≡ c → ObservedTrace c how s s' h h' → ObservedTrace d how s s' h h'
 followed_same c d how s s' h h' is f = subst (λ (x : Trace). ObservedTrace x how s s' h h') (sym is) f
 
--- a tool whose device is not there sends and writes nothing
+-- a tool whose device does not exist sends and writes nothing
 pub followed_missing : (trace : Trace) (n : ℕ) (how : ToolEnd) (s h : Option (List ℕ)) → trace ≡ ends (no_device n) → how ≡ end.NoDevice n → ObservedTrace trace how s s h h
 followed_missing trace n how s h is way = followed_same (ends (no_device n)) trace how s s h h is (record {
   sends = [];
@@ -92,24 +99,13 @@ followed_missing trace n how s h is way = followed_same (ends (no_device n)) tra
 number_of : (a b : ℕ) → end.NoDevice a ≡ end.NoDevice b → a ≡ b
 number_of a b e = cc
 
--- which ends tell that a device is not there
+-- which ends say that a device does not exist
 pub missing_iff : (devices : List DeviceInfo) (number : ℕ) (how : ToolEnd) → IsMissing devices number how → (n : ℕ) → (how ≡ end.NoDevice n) ↔ ((n ≡ length devices) × (length devices ≤ number))
 missing_iff devices number how m n = (λ e. (number_of n (length devices) (sym e ∙ m.way), m.beyond), λ e. m.way ∙ ap (λ (k : ℕ). end.NoDevice k) (sym e.0))
 
 pub there_iff : (devices : List DeviceInfo) (number : ℕ) (device : DeviceInfo) (how : ToolEnd) → IsThere devices number device → ((n : ℕ) → how ≡ end.NoDevice n → ⊥) → (n : ℕ) → (how ≡ end.NoDevice n) ↔ ((n ≡ length devices) × (length devices ≤ number))
 there_iff devices number device how t never n = (λ e. absurd (never n e), λ e. let within = t.within in absurd (let beyond = e.1 in omega arith))
 
-pub never_report : (how : ToolEnd) → is_of_report how ≡ true → (n : ℕ) → how ≡ end.NoDevice n → ⊥
-never_report how is n e = let bad : false ≡ true = ap is_of_report (sym e) ∙ is in cc
-
-pub never_blocks : (how : ToolEnd) → is_of_blocks how ≡ true → (n : ℕ) → how ≡ end.NoDevice n → ⊥
-never_blocks how is n e = let bad : false ≡ true = ap is_of_blocks (sym e) ∙ is in cc
-
-pub never_sound : (how : ToolEnd) → is_of_sound how ≡ true → (n : ℕ) → how ≡ end.NoDevice n → ⊥
-never_sound how is n e = let bad : false ≡ true = ap is_of_sound (sym e) ∙ is in cc
-
-pub never_records : (how : ToolEnd) → is_of_records how ≡ true → (n : ℕ) → how ≡ end.NoDevice n → ⊥
-never_records how is n e = let bad : false ≡ true = ap is_of_records (sym e) ∙ is in cc
-
-pub never_link : (how : ToolEnd) → is_of_link how ≡ true → (n : ℕ) → how ≡ end.NoDevice n → ⊥
-never_link how is n e = let bad : false ≡ true = ap is_of_link (sym e) ∙ is in cc
+-- the context of a tool, by other names of its device and of its channels
+pub context_asked : (devices : List DeviceInfo) (context : ToolContext) {number channels : ℕ} {asked : Asked} → context.device ≡ number → device_channels devices number ≡ channels → creates channels context ≡ asked → creates (device_channels devices context.device) context ≡ asked
+context_asked devices context same_device same_channels same = ap (λ (n : ℕ). creates n context) (ap (device_channels devices) same_device ∙ same_channels) ∙ same

@@ -1,4 +1,4 @@
--- A recording that is written as a sound file, beside the same that is written as it is.
+-- A recording that is written as a sound file, beside the same recording written raw.
 use Rattle.std.proofs.Common.{◌≡◌, ℕ, ◌+◌, ◌*◌, ◌%◌, ◌^◌, ◌==◌, Bool, true, false, List, [], ◌∷◌, ◌++◌, length, length-append, slice_get, append_assoc, append-nil, sym, ap, ap₂, ◌∙◌, subst, refl, arith, if◌then◌else◌}
 use Rattle.std.specs.Prelude.{Result, Ok, Err, option_and_then, option_map, unwrap_or}
 use Rattle.std.proofs.Math.Nat.{add-mul}
@@ -16,59 +16,46 @@ use Rattle.af_sound.proofs.SwappedLemmas.{swapped_append}
 use Rattle.af_wire.specs.declared.order.Order.{Order}
 use Rattle.af_request.specs.declared.reply.DeviceInfo.{DeviceInfo}
 use Rattle.af_request.specs.Asked.{Asked, free_ac, get_time, record_run}
-use Rattle.af_request.specs.Answer.{Answer, controls, phone, plain, played, recorded, setup, time}
+use Rattle.af_request.specs.Answer.{Answer, recorded}
 use Rattle.af_wire.specs.declared.order.Order.{Order}
 use Rattle.af_request.specs.Requests.{request_bytes}
 use Rattle.af_lib.specs.declared.fault.ConnFault.{ConnFault}
 use Rattle.af_lib.specs.Answers.{and_then, answer_to, value_or_bad}
-use Rattle.af_lib.specs.Calls.{answered, as_done, as_recorded, as_time, following, opcode_of, value_in, Recorded}
+use Rattle.af_lib.specs.Calls.{answer_of, as_done, as_recorded, as_time, next_sequence, opcode_of, value_in, Recorded}
 use Rattle.af_cli.specs.Sizes.{block_frames}
 use Rattle.af_cli.specs.declared.job.RecordJob.{RecordJob}
-use Rattle.af_tool.specs.declared.end.ToolEnd.{ToolEnd}
-use Rattle.af_tool.specs.declared.end.ToolEnd.TheVariants as end
-use Rattle.af_tool.specs.Trace.{Trace, ClientState, after_reply, answer_on, answered_by, asks, done, ends, next_message, on_device, writing}
-use Rattle.af_tool.specs.Ends.{ObservedTrace, is_outer}
-use Rattle.af_tool.proofs.ToolEndLemmas.{finish_done}
+use Rattle.af_toolkit.specs.declared.end.ToolEnd.{ToolEnd}
+use Rattle.af_toolkit.specs.declared.end.ToolEnd.TheVariants as end
+use Rattle.af_toolkit.specs.Trace.{Trace, ClientState, after_reply, answer_on, after_answer, asks, done, ends, next_message, on_device, writes_first}
+use Rattle.af_toolkit.specs.Ends.{ObservedTrace}
+use Rattle.af_tools.proofs.EndLemmas.{is_whole}
 use Rattle.af_tools.specs.declared.record.RecordedSound.{RecordedSound}
 use Rattle.af_tools.specs.Files.{as_filed, as_raw, coding_in, front_of_recording, pad_behind, recorded_sound, recorded_type, IsFiledAs}
-use Rattle.af_tools.specs.Record.{arecord_trace, block_lengths, ends_row, peak, record_context, recorded_frame, recorded_on, records, records_all, writes_recording}
+use Rattle.af_tools.specs.Record.{arecord_trace, block_lengths, ends_row, peak, record_context, recorded_frame, records_on, records, records_all, writes_recording}
 use Rattle.af_tools.specs.Recorded.{IsRecorded}
 use Rattle.af_tools.specs.Sounds.{AreWhole}
 use Rattle.af_tools.proofs.RecordBlockLemmas.{whole_frames}
 
--- A trace that writes a file, beside one that writes its samples as they are, where n bytes of these were written before: they send the
--- same and end alike, and if they are done, the one has written this front and what the other wrote as a file.
+-- A trace that writes a file, beside one that writes its samples raw, when n bytes of these were written before. They send the
+-- same and end alike. If they are done, the one has written this front, and as a file what the other wrote.
 pub record IsFileOf (front : List ℕ) (form : Option SoundForm) (coding : Option Coding) (before : ℕ) (c raw : Trace) : Type 0 where
   pub sends : c.sends ≡ raw.sends
   pub finish : c.finish ≡ raw.finish
   pub output : raw.finish ≡ done → c.output ≡ front ++ (as_filed coding raw.output ++ pad_behind form (before + length raw.output))
 
 filed_none : (coding : Option Coding) → as_filed coding [] ≡ []
-filed_none None = refl
-filed_none (Some coding.Mu255) = refl
-filed_none (Some coding.Alaw) = refl
-filed_none (Some coding.Lin16Big) = refl
 filed_none (Some coding.Lin16Little) = refl
-filed_none (Some coding.U8) = refl
+filed_none c = refl
 
 filed_append : (coding : Option Coding) (a b : List ℕ) → AreWhole coding (length a) → as_filed coding (a ++ b) ≡ as_filed coding a ++ as_filed coding b
-filed_append None a b whole = refl
-filed_append (Some coding.Mu255) a b whole = refl
-filed_append (Some coding.Alaw) a b whole = refl
-filed_append (Some coding.Lin16Big) a b whole = refl
 filed_append (Some coding.Lin16Little) a b whole = swapped_append a b whole
-filed_append (Some coding.U8) a b whole = refl
+filed_append c a b whole = refl
 
--- samples that a file has are written in a coding that a server takes as their type
+-- samples that a file can have are written in a coding that a server takes as their type
 filed_in : (form : SoundForm) (t : SampleType) → IsFiledAs (Some (coding_in form (recorded_type (Some form) t))) (recorded_type (Some form) t)
 filed_in Au ty.Mu255 = (refl, λ e. cc e)
-filed_in Au ty.Alaw = (refl, λ e. cc e)
-filed_in Au ty.Lin16 = (refl, λ e. cc e)
-filed_in Au ty.Lin32 = (refl, λ e. cc e)
 filed_in Wave ty.Mu255 = (refl, λ e. cc e)
-filed_in Wave ty.Alaw = (refl, λ e. cc e)
-filed_in Wave ty.Lin16 = (refl, λ e. cc e)
-filed_in Wave ty.Lin32 = (refl, λ e. cc e)
+filed_in form t = (refl, λ e. cc e)
 
 filed_as : (form : Option SoundForm) (t : SampleType) → IsFiledAs (option_map (λ f. coding_in f (recorded_type form t)) form) (recorded_type form t)
 filed_as None t = tt
@@ -83,24 +70,18 @@ stated_size size bytes (Some (recorded now samples)) r is = by (length samples =
       let long : length samples ≡ size = grind (arith, nat_tests) in
       ap length (sym all) ∙ long
   by false same is = absurd cc
-stated_size size bytes (Some (setup ds)) r is = absurd cc
-stated_size size bytes (Some plain) r is = absurd cc
-stated_size size bytes (Some (time now)) r is = absurd cc
-stated_size size bytes (Some (played now)) r is = absurd cc
-stated_size size bytes (Some (controls c)) r is = absurd cc
-stated_size size bytes (Some (phone p)) r is = absurd cc
-stated_size size bytes None r is = absurd cc
+stated_size size bytes answer r is = absurd cc
 
 found_size : (order : Order) (size opcode : ℕ) (found : Result (List ℕ) ConnFault) (r : Recorded) → and_then (value_in order (as_recorded true size) opcode) found ≡ Ok r → length r.samples ≡ size
 found_size order size opcode (Ok bytes) r is = stated_size size bytes _ r is
 found_size order size opcode (Err fault) r is = absurd cc
 
-answered_size : (order : Order) (size opcode sequence : ℕ) (found : Result (List ℕ) ConnFault) (r : Recorded) → answered order (as_recorded true size) opcode sequence found ≡ Ok r → length r.samples ≡ size
+answered_size : (order : Order) (size opcode sequence : ℕ) (found : Result (List ℕ) ConnFault) (r : Recorded) → answer_of order (as_recorded true size) opcode sequence found ≡ Ok r → length r.samples ≡ size
 answered_size order size opcode sequence found r is = found_size order size opcode (and_then (answer_to order opcode sequence) found) r is
 
 module _ (front : List ℕ) (form : Option SoundForm) (coding : Option Coding) (before : ℕ) where
   answered_file : {X : Type 0} (r : Result X ConnFault) (w : ClientState) (next next' : X → ClientState → Trace) → ((x : X) (v : ClientState) → r ≡ Ok x → IsFileOf front form coding before (next x v) (next' x v)) →
-      IsFileOf front form coding before (answered_by r w next) (answered_by r w next')
+      IsFileOf front form coding before (after_answer r w next) (after_answer r w next')
   answered_file (Ok x) w next next' more = more x w refl
   answered_file (Err f) w next next' more = record { sends = refl; finish = refl; output = λ way. absurd cc }
 
@@ -116,18 +97,18 @@ module _ (front : List ℕ) (form : Option SoundForm) (coding : Option Coding) (
   if_file true c d c' d' f g = f
   if_file false c d c' d' f g = g
 
-  -- the device is there
+  -- the device exists
   chosen_file : (o : Option DeviceInfo) (device : DeviceInfo) (n : ℕ) (next next' : DeviceInfo → Trace) → o ≡ Some device → IsFileOf front form coding before (next device) (next' device) →
       IsFileOf front form coding before (on_device o n next) (on_device o n next')
   chosen_file o device n next next' there f = rw there f
 
 -- the front of a file is written
-front_file : (front : List ℕ) (form : Option SoundForm) (coding : Option Coding) (c raw : Trace) → IsFileOf [] form coding 0 c raw → IsFileOf front form coding 0 (writing front c) raw
+front_file : (front : List ℕ) (form : Option SoundForm) (coding : Option Coding) (c raw : Trace) → IsFileOf [] form coding 0 c raw → IsFileOf front form coding 0 (writes_first front c) raw
 front_file front form coding c raw f = record { sends = f.sends; finish = f.finish; output = λ way. ap (λ (l : List ℕ). front ++ l) (f.output way) }
 
 module _ (form : Option SoundForm) (coding : Option Coding) (before : ℕ) where
   -- a block is written by both
-  block_file : (samples : List ℕ) (c raw : Trace) → AreWhole coding (length samples) → IsFileOf [] form coding (before + length samples) c raw → IsFileOf [] form coding before (writing (as_filed coding samples) c) (writing samples raw)
+  block_file : (samples : List ℕ) (c raw : Trace) → AreWhole coding (length samples) → IsFileOf [] form coding (before + length samples) c raw → IsFileOf [] form coding before (writes_first (as_filed coding samples) c) (writes_first samples raw)
   block_file samples c raw whole f = record {
     sends = f.sends;
     finish = f.finish;
@@ -139,16 +120,16 @@ module _ (form : Option SoundForm) (coding : Option Coding) (before : ℕ) where
         ∙ ap₂ (λ (l : List ℕ) (n : ℕ). l ++ pad_behind form n) (sym (filed_append coding samples raw.output whole)) size;
   }
 
-  -- both free the context, and write nothing more but for the byte that makes the one even
-  freed_none : (r : Result (Unit {0}) ConnFault) (w : ClientState) → (answered_by r w (λ _ _. ends done)).output ≡ []
+  -- both free the context, and write nothing more except the byte that makes the one even
+  freed_none : (r : Result (Unit {0}) ConnFault) (w : ClientState) → (after_answer r w (λ _ _. ends done)).output ≡ []
   freed_none (Ok x) w = refl
   freed_none (Err f) w = refl
 
-  end_file : (w : ClientState) → IsFileOf [] form coding before (writing (pad_behind form before) (asks (free_ac 1) as_done w (λ _ _. ends done))) (asks (free_ac 1) as_done w (λ _ _. ends done))
+  end_file : (w : ClientState) → IsFileOf [] form coding before (writes_first (pad_behind form before) (asks (free_ac 1) as_done w (λ _ _. ends done))) (asks (free_ac 1) as_done w (λ _ _. ends done))
   unfolding asks
   end_file w =
       let none = freed_none (answer_on (free_ac 1) as_done w) (after_reply w) in
-      let rest : List ℕ = (answered_by (answer_on (free_ac 1) as_done w) (after_reply w) (λ _ _. ends done)).output in
+      let rest : List ℕ = (after_answer (answer_on (free_ac 1) as_done w) (after_reply w) (λ _ _. ends done)).output in
       let size : before ≡ before + length rest = rw none (let e : before ≡ before + 0 = omega arith in e) in
       record {
         sends = refl;
@@ -158,7 +139,7 @@ module _ (form : Option SoundForm) (coding : Option Coding) (before : ℕ) where
             ∙ ap (λ (l : List ℕ). l ++ pad_behind form (before + length rest)) (sym (ap (as_filed coding) none ∙ filed_none coding));
       }
 
--- the same sound, written as it is
+-- the same sound, written raw
 abbrev plain_sound : RecordedSound → RecordedSound
 plain_sound sound = record { ty = sound.ty; coding = None; channels = sound.channels }
 
@@ -170,7 +151,7 @@ records_file job device sound at before peaks [] w next next' filed more = more 
 records_file job device sound at before peaks (n ∷ lengths) w next next' filed more =
     let frame = recorded_frame sound in
     asked_file [] job.form sound.coding (before * frame) (record_run true 1 at (n * frame)) (as_recorded true (n * frame)) w _ _ (λ r v is.
-    let size : length r.samples ≡ n * frame = answered_size w.order (n * frame) (opcode_of (record_run true 1 at (n * frame))) (following w.sequence) (next_message w).found r is in
+    let size : length r.samples ≡ n * frame = answered_size w.order (n * frame) (opcode_of (record_run true 1 at (n * frame))) (next_sequence w.sequence) (next_message w).found r is in
     let sum : (before + n) * frame ≡ before * frame + length r.samples = add-mul before n frame ∙ ap (λ (m : ℕ). before * frame + m) (sym size) in
     block_file job.form sound.coding (before * frame) r.samples _ _ (whole_frames sound n (length r.samples) filed size)
     (subst (λ (m : ℕ). IsFileOf [] job.form sound.coding m
@@ -179,14 +160,14 @@ records_file job device sound at before peaks (n ∷ lengths) w next next' filed
     (if_file [] job.form sound.coding ((before + n) * frame) (ends_row job (peak sound.ty r.samples ∷ peaks)) _ _ _ _ (more (before + n) v)
     (records_file job device sound ((at + n) % 2 ^ 32) (before + n) (peak sound.ty r.samples ∷ peaks) lengths v next next' filed more))))
 
--- behind nothing
+-- after nothing
 at_zero : (form : Option SoundForm) (coding : Option Coding) (frame : ℕ) (c raw : Trace) → IsFileOf [] form coding (0 * frame) c raw → IsFileOf [] form coding 0 c raw
 at_zero form coding frame c raw f = subst (λ (m : ℕ). IsFileOf [] form coding m c raw) (let none : 0 * frame ≡ 0 = omega arith in none) f
 
--- what follows the front, and the same written as it is
+-- what follows the front, and the same written raw
 abbrev file_body : RecordJob → DeviceInfo → (start : ℕ) → ClientState → Trace
 file_body job device start w = records_all job (recorded_sound job device) start w (λ frames w.
-    writing (pad_behind job.form (frames * recorded_frame (recorded_sound job device))) (asks (free_ac 1) as_done w (λ _ _. ends done)))
+    writes_first (pad_behind job.form (frames * recorded_frame (recorded_sound job device))) (asks (free_ac 1) as_done w (λ _ _. ends done)))
 
 abbrev raw_body : RecordJob → DeviceInfo → (start : ℕ) → ClientState → Trace
 raw_body job device start w = records_all (as_raw job device) (plain_sound (recorded_sound job device)) start w (λ frames w. asks (free_ac 1) as_done w (λ _ _. ends done))
@@ -197,12 +178,12 @@ body_file job device start w =
     let frame = recorded_frame sound in
     at_zero job.form sound.coding frame (file_body job device start w) (raw_body job device start w)
     (records_file job device sound start 0 [] (block_lengths (block_frames job.block frame) job.frames) w
-    (λ frames w. writing (pad_behind job.form (frames * frame)) (asks (free_ac 1) as_done w (λ _ _. ends done))) (λ frames w. asks (free_ac 1) as_done w (λ _ _. ends done))
+    (λ frames w. writes_first (pad_behind job.form (frames * frame)) (asks (free_ac 1) as_done w (λ _ _. ends done))) (λ frames w. asks (free_ac 1) as_done w (λ _ _. ends done))
     (filed_as job.form (unwrap_or job.ty device.ty)) (λ frames v. end_file job.form sound.coding (frames * frame) v))
 
 recorded_file : (job : RecordJob) (device : DeviceInfo) (w : ClientState) →
-    IsFileOf (front_of_recording job device) job.form (recorded_sound job device).coding 0 (recorded_on job device w (λ _. ends done)) (recorded_on (as_raw job device) device w (λ _. ends done))
-unfolding recorded_on writes_recording
+    IsFileOf (front_of_recording job device) job.form (recorded_sound job device).coding 0 (records_on job device w (λ _. ends done)) (records_on (as_raw job device) device w (λ _. ends done))
+unfolding records_on writes_recording
 recorded_file job device w =
     let front = front_of_recording job device in
     let sound = recorded_sound job device in
@@ -210,7 +191,7 @@ recorded_file job device w =
     asked_file front job.form sound.coding 0 (get_time job.device) as_time v _ _ (λ now v _.
     front_file front job.form sound.coding (file_body job device (unwrap_or job.time now.0) v) (raw_body job device (unwrap_or job.time now.0) v) (body_file job device (unwrap_or job.time now.0) v)))
 
--- arecord on a device that is there
+-- arecord on a device that exists
 pub arecord_file : (job : RecordJob) (devices : List DeviceInfo) (w : ClientState) (device : DeviceInfo) → slice_get devices job.device ≡ Some device →
     IsFileOf (front_of_recording job device) job.form (recorded_sound job device).coding 0 (arecord_trace job devices w) (arecord_trace (as_raw job device) devices w)
 unfolding arecord_trace
@@ -225,24 +206,18 @@ device_done : (job : RecordJob) (devices : List DeviceInfo) (w : ClientState) �
 unfolding arecord_trace
 device_done job devices w way = there_done (slice_get devices job.device) (length devices) _ way
 
--- what was done of all, where nothing is left
-all_done : (whole part rest : List ℕ) → whole ≡ part ++ rest → rest ≡ [] → part ≡ whole
-all_done whole part rest is none = sym (append-nil part) ∙ ap (λ (l : List ℕ). part ++ l) (sym none) ∙ sym is
-
 pub is_recorded : (job : RecordJob) (devices : List DeviceInfo) (w : ClientState) (how : ToolEnd) (s s' h h' : Option (List ℕ)) → ObservedTrace (arecord_trace job devices w) how s s' h h' → how ≡ end.Done → IsRecorded job devices w s s' h h'
 is_recorded job devices w how s s' h h' followed way =
-    let trace = arecord_trace job devices w in
-    let whole = followed.ended.whole (ap is_outer way) in
-    let finish = finish_done trace.finish (sym whole.0 ∙ way) in
-    let d = device_done job devices w finish in
+    let all = is_whole followed.ended way in
+    let d = device_done job devices w all.finish in
     let f = arecord_file job devices w d.0 d.1 in
     let samples : List ℕ = (arecord_trace (as_raw job d.0) devices w).output in
-    let all : 0 + length samples ≡ length samples = omega arith in
+    let size : 0 + length samples ≡ length samples = omega arith in
     record {
       device = d.0;
       is_there = d.1;
       samples = samples;
       are_raw = refl;
-      link = subst (λ (b : List ℕ). Appended s b s') (all_done trace.sends followed.sends followed.ended.unsent followed.ended.sent whole.1 ∙ f.sends) followed.link;
-      sink = subst (λ (b : List ℕ). Appended h b h') (all_done trace.output followed.output followed.ended.unwritten followed.ended.wrote whole.2 ∙ f.output (sym f.finish ∙ finish) ∙ ap (λ (n : ℕ). front_of_recording job d.0 ++ (as_filed (recorded_sound job d.0).coding samples ++ pad_behind job.form n)) all) followed.sink;
+      link = subst (λ (b : List ℕ). Appended s b s') (all.sent ∙ f.sends) followed.link;
+      sink = subst (λ (b : List ℕ). Appended h b h') (all.wrote ∙ f.output (sym f.finish ∙ all.finish) ∙ ap (λ (n : ℕ). front_of_recording job d.0 ++ (as_filed (recorded_sound job d.0).coding samples ++ pad_behind job.form n)) size) followed.sink;
     }

@@ -18,13 +18,13 @@ use Rattle.af_sound.specs.Fronts.{front_of, Front}
 use Rattle.af_sound.specs.Heads.{HasFault, IsHead}
 use Rattle.af_sound.specs.Reading.{HasTaken, IsOpen}
 use Rattle.af_sound.proofs.FrontLemmas.{front, front_beyond, front_fault, front_head, front_open}
-use Rattle.af_tool.specs.declared.end.ToolEnd.TheVariants as end
-use Rattle.af_tool.specs.Trace.{Trace, bad_sound, ends, sound_cut, too_long}
+use Rattle.af_toolkit.specs.declared.end.ToolEnd.TheVariants as end
+use Rattle.af_toolkit.specs.Trace.{Trace, bad_sound, ends, sound_cut, too_long}
 use Rattle.af_tools.specs.declared.sound.FileHead.{FileHead}
 use Rattle.af_tools.specs.Limits.{most_bytes}
-use Rattle.af_tools.specs.Fill.{ConsumedBeyondMost, ConsumedCut, ConsumedFault, ConsumedHead, ConsumedWithinMost}
+use Rattle.af_tools.specs.Fill.{ConsumedCut, ConsumedFault, ConsumedHead, ConsumedWithinMost}
 use Rattle.af_tools.specs.Sounds.{behind_front, reads_front}
-use Rattle.af_tools.specs.SoundReads.{HeadCame}
+use Rattle.af_tools.specs.Reading.{HeadCame, TakesFront}
 
 -- a reader has taken what a source gave
 pub record HasRead (form : SoundForm) (reader : HeadReader) (size : ℕ) (before after : Option (List ℕ)) : Type 0 where
@@ -46,25 +46,19 @@ one_byte (suc n) (b ∷ []) one some = ap (λ (l : List ℕ). b ∷ l) (nothing 
 one_byte zero (b ∷ []) one some = absurd (omega arith)
 one_byte n (a ∷ b ∷ into) one some = absurd (omega arith)
 
-pub byte_read : (n : ℕ) (into : List ℕ) (a b : Option (List ℕ)) → length into ≡ 1 → 1 ≤ n → Consumed a (take n into) b → Consumed a (slice_index into 0 ∷ []) b
-byte_read n into a b one some taken = subst (λ (l : List ℕ). Consumed a l b) (one_byte n into one some) taken
+-- a byte was read
+pub record IsByteRead (byte : ℕ) (before after : Option (List ℕ)) : Type 0 where
+  pub consumed : Consumed before (byte ∷ []) after
 
--- a byte more
-pub read_more : (form : SoundForm) (reader reader' : HeadReader) (size byte : ℕ) (a b c : Option (List ℕ)) (h : HasRead form reader size a b) → Consumed b (byte ∷ []) c →
-    HasTaken reader' form (h.bytes ++ (byte ∷ [])) → HasRead form reader' (size + 1) a c
-read_more form reader reader' size byte a b c h more taken = record {
-  bytes = h.bytes ++ (byte ∷ []);
-  consumed = consumed_on a b c h.bytes (byte ∷ []) h.consumed more;
-  all = (let all = h.all in omega (arith, length-append h.bytes (byte ∷ [])));
-  taken = taken;
-}
+pub byte_read : (n : ℕ) (into : List ℕ) (a b : Option (List ℕ)) → length into ≡ 1 → 1 ≤ n → Consumed a (take n into) b → IsByteRead (slice_index into 0) a b
+byte_read n into a b one some taken = record { consumed = subst (λ (l : List ℕ). Consumed a l b) (one_byte n into one some) taken }
 
-module _ (form : SoundForm) (reader : HeadReader) (size : ℕ) (a b : Option (List ℕ)) (h : HasRead form reader size a b) where
-  pub read_within : size ≤ most_bytes → ConsumedWithinMost a b
+module _ {form : SoundForm} {reader : HeadReader} {size : ℕ} {a b : Option (List ℕ)} (h : HasRead form reader size a b) where
+  read_within : size ≤ most_bytes → ConsumedWithinMost a b
   read_within few = record { bytes = h.bytes; consumed = h.consumed; within = (let all = h.all in omega arith) }
 
   -- the source ended
-  pub read_spent : IsOpen reader → size ≤ most_bytes → IsSpent b → (bytes : List ℕ) → a ≡ Some bytes → IsSome b → HeadCame form bytes (Err end.SoundCut) b
+  read_spent : IsOpen reader → size ≤ most_bytes → IsSpent b → (bytes : List ℕ) → a ≡ Some bytes → IsSome b → HeadCame form bytes (Err end.SoundCut) b
   read_spent opens few spent bytes told tells =
       let k = consumed_known a b bytes h.bytes told h.consumed tells in
       let none : k.0 ≡ [] = spent_is b k.0 k.1 spent in
@@ -81,7 +75,7 @@ module _ (form : SoundForm) (reader : HeadReader) (size : ℕ) (a b : Option (Li
             let test : nat_lt most_bytes n ≡ false = grind (arith, nat_tests) in
             ap (λ (t : Bool). if t then ends too_long else behind_front says next) test
 
-  pub read_cut : IsOpen reader → IsSpent b → ConsumedCut (Some form) a b
+  read_cut : IsOpen reader → IsSpent b → ConsumedCut (Some form) a b
   read_cut opens spent = record {
     bytes = h.bytes;
     consumed = h.consumed;
@@ -98,12 +92,18 @@ module _ (form : SoundForm) (reader : HeadReader) (size : ℕ) (a b : Option (Li
         cc;
   }
 
-  module _ (byte : ℕ) (c : Option (List ℕ)) (more : Consumed b (byte ∷ []) c) where
+  module _ {byte : ℕ} {c : Option (List ℕ)} (more : IsByteRead byte b c) where
     all_read : Consumed a (h.bytes ++ (byte ∷ [])) c
-    all_read = consumed_on a b c h.bytes (byte ∷ []) h.consumed more
+    all_read = consumed_on a b c h.bytes (byte ∷ []) h.consumed more.consumed
 
     read_long : length (h.bytes ++ (byte ∷ [])) ≡ size + 1
     read_long = let all = h.all in omega (arith, length-append h.bytes (byte ∷ []))
+
+    pub read_more : {reader' : HeadReader} → HasTaken reader' form (h.bytes ++ (byte ∷ [])) → HasRead form reader' (size + 1) a c
+    read_more taken = record { bytes = h.bytes ++ (byte ∷ []); consumed = all_read; all = read_long; taken = taken }
+
+    read_more_within : size < most_bytes → ConsumedWithinMost a c
+    read_more_within few = record { bytes = h.bytes ++ (byte ∷ []); consumed = all_read; within = (let long = read_long in omega arith) }
 
     -- a byte too many
     pub read_too_long : IsOpen reader → most_bytes ≤ size → (bytes : List ℕ) → a ≡ Some bytes → IsSome c → HeadCame form bytes (Err end.TooLong) c
@@ -121,10 +121,15 @@ module _ (form : SoundForm) (reader : HeadReader) (size : ℕ) (a b : Option (Li
               ∙ ap (λ (t : Bool). if t then ends too_long else behind_front (front_of form (h.bytes ++ (byte ∷ k.0))).says next) test,
         )
 
-    pub read_beyond : most_bytes ≤ size → ConsumedBeyondMost a c
-    read_beyond many = record { bytes = h.bytes ++ (byte ∷ []); consumed = all_read; beyond = (let long = read_long in omega arith) }
+    pub takes_too_long : most_bytes ≤ size → TakesFront {X = FileHead} (Some form) (Err end.TooLong) a c
+    takes_too_long many = record {
+      bad = λ fault is. cc is;
+      cut = λ is. cc is;
+      long = λ _. record { bytes = h.bytes ++ (byte ∷ []); consumed = all_read; beyond = (let long = read_long in omega arith) };
+      within = λ other. absurd (other refl);
+    }
 
-    -- a head is whole
+    -- a header is complete
     pub read_whole : (head : SoundHead) → IsHead form (h.bytes ++ (byte ∷ [])) head → (bytes : List ℕ) → a ≡ Some bytes → IsSome c →
         HeadCame form bytes (let file : FileHead = record { head = head; size = size + 1 } in Ok file) c
     read_whole head is bytes told tells =
@@ -136,6 +141,9 @@ module _ (form : SoundForm) (reader : HeadReader) (size : ℕ) (a b : Option (Li
     pub read_head : (head : SoundHead) → size < most_bytes → IsHead form (h.bytes ++ (byte ∷ [])) head → ConsumedHead (Some form) (size + 1) head.length a c
     read_head head few is = record { bytes = h.bytes ++ (byte ∷ []); consumed = all_read; all = read_long; within = omega arith; is_head = (head, is, refl) }
 
+    pub takes_head : {file : FileHead} → size < most_bytes → TakesFront (Some form) (Ok file) a c
+    takes_head few = record { bad = λ fault is. cc is; cut = λ is. cc is; long = λ is. cc is; within = λ _. read_more_within few }
+
     -- a fault shows
     pub read_bad : (fault : SoundFault) → size < most_bytes → HasFault form (h.bytes ++ (byte ∷ [])) fault → (bytes : List ℕ) → a ≡ Some bytes → IsSome c → HeadCame form bytes (Err (end.BadSound fault)) c
     read_bad fault few has bytes told tells =
@@ -144,24 +152,29 @@ module _ (form : SoundForm) (reader : HeadReader) (size : ℕ) (a b : Option (Li
         let test : nat_lt most_bytes (size + 1) ≡ false = grind (arith, nat_tests) in
         inr (bad_sound fault, refl, λ next. ap (λ (f : Front). reads_front f next) said ∙ ap (λ (t : Bool). if t then ends too_long else ends (bad_sound fault)) test)
 
-    pub read_fault : (fault : SoundFault) → HasFault form (h.bytes ++ (byte ∷ [])) fault → ConsumedFault (Some form) fault a c
-    read_fault fault has = record { bytes = h.bytes ++ (byte ∷ []); consumed = all_read; of = form; is_form = refl; has = has }
-
-    pub read_more_within : size < most_bytes → ConsumedWithinMost a c
-    read_more_within few = record { bytes = h.bytes ++ (byte ∷ []); consumed = all_read; within = (let long = read_long in omega arith) }
+    pub takes_bad : (fault : SoundFault) → size < most_bytes → HasFault form (h.bytes ++ (byte ∷ [])) fault → TakesFront {X = FileHead} (Some form) (Err (end.BadSound fault)) a c
+    takes_bad fault few has = record {
+      bad = λ other is. subst (λ (f : SoundFault). ConsumedFault (Some form) f a c) (let same : fault ≡ other = cc is in same) (record { bytes = h.bytes ++ (byte ∷ []); consumed = all_read; of = form; is_form = refl; has = has });
+      cut = λ is. cc is;
+      long = λ is. cc is;
+      within = λ _. read_more_within few;
+    }
 
 -- the end of the source, which gives no byte
-read_none : (form : SoundForm) (reader : HeadReader) (size : ℕ) (a b c : Option (List ℕ)) → HasRead form reader size a b → Consumed b [] c → HasRead form reader size a c
-read_none form reader size a b c h none = record {
+read_none : {form : SoundForm} {reader : HeadReader} {size : ℕ} {a b c : Option (List ℕ)} → HasRead form reader size a b → Consumed b [] c → HasRead form reader size a c
+read_none {a} {b} {c} h none = record {
   bytes = h.bytes;
   consumed = subst (λ (l : List ℕ). Consumed a l c) (append-nil h.bytes) (consumed_on a b c h.bytes [] h.consumed none);
   all = h.all;
   taken = h.taken;
 }
 
-pub ended_read : (form : SoundForm) (reader : HeadReader) (size : ℕ) (a b c : Option (List ℕ)) → HasRead form reader size a b → Consumed b [] c → IsOpen reader → size ≤ most_bytes → IsSpent c →
-    (bytes : List ℕ) → a ≡ Some bytes → IsSome c → HeadCame form bytes (Err end.SoundCut) c
-ended_read form reader size a b c h none opens few spent = read_spent form reader size a c (read_none form reader size a b c h none) opens few spent
+module _ {form : SoundForm} {reader : HeadReader} {size : ℕ} {a b : Option (List ℕ)} (c : Option (List ℕ)) (h : HasRead form reader size a b) (none : Consumed b [] c) (few : size ≤ most_bytes) where
+  pub ended_read : IsOpen reader → IsSpent c → (bytes : List ℕ) → a ≡ Some bytes → IsSome c → HeadCame form bytes (Err end.SoundCut) c
+  ended_read opens spent = read_spent (read_none h none) opens few spent
 
-pub ended_cut : (form : SoundForm) (reader : HeadReader) (size : ℕ) (a b c : Option (List ℕ)) → HasRead form reader size a b → Consumed b [] c → IsOpen reader → IsSpent c → ConsumedCut (Some form) a c
-ended_cut form reader size a b c h none opens spent = read_cut form reader size a c (read_none form reader size a b c h none) opens spent
+  pub takes_cut : IsOpen reader → IsSpent c → TakesFront {X = FileHead} (Some form) (Err end.SoundCut) a c
+  takes_cut opens spent = record { bad = λ fault is. cc is; cut = λ _. read_cut (read_none h none) opens spent; long = λ is. cc is; within = λ _. read_within (read_none h none) few }
+
+  pub takes_failed : TakesFront {X = FileHead} (Some form) (Err end.ReadFault) a c
+  takes_failed = record { bad = λ fault is. cc is; cut = λ is. cc is; long = λ is. cc is; within = λ _. read_within (read_none h none) few }

@@ -1,4 +1,4 @@
--- What is played is heard as it was intended, in each channel.
+-- What is played is heard as intended, in each channel.
 use Rattle.std.proofs.Common.{◌≡◌, ℕ, ◌+◌, ◌-◌, ◌*◌, ◌/◌, ◌<◌, ◌≤◌, ◌&&◌, nat_le, nat_lt, ℤ, pos, true, List, length, take, drop, get_or, slice_get, slice_index_or, slice_range, sym, ap, ap₂, ◌∙◌, subst, arith, inl, inr}
 use Rattle.std.proofs.Math.Nat.{div-div-eq-div-mul, mul-div-le}
 use Rattle.std.specs.declared.option.Option.{Option}
@@ -9,12 +9,12 @@ use Rattle.std.proofs.lemmas.Option.{slice_get-get_or}
 use Rattle.std.proofs.lemmas.Bool.{and_parts}
 use Rattle.std.proofs.lemmas.Bool.Decides.{nat_tests}
 use Rattle.af_sample.specs.declared.sample_type.SampleType.{SampleType}
-use Rattle.af_sample.specs.declared.sample_type.SampleType.TheVariants.{Mu255, Alaw, Lin16, Lin32}
+use Rattle.af_sample.specs.declared.sample_type.SampleType.TheVariants.{Mu255}
 use Rattle.af_sample.specs.Channels.{frame_count, IsChannelCount}
 use Rattle.af_sample.specs.SampleTypes.{frame_bytes, width_of}
 use Rattle.af_sample.specs.Samples.{decoded, piece, samples}
 use Rattle.af_sample.specs.Gains.{gained}
-use Rattle.af_sample.specs.Heard.{blended, covers, heard, AcceptedPlay}
+use Rattle.af_sample.specs.Heard.{sound_with_sample, covers, heard_sample, AcceptedPlay}
 use Rattle.af_tools.specs.Play.{blocks}
 use Rattle.af_tools.specs.Blocks.{gained_samples, sample_in, sent_blocks, AreAccepted, Block, HeardAsIntended, IsEntryOf}
 use Rattle.af_cli.proofs.FrameSizeLemmas.{frame_size}
@@ -37,7 +37,7 @@ gained_at ty gain bytes i low =
     get_or-map (λ x. gained x gain) (samples ty bytes) i (pos 0) (pos 0) (subst (λ (n : ℕ). i < n) (sym size) low)
     ∙ ap (λ x. gained x gain) (get_or-map-range_with_len (λ i. decoded ty (piece ty bytes i)) 0 (length bytes / width_of ty) i i (pos 0) low (omega arith))
 
--- where a sample of a channel stands in its frame
+-- where a sample of a channel is in its frame
 record IsInFrame (width frame place i channel : ℕ) : Type 0 where
   at : i * frame + channel * width ≡ place * width
   within : channel * width + width ≤ frame
@@ -51,15 +51,11 @@ in_frame ty channels i c count low = elim (one_or_two channels count) [
 ] where
   mono : (ty : SampleType) → IsInFrame (width_of ty) (frame_bytes ty 1) (1 * i + 0) i 0
   mono Mu255 = record { at = omega arith; within = omega arith }
-  mono Alaw = record { at = omega arith; within = omega arith }
-  mono Lin16 = record { at = omega arith; within = omega arith }
-  mono Lin32 = record { at = omega arith; within = omega arith }
+  mono ty = record { at = omega arith; within = omega arith }
 
   stereo : (ty : SampleType) → c < 2 → IsInFrame (width_of ty) (frame_bytes ty 2) (2 * i + c) i c
   stereo Mu255 few = record { at = omega arith; within = omega arith }
-  stereo Alaw few = record { at = omega arith; within = omega arith }
-  stereo Lin16 few = record { at = omega arith; within = omega arith }
-  stereo Lin32 few = record { at = omega arith; within = omega arith }
+  stereo ty few = record { at = omega arith; within = omega arith }
 
 -- a sample of a channel is a part of its frame
 part_of_frame : (ty : SampleType) (channels : ℕ) (bytes : List ℕ) (i c : ℕ) → IsChannelCount channels → c < channels →
@@ -99,7 +95,7 @@ found : (ty : SampleType) (channels frames : ℕ) (bytes : List ℕ) (i : ℕ) �
 unfolding blocks
 found ty channels frames bytes i count some low = find_block (frame_bytes ty channels) (frame_size ty channels count) frames (length bytes) 0 bytes i some (omega arith) low
 
--- the times that an entry covers
+-- the times that a play covers
 covered : (channels : ℕ) (e : AcceptedPlay) (t : ℕ) → covers channels e t ≡ true → (e.start ≤ t) × (t < e.start + frame_count channels e.samples)
 covered channels e t on =
     let p = (and_parts (nat_le e.at t) (nat_le e.start t && nat_lt t (e.start + frame_count channels e.samples)) on).1 in
@@ -112,7 +108,7 @@ same_entry : (o : Option AcceptedPlay) (d e : AcceptedPlay) → o ≡ Some d →
 same_entry o d e is is' = cc
 
 module _ (ty : SampleType) (channels : ℕ) (count : IsChannelCount channels) (gain : ℤ) (start : ℕ) where
-  -- an entry of a block covers the times of its frames alone
+  -- the play of a block covers only the times of its frames
   frame_of : (b : Block) (e d : AcceptedPlay) (i : ℕ) → IsEntryOf ty gain start b e → d ≡ e → covers channels d (start + i) ≡ true → (j : ℕ) × (j < length b.bytes / frame_bytes ty channels) × (b.before + j ≡ i)
   frame_of b e d i of same on =
       let c = covered channels e (start + i) (subst (λ (x : AcceptedPlay). covers channels x (start + i) ≡ true) same on) in
@@ -155,11 +151,11 @@ module _ (ty : SampleType) (channels : ℕ) (count : IsChannelCount channels) (g
         let size : frame_count channels e.samples ≡ length f.block.bytes / frame_bytes ty channels = ap (frame_count channels) of.its_samples ∙ frames_gained ty channels gain f.block.bytes in
         covers_its channels e (start + i) of.in_time (omega arith) (omega arith)
 
-    heard_frame : heard channels accepted (start + i) c ≡ sample_in channels (gained_samples ty gain bytes) i c
+    heard_frame : heard_sample channels accepted (start + i) c ≡ sample_in channels (gained_samples ty gain bytes) i c
     heard_frame =
         let e = a.each f.k f.block f.get in
         heard_alone channels accepted (start + i) c (a.place f.k) e.0 e.1 (its_time e.0 e.2) alone
-        ∙ ap (blended e.0.preempt (pos 0)) (its_sample e.0 e.2)
+        ∙ ap (sound_with_sample e.0.preempt (pos 0)) (its_sample e.0 e.2)
         ∙ blended_with_silence e.0.preempt (decoded ty (piece ty bytes (channels * i + c))) gain
         ∙ sym (gained_at ty gain bytes (channels * i + c) (place_low ty channels (length bytes) i c low few))
 

@@ -1,20 +1,18 @@
--- Blocks that are played, one behind the other.
+-- Blocks that are played, one after the other.
 use Rattle.std.proofs.Common.{◌≡◌, ℕ, zero, suc, ◌+◌, ◌-◌, ◌/◌, ◌<◌, ◌≤◌, nat_lt, true, false, List, [], ◌∷◌, ◌++◌, length, take, drop, sym, ap, ap₂, ◌∙◌, append-nil, refl, arith, inl, inr, length-append, length-drop, length-take}
 use Rattle.std.proofs.lemmas.Bool.Decides.{nat_tests}
 use Rattle.std.proofs.lemmas.List.{take_at, drop_at, take_all, drop_all}
 use Rattle.std.proofs.lemmas.Bool.{cases_lt}
 use Rattle.std.proofs.Math.Nat.{zero-div}
 use Rattle.std.specs.declared.option.Option.{Option}
-use Rattle.std.specs.declared.option.Option.TheVariants.{Some}
 use Rattle.af_io.specs.Observed.{Consumed}
 use Rattle.af_request.specs.Asked.{play_run}
 use Rattle.af_lib.specs.Calls.{as_time}
-use Rattle.af_tool.specs.Trace.{Trace, ClientState, asks, ends, too_long}
+use Rattle.af_toolkit.specs.Trace.{Trace, ClientState, asks, ends, too_long}
 use Rattle.af_sound.specs.declared.head.Coding.{Coding}
 use Rattle.af_tools.specs.Limits.{most_bytes}
-use Rattle.af_tools.specs.Sounds.{as_served, stated_part}
-use Rattle.af_tools.specs.Play.{block_time, blocks, cut, frames_in, plays, whole_frames}
-use Rattle.af_tool.proofs.PartProgressLemmas.{Reaches}
+use Rattle.af_tools.specs.Sounds.{as_served}
+use Rattle.af_tools.specs.Play.{block_time, blocks, cut_blocks, frames_in, plays, whole_frames}
 
 -- a source gave exactly n bytes
 pub record ConsumedAll (count : ℕ) (before after : Option (List ℕ)) : Type 0 where
@@ -22,17 +20,8 @@ pub record ConsumedAll (count : ℕ) (before after : Option (List ℕ)) : Type 0
   pub consumed : Consumed before bytes after
   pub all : length bytes ≡ count
 
--- So many frames of a sound were played: the trace goes on with the blocks of what is left of it. The source is to give so many bytes
--- of the sound, if that is stated, and gave n before it.
-pub record IsPlaying (coding : Option Coding) (head width start size frames given : ℕ) (of : Option ℕ) (bytes : List ℕ) (first : ClientState) (left told : Option (List ℕ)) (wire : List ℕ → ClientState) (sent sent' held : Option (List ℕ)) : Type 0 where
-  pub rest : List ℕ
-  pub input : List ℕ
-  pub is_left : left ≡ Some rest
-  pub is_told : told ≡ Some input
-  pub reaches : Reaches (plays coding width start 0 head (blocks size bytes) first) (plays coding width start frames given (blocks size (stated_part of rest)) (wire input)) sent sent' held held
-
 -- enough steps to cut a list are as good as more
-cut_enough : (n m size : ℕ) (bytes : List ℕ) → 0 < size → length bytes ≤ n → length bytes ≤ m → cut n size bytes ≡ cut m size bytes
+cut_enough : (n m size : ℕ) (bytes : List ℕ) → 0 < size → length bytes ≤ n → length bytes ≤ m → cut_blocks n size bytes ≡ cut_blocks m size bytes
 cut_enough zero zero size bytes some few less = refl
 cut_enough zero (suc m) size [] some few less = refl
 cut_enough zero (suc m) size (b ∷ bytes) some few less = absurd (omega arith)

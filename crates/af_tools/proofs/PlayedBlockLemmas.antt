@@ -1,4 +1,4 @@
--- Where aplay is done, each block was played.
+-- If aplay is done, each block was played.
 use Rattle.std.proofs.Common.{◌≡◌, ◌==◌, ℕ, Bool, true, nat_lt, if◌then◌else◌, ap₂, take, drop, ◌+◌, ◌*◌, ◌/◌, ◌%◌, ◌^◌, ◌<◌, ◌≤◌, false, List, [], ◌∷◌, ◌++◌, length, slice_get, sym, ap, ◌∙◌, append_assoc, append-nil, subst, refl, arith, inl, inr}
 use Rattle.std.specs.Prelude.{Result, Ok, Err}
 use Rattle.std.specs.List.{flat_map}
@@ -21,11 +21,11 @@ use Rattle.af_request.specs.Requests.{request_bytes}
 use Rattle.af_wire.specs.declared.order.Order.{Order}
 use Rattle.af_lib.specs.declared.fault.ConnFault.{ConnFault}
 use Rattle.af_lib.specs.Calls.{as_done, as_time}
-use Rattle.af_tool.specs.declared.end.ToolEnd.{ToolEnd}
-use Rattle.af_tool.specs.declared.end.ToolEnd.TheVariants as end
+use Rattle.af_toolkit.specs.declared.end.ToolEnd.{ToolEnd}
+use Rattle.af_toolkit.specs.declared.end.ToolEnd.TheVariants as end
 use Rattle.af_cli.specs.declared.job.PlayJob.{PlayJob}
-use Rattle.af_tool.proofs.ToolEndLemmas.{finish_done}
-use Rattle.af_tool.specs.Trace.{Trace, Finish, ClientState, answer_on, answered_by, asks, after_reply, channel_mismatch, done, ends, mismatch, on_device, sending, too_long, writing}
+use Rattle.af_tools.proofs.EndLemmas.{is_whole}
+use Rattle.af_toolkit.specs.Trace.{Trace, Finish, ClientState, answer_on, after_answer, asks, after_reply, channel_mismatch, done, ends, mismatch, on_device, sends_first, too_long, writes_first}
 use Rattle.af_sound.specs.declared.head.Coding.{Coding}
 use Rattle.af_sound.specs.declared.head.HeadStep.{HeadStep}
 use Rattle.af_sound.specs.declared.head.HeadStep.TheVariants as step
@@ -36,35 +36,34 @@ use Rattle.af_sound.proofs.FrontLemmas.{front, front_is_head}
 use Rattle.af_tools.specs.declared.sound.SourceSound.{SourceSound}
 use Rattle.af_tools.specs.Limits.{most_bytes}
 use Rattle.af_tools.specs.Sounds.{as_served, at_one_shape, behind_front, file_sound, raw_sound, reads_sound, source_width, stated_part, GivesSamples, IsServedAs}
-use Rattle.af_tools.specs.Play.{aplay_trace, blocks, frames_in, play_context, played, played_frames, played_on, plays, plays_sound, start_at, whole_frames}
-use Rattle.af_tool.specs.Ends.{ObservedTrace, is_outer}
+use Rattle.af_tools.specs.Play.{aplay_trace, blocks, frames_in, play_context, played_text, played_frames, plays_on, plays, plays_sound, start_at, whole_frames}
+use Rattle.af_toolkit.specs.Ends.{ObservedTrace}
 use Rattle.af_tools.specs.Blocks.{Block}
 use Rattle.af_tools.specs.Intent.{blocks_sent, play_of, played_whole, IsPlayed}
 use Rattle.af_tools.proofs.PlayBlockLemmas.{plays_block, plays_last, plays_long, plays_none}
-use Rattle.af_tools.proofs.SentBlockLemmas.{frames_sent, sent_more, sent_no_more, sent_none}
-use Rattle.af_tools.proofs.ServedBlockLemmas.{frames_converted, sent_converted, sent_served, served_first, served_last}
+use Rattle.af_tools.proofs.SentBlockLemmas.{frames_sent, sent_more, sent_no_more, sent_none, frames_converted, sent_converted, sent_served, served_first, served_last}
 use Rattle.af_tools.proofs.HeardAsIntendedLemmas.{heard_as_intended}
 
--- a trace that is done went on behind an answer
-pub answered_done : {X : Type 0} (r : Result X ConnFault) (w : ClientState) (next : X → ClientState → Trace) → (answered_by r w next).finish ≡ done → (x : X) × (r ≡ Ok x) × (answered_by r w next ≡ next x w)
+-- a trace that is done went on after an answer
+pub answered_done : {X : Type 0} (r : Result X ConnFault) (w : ClientState) (next : X → ClientState → Trace) → (after_answer r w next).finish ≡ done → (x : X) × (r ≡ Ok x) × (after_answer r w next ≡ next x w)
 answered_done (Ok x) w next is = (x, refl, refl)
 answered_done (Err fault) w next is = absurd (cc)
 
 asks_done : {X : Type 0} (asked : Asked) (value_of : Answer → Option X) (w : ClientState) (next : X → ClientState → Trace) → (asks asked value_of w next).finish ≡ done →
-    (x : X) × (answer_on asked value_of w ≡ Ok x) × (asks asked value_of w next ≡ sending (request_bytes w.order asked) (next x (after_reply w))) × ((next x (after_reply w)).finish ≡ done)
+    (x : X) × (answer_on asked value_of w ≡ Ok x) × (asks asked value_of w next ≡ sends_first (request_bytes w.order asked) (next x (after_reply w))) × ((next x (after_reply w)).finish ≡ done)
 unfolding asks
 asks_done asked value_of w next is =
     let r = answered_done (answer_on asked value_of w) (after_reply w) next is in
-    (r.0, r.1, ap (sending (request_bytes w.order asked)) r.2, ap (λ (c : Trace). c.finish) (sym r.2) ∙ is)
+    (r.0, r.1, ap (sends_first (request_bytes w.order asked)) r.2, ap (λ (c : Trace). c.finish) (sym r.2) ∙ is)
 
-sending_twice : (a b : List ℕ) (c : Trace) → sending a (sending b c) ≡ sending (a ++ b) c
+sending_twice : (a b : List ℕ) (c : Trace) → sends_first a (sends_first b c) ≡ sends_first (a ++ b) c
 sending_twice a b c = ap (λ (s : List ℕ). (let d : Trace = record { sends = s; output = c.output; finish = c.finish } in d)) (sym (append_assoc a b c.sends))
 
 pub ended_long : (c : Trace) → c ≡ ends too_long → c.finish ≡ done → ⊥
 ended_long c is way = let bad : too_long ≡ done = sym (ap (λ (x : Trace). x.finish) is) ∙ way in cc
 
 plays_done : (coding : Option Coding) (width start frames given : ℕ) (bs : List (List ℕ)) (w : ClientState) (next : ℕ → ClientState → Trace) → (plays coding width start frames given bs w next).finish ≡ done →
-    (n : ℕ) × (v : ClientState) × (n ≡ frames + frames_sent width bs) × (plays coding width start frames given bs w next ≡ sending (flat_map (play_of w.order start) (sent_served coding width frames bs)) (next n v)) × ((next n v).finish ≡ done) × (v.order ≡ w.order)
+    (n : ℕ) × (v : ClientState) × (n ≡ frames + frames_sent width bs) × (plays coding width start frames given bs w next ≡ sends_first (flat_map (play_of w.order start) (sent_served coding width frames bs)) (next n v)) × ((next n v).finish ≡ done) × (v.order ≡ w.order)
 plays_done coding width start frames given [] w next way = (frames, w, (let none = sent_none width in omega arith), plays_none coding width start frames given w next, ap (λ (c : Trace). c.finish) (sym (plays_none coding width start frames given w next)) ∙ way, refl)
 plays_done coding width start frames given (block ∷ more) w next way = elim (cases_lt most_bytes (given + length block)) [
   | inl long ↦ absurd (ended_long _ (plays_long coding width start frames given w next block more long) way)
@@ -81,9 +80,9 @@ plays_done coding width start frames given (block ∷ more) w next way = elim (c
           r.0,
           r.1,
           omega arith,
-          e ∙ a.2 ∙ ap (sending first) r.3
+          e ∙ a.2 ∙ ap (sends_first first) r.3
               ∙ sending_twice first (flat_map (play_of w.order start) others) (next r.0 r.1)
-              ∙ ap (λ (s : List Block). sending (flat_map (play_of w.order start) s) (next r.0 r.1)) (sym (served_first coding width frames block more some)),
+              ∙ ap (λ (s : List Block). sends_first (flat_map (play_of w.order start) s) (next r.0 r.1)) (sym (served_first coding width frames block more some)),
           r.4,
           r.5,
         )
@@ -92,27 +91,27 @@ plays_done coding width start frames given (block ∷ more) w next way = elim (c
       w,
       (let here = sent_no_more width block more (omega arith) in omega arith),
       plays_last coding width start frames given w next block more fits (omega arith)
-          ∙ ap (λ (s : List Block). sending (flat_map (play_of w.order start) s) (next frames w)) (sym (served_last coding width frames block more (omega arith))),
+          ∙ ap (λ (s : List Block). sends_first (flat_map (play_of w.order start) s) (next frames w)) (sym (served_last coding width frames block more (omega arith))),
       ap (λ (c : Trace). c.finish) (sym (plays_last coding width start frames given w next block more fits (omega arith))) ∙ way,
       refl,
     )
   ]
 ]
 
-sending_all : (a b p f : List ℕ) (c : Trace) → sending a (sending b (sending p (sending f c))) ≡ sending (a ++ (b ++ (p ++ f))) c
-sending_all a b p f c = ap (sending a) (ap (sending b) (sending_twice p f c) ∙ sending_twice b (p ++ f) c) ∙ sending_twice a (b ++ (p ++ f)) c
+sending_all : (a b p f : List ℕ) (c : Trace) → sends_first a (sends_first b (sends_first p (sends_first f c))) ≡ sends_first (a ++ (b ++ (p ++ f))) c
+sending_all a b p f c = ap (sends_first a) (ap (sends_first b) (sending_twice p f c) ∙ sending_twice b (p ++ f) c) ∙ sending_twice a (b ++ (p ++ f)) c
 
 from_none : (m n : ℕ) → m ≡ 0 + n → m ≡ n
 from_none m n is = omega arith
 
 -- a job that is done on a device
 done_on : (job : PlayJob) (sound : SourceSound) (device : DeviceInfo) (bytes : List ℕ) (w : ClientState) (next : ℕ → ℕ → ClientState → Trace) → IsServedAs sound.coding sound.ty → IsChannelCount sound.channels → 1 ≤ job.block →
-    (played_on job sound device bytes w next).finish ≡ done →
+    (plays_on job sound device bytes w next).finish ≡ done →
     (now : DevTime) × (v : ClientState) × (answer_on (get_time job.device) as_time (after_reply w) ≡ Ok now)
-    × (played_on job sound device bytes w next
-    ≡ sending (played_whole w.order job sound.ty sound.channels (as_served sound.coding (stated_part sound.length bytes)) (start_at job.time now.0 (frames_lasting device.rate job.lead)))
+    × (plays_on job sound device bytes w next
+    ≡ sends_first (played_whole w.order job sound.ty sound.channels (as_served sound.coding (stated_part sound.length bytes)) (start_at job.time now.0 (frames_lasting device.rate job.lead)))
     (next (length (as_served sound.coding (stated_part sound.length bytes)) / frame_bytes sound.ty sound.channels) (start_at job.time now.0 (frames_lasting device.rate job.lead)) v))
-unfolding played_on plays_sound
+unfolding plays_on plays_sound
 done_on job sound device bytes w next served channels begun way =
     let coding = sound.coding in
     let width = source_width coding sound.ty sound.channels in
@@ -139,18 +138,15 @@ done_on job sound device bytes w next served channels begun way =
       b.0,
       after_reply p.1,
       b.1,
-      a.2 ∙ ap (sending context) (b.2 ∙ ap (sending time) (p.3 ∙ ap (sending whole) f.2))
+      a.2 ∙ ap (sends_first context) (b.2 ∙ ap (sends_first time) (p.3 ∙ ap (sends_first whole) f.2))
           ∙ sending_all context time whole (request_bytes p.1.order (free_ac 1)) (next p.0 (start_of now) (after_reply p.1))
-          ∙ ap₂ (λ (l : List ℕ) (n : ℕ). sending (context ++ (time ++ (l ++ request_bytes p.1.order (free_ac 1)))) (next n (start_of now) (after_reply p.1))) same all
-          ∙ ap (λ (o : Order). sending (context ++ (time ++ (known ++ request_bytes o (free_ac 1)))) (next (length samples / frame_bytes sound.ty sound.channels) (start_of now) (after_reply p.1))) p.5,
+          ∙ ap₂ (λ (l : List ℕ) (n : ℕ). sends_first (context ++ (time ++ (l ++ request_bytes p.1.order (free_ac 1)))) (next n (start_of now) (after_reply p.1))) same all
+          ∙ ap (λ (o : Order). sends_first (context ++ (time ++ (known ++ request_bytes o (free_ac 1)))) (next (length samples / frame_bytes sound.ty sound.channels) (start_of now) (after_reply p.1))) p.5,
     )
 
 on_device_done : (o : Option DeviceInfo) (n : ℕ) (next : DeviceInfo → Trace) → (on_device o n next).finish ≡ done → (device : DeviceInfo) × (o ≡ Some device) × (on_device o n next ≡ next device)
 on_device_done (Some device) n next way = (device, refl, refl)
 on_device_done None n next way = absurd (cc)
-
-whole_part : (all part rest : List ℕ) (known : List ℕ) → all ≡ part ++ rest → rest ≡ [] → all ≡ known ++ [] → part ≡ known
-whole_part all part rest known is none same = sym (append-nil part) ∙ ap (λ (r : List ℕ). part ++ r) (sym none) ∙ sym is ∙ same ∙ append-nil known
 
 -- a file that has the rate and the channels of its device
 shape_done : (b c : Bool) (next : Trace) (x y : Finish) → (if b then (if c then next else ends x) else ends y).finish ≡ done → (x ≡ done → ⊥) → (y ≡ done → ⊥) → (b ≡ true) × (c ≡ true) × ((if b then (if c then next else ends x) else ends y) ≡ next)
@@ -199,19 +195,19 @@ pub is_played : (job : PlayJob) (devices : List DeviceInfo) (bytes : List ℕ) (
     ((d : DeviceInfo) → slice_get devices job.device ≡ Some d → IsDeviceInfo d) → IsPlayed job devices bytes w s s' h h'
 unfolding aplay_trace
 is_played job devices bytes w how s s' h h' followed way some stated =
-    let whole = followed.ended.whole (ap is_outer way) in
-    let finish = finish_done (aplay_trace job devices bytes w).finish (sym whole.0 ∙ way) in
-    let reporting = λ (frames start : ℕ) (v : ClientState). writing (played frames start) (ends done) in
-    let d = on_device_done (slice_get devices job.device) (length devices) (λ device. reads_sound job.form job device bytes (λ sound rest. played_on job sound device rest w reporting)) finish in
+    let all = is_whole followed.ended way in
+    let finish = all.finish in
+    let reporting = λ (frames start : ℕ) (v : ClientState). writes_first (played_text frames start) (ends done) in
+    let d = on_device_done (slice_get devices job.device) (length devices) (λ device. reads_sound job.form job device bytes (λ sound rest. plays_on job sound device rest w reporting)) finish in
     let device = d.0 in
-    let g = sound_done job.form job device bytes (λ sound rest. played_on job sound device rest w reporting) refl (ap (λ (c : Trace). c.finish) (sym d.2) ∙ finish) in
+    let g = sound_done job.form job device bytes (λ sound rest. plays_on job sound device rest w reporting) refl (ap (λ (c : Trace). c.finish) (sym d.2) ∙ finish) in
     let sound = g.0 in
     let samples : List ℕ = as_served sound.coding (stated_part sound.length g.1) in
     let count : IsChannelCount device.channels = (stated device d.1).channels in
     let alike : sound.channels ≡ device.channels = g.4 in
     let p = done_on job sound device g.1 w reporting g.3 (subst IsChannelCount (sym alike) count) some (ap (λ (c : Trace). c.finish) (sym (d.2 ∙ g.5)) ∙ finish) in
     let start = start_at job.time p.0.0 (frames_lasting device.rate job.lead) in
-    let is = d.2 ∙ g.5 ∙ p.3 ∙ ap (λ (n : ℕ). sending (played_whole w.order job sound.ty n samples start) (reporting (length samples / frame_bytes sound.ty n) start p.1)) alike in
+    let is = d.2 ∙ g.5 ∙ p.3 ∙ ap (λ (n : ℕ). sends_first (played_whole w.order job sound.ty n samples start) (reporting (length samples / frame_bytes sound.ty n) start p.1)) alike in
     record {
       device = device;
       is_there = d.1;
@@ -222,8 +218,8 @@ is_played job devices bytes w how s s' h h' followed way some stated =
       told = p.2;
       start = start;
       starts = refl;
-      link = subst (λ (b : List ℕ). Appended s b s') (whole_part (aplay_trace job devices bytes w).sends followed.sends followed.ended.unsent (played_whole w.order job sound.ty device.channels samples start) followed.ended.sent whole.1 (ap (λ (c : Trace). c.sends) is)) followed.link;
-      sink = subst (λ (b : List ℕ). Appended h b h') (whole_part (aplay_trace job devices bytes w).output followed.output followed.ended.unwritten (played (length samples / frame_bytes sound.ty device.channels) start) followed.ended.wrote whole.2 (ap (λ (c : Trace). c.output) is)) followed.sink;
+      link = subst (λ (b : List ℕ). Appended s b s') (all.sent ∙ ap (λ (c : Trace). c.sends) is ∙ append-nil (played_whole w.order job sound.ty device.channels samples start)) followed.link;
+      sink = subst (λ (b : List ℕ). Appended h b h') (all.wrote ∙ ap (λ (c : Trace). c.output) is ∙ append-nil (played_text (length samples / frame_bytes sound.ty device.channels) start)) followed.sink;
       hears = λ first accepted same a i c low few.
           let least : 1 ≤ played_frames job sound.ty device.channels = some_frames job.block (frame_bytes sound.ty device.channels) (frame_size sound.ty device.channels count) some in
           heard_as_intended sound.ty device.channels job.gain (played_frames job sound.ty device.channels) samples first accepted count (omega arith) a i c low few;

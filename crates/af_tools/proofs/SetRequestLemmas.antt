@@ -1,4 +1,4 @@
--- Requests that aset sends only where there is need of them.
+-- Requests that aset sends only if they are needed.
 use Rattle.std.proofs.Common.{◌≡◌, Bool, true, false, List, ℕ, sym, refl, subst}
 use Rattle.std.specs.Prelude.{Result, Ok}
 use Rattle.std.specs.declared.option.Option.{Option}
@@ -7,13 +7,13 @@ use Rattle.af_request.specs.declared.reply.DeviceInfo.{DeviceInfo}
 use Rattle.af_request.specs.Asked.{Asked}
 use Rattle.af_lib.specs.Calls.{as_done}
 use Rattle.af_cli.specs.declared.job.SetJob.{SetJob}
-use Rattle.af_tool.specs.declared.end.ToolEnd.{ToolEnd}
-use Rattle.af_tool.specs.Trace.{Trace, ClientState, asks}
-use Rattle.af_tool.specs.Ends.{ObservedPart, TracePart}
-use Rattle.af_standing.specs.declared.standing.Standing.{Standing}
-use Rattle.af_standing.specs.Standing.{asks_standing}
+use Rattle.af_toolkit.specs.declared.end.ToolEnd.{ToolEnd}
+use Rattle.af_toolkit.specs.Trace.{ClientState, asks}
+use Rattle.af_toolkit.specs.Ends.{ObservedPart, TracePart}
+use Rattle.af_standing.specs.declared.controls_report.ControlsReport.{ControlsReport}
+use Rattle.af_standing.specs.ControlsReport.{asks_controls_report}
 use Rattle.af_tools.specs.Set.{asks_where, hooks}
-use Rattle.af_tool.proofs.PartProgressLemmas.{goes_value}
+use Rattle.af_toolkit.proofs.PartProgressLemmas.{goes_value}
 
 module _ (asked : Asked) (w : ClientState) (left : Option (List ℕ)) (wire : List ℕ → ClientState) (s s' h h' : Option (List ℕ)) where
   pub goes_where : (b : Bool) (r : Result (Unit {0}) ToolEnd) → b ≡ true → ObservedPart (asks asked as_done w) r left wire s s' h h' → ObservedPart (asks_where b asked w) r left wire s s' h h'
@@ -23,8 +23,8 @@ pub goes_nowhere : (b : Bool) (asked : Asked) (input : List ℕ) (left : Option 
 goes_nowhere b asked input left wire s h is told = subst (λ (x : Bool). ObservedPart (asks_where x asked (wire input)) (Ok tt) left wire s s h h) (sym is) (goes_value (asks_where false asked (wire input)) tt input left wire s h told (λ next. refl))
 
 -- what is left of setting after the hook, and after the controls that were set
-abbrev pub behind_hook : SetJob → DeviceInfo → ClientState → TracePart Standing
-behind_hook job device w = asks_standing device.line job.device w
+abbrev pub behind_hook : SetJob → DeviceInfo → ClientState → TracePart ControlsReport
+behind_hook job device w = asks_controls_report device.line job.device w
 
-abbrev pub behind_set : SetJob → DeviceInfo → ClientState → TracePart Standing
+abbrev pub behind_set : SetJob → DeviceInfo → ClientState → TracePart ControlsReport
 behind_set job device w = λ next. hooks job.device job.hook_off w (λ _ w. behind_hook job device w next)

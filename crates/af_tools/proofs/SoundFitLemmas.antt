@@ -11,17 +11,17 @@ use Rattle.af_sound.specs.Fronts.{front_of, Front}
 use Rattle.af_sound.proofs.FrontLemmas.{front}
 use Rattle.af_request.specs.declared.reply.DeviceInfo.{DeviceInfo}
 use Rattle.af_cli.specs.declared.job.PlayJob.{PlayJob}
-use Rattle.af_tool.specs.declared.end.ToolEnd.{ToolEnd}
-use Rattle.af_tool.specs.Trace.{Trace, Finish, channel_mismatch, ends, mismatch, tool_end, too_long}
-use Rattle.af_tool.specs.Ends.{ObservedTrace}
+use Rattle.af_toolkit.specs.declared.end.ToolEnd.{ToolEnd}
+use Rattle.af_toolkit.specs.Trace.{Trace, Finish, channel_mismatch, ends, mismatch, tool_end, too_long}
+use Rattle.af_toolkit.specs.Ends.{ObservedTrace}
 use Rattle.af_io.proofs.AppendedLemmas.{appended_none}
-use Rattle.af_tool.proofs.TracePartLemmas.{ended_at_once}
+use Rattle.af_toolkit.proofs.TracePartLemmas.{ended_at_once}
 use Rattle.af_tools.specs.declared.sound.SourceSound.{SourceSound}
-use Rattle.af_tool.proofs.FollowedLemmas.{followed_early}
+use Rattle.af_toolkit.proofs.FollowedLemmas.{followed_early}
 use Rattle.af_tools.proofs.DeviceChoiceLemmas.{followed_same}
 use Rattle.af_tools.specs.Limits.{most_bytes}
 use Rattle.af_tools.specs.Sounds.{at_one_shape, file_sound, reads_front, reads_sound}
-use Rattle.af_tools.specs.SoundReads.{ends_shape, SoundCame}
+use Rattle.af_tools.specs.Reading.{ends_shape, SoundCame}
 
 unfit : (b c : Bool) (how : ToolEnd) (x y : Finish) → (let r : Result (Unit {0}) ToolEnd = Err how in r ≡ (if b then (if c then Ok tt else Err (tool_end x)) else Err (tool_end y))) →
     (finish : Finish) × (how ≡ tool_end finish) × ((next : Trace) → (if b then (if c then next else ends x) else ends y) ≡ ends finish)
@@ -37,7 +37,7 @@ fit false c x y is next = absurd cc
 
 module _ (form : SoundForm) (job : PlayJob) (device : DeviceInfo) (bytes : List ℕ) (head : SoundHead) (size : ℕ) (left : Option (List ℕ))
     (is_form : Some form ≡ job.form) (said : front_of form bytes ≡ front (step.Head head) size) (few : size ≤ most_bytes) where
-  -- the head was read
+  -- the header was read
   behind_head : (next : SourceSound → List ℕ → Trace) → reads_sound job.form job device bytes next ≡ at_one_shape head device (next (file_sound device head size) (drop size bytes))
   behind_head next =
       let test : nat_lt most_bytes size ≡ false = grind (arith, nat_tests) in

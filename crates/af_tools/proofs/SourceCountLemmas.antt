@@ -1,37 +1,31 @@
--- How much of a source was given, and how much of a sound is left.
-use Rattle.std.proofs.Common.{arith, inl, inr, IsSome, ◌⊎◌, ◌≡◌, ◌≤◌, ◌<◌, ◌+◌, ◌-◌, ◌/◌, ◌*◌, ℕ, List, ◌++◌, length, take, refl, sym, ap, ◌∙◌, subst, IsErrOf, length-append, length-take-le}
+-- How much of a source was given, how much of a sound is left, and what aplay made of its source.
+use Rattle.std.proofs.Common.{arith, inl, inr, ◌⊎◌, ◌≡◌, ◌≤◌, ◌<◌, ◌+◌, ◌-◌, ◌/◌, ◌*◌, ℕ, List, [], ◌++◌, length, take, refl, sym, ap, ◌∙◌, subst, IsErrOf, length-append, length-take-le, true}
 use Rattle.std.proofs.Math.Nat.{div-lt_iff_lt-mul, div-mul-le_self}
-use Rattle.std.specs.Prelude.{Err}
+use Rattle.std.specs.Prelude.{Result, Ok, Err}
 use Rattle.std.specs.declared.option.Option.{Option}
 use Rattle.std.specs.declared.option.Option.TheVariants.{None, Some}
-use Rattle.af_io.specs.Observed.{Consumed}
-use Rattle.af_tool.specs.declared.end.ToolEnd.{ToolEnd}
-use Rattle.af_tool.specs.declared.end.ToolEnd.TheVariants as end
+use Rattle.af_io.specs.Observed.{Consumed, CountsFault, FaultCounted}
+use Rattle.af_toolkit.specs.declared.end.ToolEnd.{ToolEnd}
+use Rattle.af_toolkit.specs.declared.end.ToolEnd.TheVariants as end
 use Rattle.af_tools.specs.declared.fill.FillFault.{FillFault}
 use Rattle.af_tools.specs.declared.fill.FillFault.TheVariants as fill
 use Rattle.af_sound.specs.declared.head.SoundForm.{SoundForm}
 use Rattle.af_io.specs.Flow.{IsSpent}
 use Rattle.af_tools.specs.Limits.{most_bytes}
-use Rattle.af_tools.specs.Fill.{fill_end, left_before, ConsumedAbove, ConsumedBeyond, ConsumedBeyondMost, ConsumedHead, ConsumedSound, ConsumedStated, ConsumedUpTo, ConsumedWithinMost, HeadIs}
+use Rattle.af_tools.specs.Fill.{fill_end, left_before, ConsumedBeyondMost, ConsumedHead, ConsumedSound, ConsumedUpTo, ConsumedWithinMost, FillsBlock, HeadIs, IsFirstBlock, TakesSound}
 use Rattle.af_tools.specs.Sounds.{stated_behind, FitsStated}
-use Rattle.af_io.proofs.ConsumedLemmas.{consumed_on, consumed_told}
+use Rattle.af_io.proofs.ConsumedLemmas.{consumed_none, consumed_on}
+use Rattle.af_tools.proofs.EndLemmas.{err_of, of_err, never}
 use Rattle.af_tools.proofs.PlayBlockLemmas.{ConsumedAll}
-
--- a fault of reading is one of two
-pub fault_cases : (P : ToolEnd → Type 0) (fault : FillFault) → (IsErrOf {T = ℕ} (Err fault) fill.TooLong → P end.TooLong) → (IsErrOf {T = ℕ} (Err fault) fill.ReadFault → P end.ReadFault) → P (fill_end fault)
-fault_cases P fill.ReadFault long failed = failed refl
-fault_cases P fill.TooLong long failed = long refl
-
--- the same by the fault itself
-pub fault_known : (P : ToolEnd → Type 0) (fault : FillFault) → (fault ≡ fill.TooLong → P end.TooLong) → (fault ≡ fill.ReadFault → P end.ReadFault) → P (fill_end fault)
-fault_known P fill.ReadFault long failed = failed refl
-fault_known P fill.TooLong long failed = long refl
+use Rattle.af_toolkit.specs.Ends.{is_of_report}
+use Rattle.af_tools.specs.Reading.{UsesSource, is_of_sound, TakesFront}
+use Rattle.af_tools.specs.Outcomes.{is_of_blocks}
 
 -- what was given so far, and a block more
-given_on : (n given : ℕ) (a b c : Option (List ℕ)) (block : List ℕ) → ConsumedAll given a b → Consumed b (take n block) c → n ≤ length block → ConsumedAll (given + n) a c
-given_on n given a b c block so_far consumed fits = record {
+pub given_on : {room allowed n given : ℕ} {len : Option ℕ} {block : List ℕ} {a b c : Option (List ℕ)} → ConsumedAll given a b → IsFirstBlock room allowed len n block b c → n ≤ length block → ConsumedAll (given + n) a c
+given_on {n} {block} {a} {b} {c} so_far more fits = record {
   bytes = so_far.bytes ++ take n block;
-  consumed = consumed_on a b c so_far.bytes (take n block) so_far.consumed consumed;
+  consumed = consumed_on a b c so_far.bytes (take n block) so_far.consumed more.consumed;
   all = (let all = so_far.all in let len = length-take-le n block fits in omega (arith, length-append so_far.bytes (take n block)));
 }
 
@@ -40,58 +34,65 @@ pub read_before : (block : List ℕ) (after : Option (List ℕ)) → Consumed (l
 read_before block None = tt
 read_before block (Some rest) = refl
 
--- what was given with the block that stands in a room
-pub block_given : (n given : ℕ) (a left : Option (List ℕ)) (room : List ℕ) {size : ℕ} → ConsumedAll given a (left_before (take n room) left) → n ≤ size → length room ≡ size → ConsumedAll (given + n) a left
-block_given n given a left room so_far within sized =
-    given_on n given a (left_before (take n room) left) left room so_far (read_before (take n room) left) (subst (λ (k : ℕ). n ≤ k) (sym sized) within)
-
-pub before_is : (block : List ℕ) (b c : Option (List ℕ)) → Consumed b block c → IsSome c → left_before block c ≡ b
-before_is block b None consumed told = cc told
-before_is block None (Some z) consumed told = absurd consumed
-before_is block (Some y) (Some z) consumed told = ap (λ (l : List ℕ). Some l) (sym consumed)
-
--- what was given before a block that was read
-pub given_before : (given : ℕ) (a b c : Option (List ℕ)) (block : List ℕ) → ConsumedAll given a b → Consumed b block c → ConsumedAll given a (left_before block c)
-given_before given a b c block so_far more = record { bytes = so_far.bytes; consumed = before a b c so_far.consumed more; all = so_far.all } where
-  before : (a b c : Option (List ℕ)) → Consumed a so_far.bytes b → Consumed b block c → Consumed a so_far.bytes (left_before block c)
-  before a b None h k = tt
-  before a None (Some z) h k = absurd k
-  before None (Some y) (Some z) h k = absurd h
-  before (Some x) (Some y) (Some z) h k = h ∙ ap (λ (l : List ℕ). so_far.bytes ++ l) k
-
 -- what a source gave, with a block that was read first
-pub consumed_first : (a b c : Option (List ℕ)) (block all : List ℕ) → Consumed a block b → Consumed (left_before block b) all c → Consumed a all c
+consumed_first : (a b c : Option (List ℕ)) (block all : List ℕ) → Consumed a block b → Consumed (left_before block b) all c → Consumed a all c
 consumed_first a b None block all h k = tt
 consumed_first a None (Some z) block all h k = absurd k
 consumed_first None (Some y) (Some z) block all h k = absurd h
 consumed_first (Some x) (Some y) (Some z) block all h k = h ∙ k
 
-pub first_up_to : (most : ℕ) (a b c : Option (List ℕ)) (block : List ℕ) → Consumed a block b → ConsumedUpTo most (left_before block b) c → ConsumedUpTo most a c
-first_up_to most a b c block h more = record { bytes = more.bytes; consumed = consumed_first a b c block more.bytes h more.consumed; within = more.within }
+module _ {X : Type 0} {len : Option ℕ} {most : ℕ} where
+  -- the first block of a sound was read, and then the others
+  pub takes_first : {room allowed n : ℕ} {of : Option ℕ} {block : List ℕ} {r : Result X ToolEnd} {a b c : Option (List ℕ)} → IsFirstBlock room allowed of n block a b → TakesSound len most r (left_before (take n block) b) c → TakesSound len most r a c
+  takes_first {n} {block} {a} {b} {c} h t = record { bytes = t.bytes; consumed = consumed_first a b c (take n block) t.bytes h.consumed t.consumed; spent = t.spent; long = t.long; within = t.within }
 
-pub first_beyond : (most : ℕ) (a b c : Option (List ℕ)) (block : List ℕ) → Consumed a block b → ConsumedBeyond most (left_before block b) c → ConsumedBeyond most a c
-first_beyond most a b c block h more = record { bytes = more.bytes; consumed = consumed_first a b c block more.bytes h more.consumed; beyond = more.beyond }
+  -- a part that is done, or ends for another cause than the size of the source
+  pub takes_all : {x : X} {n : ℕ} {a b : Option (List ℕ)} → ConsumedAll n a b → n ≤ most → IsSpent b ⊎ (len ≡ Some n) → TakesSound len most (Ok x) a b
+  takes_all {n} {b} given few spent = record {
+    bytes = given.bytes;
+    consumed = given.consumed;
+    spent = subst (λ (k : ℕ). IsSpent b ⊎ (len ≡ Some k)) (sym given.all) spent;
+    long = λ bad. cc bad;
+    within = λ _. subst (λ (k : ℕ). k ≤ most) (sym given.all) few;
+  }
 
-pub first_stated : (len : Option ℕ) (a b c : Option (List ℕ)) (block : List ℕ) → Consumed a block b → IsSpent c ⊎ ConsumedStated len (left_before block b) c → IsSpent c ⊎ ConsumedStated len a c
-first_stated len a b c block h (inl spent) = inl spent
-first_stated len a b c block h (inr more) = inr (record { bytes = more.bytes; consumed = consumed_first a b c block more.bytes h more.consumed; all = more.all })
+  pub takes_some : {how : ToolEnd} {a b : Option (List ℕ)} → ConsumedUpTo most a b → (how ≡ end.TooLong → ⊥) → TakesSound {X = X} len most (Err how) a b
+  takes_some given other = record { bytes = given.bytes; consumed = given.consumed; spent = tt; long = λ bad. absurd (other (cc bad)); within = λ _. given.within }
 
-pub given_up_to : (most given : ℕ) (a b c : Option (List ℕ)) → ConsumedAll given a b → given ≤ most → ConsumedUpTo (most - given) b c → ConsumedUpTo most a c
-given_up_to most given a b c so_far within more = record {
-  bytes = so_far.bytes ++ more.bytes;
-  consumed = consumed_on a b c so_far.bytes more.bytes so_far.consumed more.consumed;
-  within = (let all = so_far.all in let few = more.within in omega (arith, length-append so_far.bytes more.bytes));
-}
+  -- one that ends as reading a block does, after so many bytes
+  pub takes_fault : {n room allowed : ℕ} {left : Option ℕ} {bytes : List ℕ} {a b c : Option (List ℕ)} (fault : FillFault) → ConsumedAll n a b → FillsBlock room allowed left (Err fault) bytes b c → n + allowed ≡ most → TakesSound {X = X} len most (Err (fill_end fault)) a c
+  takes_fault {a} {b} {c} fill.ReadFault given block limit =
+      let more = block.cut refl in
+      let all = given.all in
+      let within = more.within in
+      takes_some (record { bytes = given.bytes ++ more.bytes; consumed = consumed_on a b c given.bytes more.bytes given.consumed more.consumed; within = omega (arith, length-append given.bytes more.bytes) }) (λ e. cc e)
+  takes_fault {a} {b} {c} fill.TooLong given block limit =
+      let more = block.long refl in
+      let all = given.all in
+      let beyond = more.beyond in
+      record {
+        bytes = given.bytes ++ more.bytes;
+        consumed = consumed_on a b c given.bytes more.bytes given.consumed more.consumed;
+        spent = tt;
+        long = λ _. omega (arith, length-append given.bytes more.bytes);
+        within = λ other. absurd (other refl);
+      }
 
-pub given_too_much : (most given room : ℕ) (a b c : Option (List ℕ)) → ConsumedAll given a b → given ≤ most → ConsumedAbove (most - given) room b c → ConsumedBeyond most a c
-given_too_much most given room a b c so_far within more = record {
-  bytes = so_far.bytes ++ more.bytes;
-  consumed = consumed_on a b c so_far.bytes more.bytes so_far.consumed more.consumed;
-  beyond = (let all = so_far.all in let many = more.beyond in omega (arith, length-append so_far.bytes more.bytes));
-}
+  -- the same end, or another value
+  pub takes_end : {Y : Type 0} {how : ToolEnd} {a b : Option (List ℕ)} → TakesSound {X = Y} len most (Err how) a b → TakesSound {X = X} len most (Err how) a b
+  takes_end {Y} {how} t = record { bytes = t.bytes; consumed = t.consumed; spent = tt; long = λ bad. t.long (err_of how end.TooLong (of_err how end.TooLong bad)); within = λ other. t.within (λ bad. other (err_of how end.TooLong (of_err how end.TooLong bad))) }
 
-pub given_within : (most given : ℕ) (a b : Option (List ℕ)) → ConsumedAll given a b → given ≤ most → ConsumedUpTo most a b
-given_within most given a b all within = record { bytes = all.bytes; consumed = all.consumed; within = (let count = all.all in omega arith) }
+  pub takes_value : {Y : Type 0} {y : Y} {x : X} {a b : Option (List ℕ)} → TakesSound len most (Ok y) a b → TakesSound len most (Ok x) a b
+  takes_value t = record { bytes = t.bytes; consumed = t.consumed; spent = t.spent; long = λ bad. cc bad; within = λ _. t.within (λ bad. cc bad) }
+
+  pub takes_within : {x : X} {a b : Option (List ℕ)} → TakesSound len most (Ok x) a b → ConsumedUpTo most a b
+  takes_within t = record { bytes = t.bytes; consumed = t.consumed; within = t.within (λ bad. cc bad) }
+
+pub given_none : (a : Option (List ℕ)) → ConsumedAll 0 a a
+given_none a = record { bytes = []; consumed = consumed_none a; all = refl }
+
+pub given_within : {most n : ℕ} {a b : Option (List ℕ)} → ConsumedAll n a b → n ≤ most → ConsumedUpTo most a b
+given_within all within = record { bytes = all.bytes; consumed = all.consumed; within = (let count = all.all in omega arith) }
 
 -- fewer bytes than a frame has
 pub short_of : (n width : ℕ) → 0 < width → n / width ≡ 0 → n < width
@@ -109,7 +110,7 @@ pub rest_begin : (of : Option ℕ) → of ≡ stated_behind of 0
 rest_begin None = refl
 rest_begin (Some n) = ap (λ (k : ℕ). Some k) (let same : n ≡ n - 0 = omega arith in same)
 
--- a block more fits what is stated, if it fits what is left of that
+-- one more block fits what is stated, if it fits what is left of that
 pub fits_on : (of left : Option ℕ) (given n : ℕ) → left ≡ stated_behind of given → FitsStated of given → FitsStated left n → FitsStated of (given + n)
 fits_on None left given n is fits more = tt
 fits_on (Some m) None given n is fits more = cc is
@@ -124,66 +125,86 @@ rest_on of left after given n is then = then ∙ ap (λ (l : Option ℕ). stated
   twice (Some m) = ap (λ (k : ℕ). Some k) (let same : m - given - n ≡ m - (given + n) = omega arith in same)
 
 -- all that was stated was given
-pub stated_all : (of left : Option ℕ) (given n : ℕ) (a b : Option (List ℕ)) → left ≡ stated_behind of given → FitsStated of given → left ≡ Some n → ConsumedAll (given + n) a b → ConsumedStated of a b
-stated_all None left given n a b is fits all given_all = absurd (let bad : (let o : Option ℕ = None in o) ≡ Some n = sym is ∙ all in cc)
-stated_all (Some m) left given n a b is fits all given_all = record {
-  bytes = given_all.bytes;
-  consumed = given_all.consumed;
-  all = (
-      let same : Some (m - given) ≡ Some n = sym is ∙ all in
-      let count : m - given ≡ n = cc in
-      let len = given_all.all in
-      let whole : m ≡ length given_all.bytes = omega arith in
-      ap (λ (k : ℕ). Some k) whole
-      );
-}
-
--- a source that tells what is left told it before a part that was read
-pub told_before : (how : ToolEnd) (most : ℕ) (a b : Option (List ℕ)) → (how ≡ end.TooLong → ConsumedBeyond most a b) → ((how ≡ end.TooLong → ⊥) → ConsumedUpTo most a b) → IsSome b → IsSome a
-told_before end.TooLong most a b long within tells = let l = long refl in consumed_told a b l.bytes l.consumed tells
-told_before end.Done most a b long within tells = let w = within (λ e. cc) in consumed_told a b w.bytes w.consumed tells
-told_before end.Usage most a b long within tells = let w = within (λ e. cc) in consumed_told a b w.bytes w.consumed tells
-told_before end.DialFault most a b long within tells = let w = within (λ e. cc) in consumed_told a b w.bytes w.consumed tells
-told_before end.LinkFault most a b long within tells = let w = within (λ e. cc) in consumed_told a b w.bytes w.consumed tells
-told_before end.LinkEnded most a b long within tells = let w = within (λ e. cc) in consumed_told a b w.bytes w.consumed tells
-told_before (end.NoDevice devices) most a b long within tells = let w = within (λ e. cc) in consumed_told a b w.bytes w.consumed tells
-told_before (end.RateMismatch from to) most a b long within tells = let w = within (λ e. cc) in consumed_told a b w.bytes w.consumed tells
-told_before (end.ChannelMismatch from to) most a b long within tells = let w = within (λ e. cc) in consumed_told a b w.bytes w.consumed tells
-told_before (end.BadSound f) most a b long within tells = let w = within (λ e. cc) in consumed_told a b w.bytes w.consumed tells
-told_before end.SoundCut most a b long within tells = let w = within (λ e. cc) in consumed_told a b w.bytes w.consumed tells
-told_before (end.Refused code value) most a b long within tells = let w = within (λ e. cc) in consumed_told a b w.bytes w.consumed tells
-told_before (end.BadReply header first) most a b long within tells = let w = within (λ e. cc) in consumed_told a b w.bytes w.consumed tells
-told_before end.EventFlood most a b long within tells = let w = within (λ e. cc) in consumed_told a b w.bytes w.consumed tells
-told_before end.ReadFault most a b long within tells = let w = within (λ e. cc) in consumed_told a b w.bytes w.consumed tells
-told_before end.SinkFault most a b long within tells = let w = within (λ e. cc) in consumed_told a b w.bytes w.consumed tells
-told_before end.OutOfMemory most a b long within tells = let w = within (λ e. cc) in consumed_told a b w.bytes w.consumed tells
+pub stated_all : (of left : Option ℕ) (given : ℕ) {n : ℕ} (c : Option (List ℕ)) → left ≡ stated_behind of given → FitsStated of given → IsSpent c ⊎ (left ≡ Some n) → IsSpent c ⊎ (of ≡ Some (given + n))
+stated_all of left given c is fits (inl spent) = inl spent
+stated_all None left given {n} c is fits (inr all) = absurd (let bad : (let o : Option ℕ = None in o) ≡ Some n = sym is ∙ all in cc)
+stated_all (Some m) left given {n} c is fits (inr all) =
+    let same : Some (m - given) ≡ Some n = sym is ∙ all in
+    let count : m - given ≡ n = cc in
+    inr (ap (λ (k : ℕ). Some k) (let whole : m ≡ given + n = omega arith in whole))
 
 -- what was read of a source with the bytes before its sound
-pub head_within : (form : Option SoundForm) (n : ℕ) (len : Option ℕ) (a b c : Option (List ℕ)) → ConsumedHead form n len a b → ConsumedUpTo (most_bytes - n) b c → ConsumedWithinMost a c
-head_within form n len a b c h more = record {
-  bytes = h.bytes ++ more.bytes;
-  consumed = consumed_on a b c h.bytes more.bytes h.consumed more.consumed;
-  within = (let all = h.all in let few = more.within in let most = h.within in omega (arith, length-append h.bytes more.bytes));
+module _ {form : Option SoundForm} {n : ℕ} {len : Option ℕ} {X : Type 0} {r : Result X ToolEnd} {a b c : Option (List ℕ)} (h : ConsumedHead form n len a b) (t : TakesSound len (most_bytes - n) r b c) where
+  pub head_within : (IsErrOf r end.TooLong → ⊥) → ConsumedWithinMost a c
+  head_within other = record {
+    bytes = h.bytes ++ t.bytes;
+    consumed = consumed_on a b c h.bytes t.bytes h.consumed t.consumed;
+    within = (let all = h.all in let few = t.within other in let most = h.within in omega (arith, length-append h.bytes t.bytes));
+  }
+
+  pub head_beyond : IsErrOf r end.TooLong → ConsumedBeyondMost a c
+  head_beyond bad = record {
+    bytes = h.bytes ++ t.bytes;
+    consumed = consumed_on a b c h.bytes t.bytes h.consumed t.consumed;
+    beyond = (let all = h.all in let many = t.long bad in let most = h.within in omega (arith, length-append h.bytes t.bytes));
+  }
+
+pub sound_spent : {form : Option SoundForm} {n most : ℕ} {len : Option ℕ} {X : Type 0} {x : X} {a b c : Option (List ℕ)} → ConsumedHead form n len a b → TakesSound len most (Ok x) b c → IsSpent c ⊎ ConsumedSound form a c
+sound_spent {form} {a} {b} {c} h t = elim (t.spent) [
+  | inl spent ↦ inl spent
+  | inr all ↦ inr (record {
+    front = h.bytes;
+    sound = t.bytes;
+    consumed = consumed_on a b c h.bytes t.bytes h.consumed t.consumed;
+    is_head = subst (λ (l : Option ℕ). HeadIs form h.bytes l) all h.is_head;
+  })
+]
+
+counted_before : (k m : ℕ) → k ≤ m → (p : ℕ) → FaultCounted m p → FaultCounted k p
+counted_before k m below p counted = omega arith
+
+module _ {S X : Type 0} (left : S → Option (List ℕ)) (faults : S → ℕ) {form : Option SoundForm} (how : ToolEnd) {source middle source' : S} {n : ℕ} {len : Option ℕ} (h : ConsumedHead form n len (left source) (left middle)) (count : faults source ≤ faults middle) where
+  -- the sound was played, and that was written or not
+  pub played_use : {x : X} → TakesSound len (most_bytes - n) (Ok x) (left middle) (left source') → faults middle ≤ faults source' → is_of_report how ≡ true → UsesSource left faults true form how source source'
+  played_use t counts is = record {
+    untouched = λ e. cc e;
+    memory = λ same. absurd (never is_of_report how end.OutOfMemory is refl same);
+    unfound = λ n same. absurd (never is_of_report how (end.NoDevice n) is refl same);
+    spent = λ _ _. sound_spent h t;
+    long = λ same. absurd (never is_of_report how end.TooLong is refl same);
+    within = λ _. head_within h t (λ bad. cc bad);
+    bad = λ f same. absurd (never is_of_report how (end.BadSound f) is refl same);
+    cut = λ same. absurd (never is_of_report how end.SoundCut is refl same);
+    failed = (omega arith, λ same. absurd (never is_of_report how end.ReadFault is refl same));
+  }
+
+  -- the tool ended within the sound
+  pub refused_use : TakesSound {X = X} len (most_bytes - n) (Err how) (left middle) (left source') → CountsFault (IsErrOf {T = X} (Err how) end.ReadFault) (faults middle) (faults source') → is_of_blocks how ≡ true → UsesSource left faults true form how source source'
+  refused_use t counts is =
+      let later = counts.0 in
+      record {
+        untouched = λ e. cc e;
+        memory = λ same. absurd (never is_of_blocks how end.OutOfMemory is refl same);
+        unfound = λ n same. absurd (never is_of_blocks how (end.NoDevice n) is refl same);
+        spent = λ same _. absurd (never is_of_blocks how end.Done is refl same);
+        long = λ same. head_beyond h t (err_of how end.TooLong same);
+        within = λ other. head_within h t (λ bad. other (of_err how end.TooLong bad));
+        bad = λ f same. absurd (never is_of_blocks how (end.BadSound f) is refl same);
+        cut = λ same. absurd (never is_of_blocks how end.SoundCut is refl same);
+        failed = (omega arith, λ same. counted_before (faults source) (faults middle) count (faults source') (counts.1 (err_of how end.ReadFault same)));
+      }
+
+-- the tool ended for the front of the source, or for its device
+pub unsound_use : {S X : Type 0} (left : S → Option (List ℕ)) (faults : S → ℕ) {form : Option SoundForm} (how : ToolEnd) {source source' : S} → TakesFront {X = X} form (Err how) (left source) (left source') →
+    CountsFault (IsErrOf {T = X} (Err how) end.ReadFault) (faults source) (faults source') → is_of_sound how ≡ true → UsesSource left faults true form how source source'
+unsound_use left faults how t counts is = record {
+  untouched = λ e. cc e;
+  memory = λ same. absurd (never is_of_sound how end.OutOfMemory is refl same);
+  unfound = λ n same. absurd (never is_of_sound how (end.NoDevice n) is refl same);
+  spent = λ same _. absurd (never is_of_sound how end.Done is refl same);
+  long = λ same. t.long (err_of how end.TooLong same);
+  within = λ other. t.within (λ bad. other (of_err how end.TooLong bad));
+  bad = λ f same. t.bad f (err_of how (end.BadSound f) same);
+  cut = λ same. t.cut (err_of how end.SoundCut same);
+  failed = (counts.0, λ same. counts.1 (err_of how end.ReadFault same));
 }
-
-pub head_beyond : (form : Option SoundForm) (n : ℕ) (len : Option ℕ) (a b c : Option (List ℕ)) → ConsumedHead form n len a b → ConsumedBeyond (most_bytes - n) b c → ConsumedBeyondMost a c
-head_beyond form n len a b c h more = record {
-  bytes = h.bytes ++ more.bytes;
-  consumed = consumed_on a b c h.bytes more.bytes h.consumed more.consumed;
-  beyond = (let all = h.all in let many = more.beyond in let most = h.within in omega (arith, length-append h.bytes more.bytes));
-}
-
-pub sound_spent : (form : Option SoundForm) (n : ℕ) (len : Option ℕ) (a b c : Option (List ℕ)) → ConsumedHead form n len a b → IsSpent c ⊎ ConsumedStated len b c → IsSpent c ⊎ ConsumedSound form a c
-sound_spent form n len a b c h (inl spent) = inl spent
-sound_spent form n len a b c h (inr s) = inr (record {
-  front = h.bytes;
-  sound = s.bytes;
-  consumed = consumed_on a b c h.bytes s.bytes h.consumed s.consumed;
-  is_head = subst (λ (l : Option ℕ). HeadIs form h.bytes l) s.all h.is_head;
-})
-
--- a sound was played to its end: that of the source, or that of the stated length
-pub spent_or_all : (of left : Option ℕ) (given n : ℕ) (room : List ℕ) (a c : Option (List ℕ)) {size : ℕ} → left ≡ stated_behind of given → FitsStated of given → ConsumedAll given a (left_before (take n room) c) → n ≤ size → length room ≡ size →
-    IsSpent c ⊎ (left ≡ Some n) → IsSpent c ⊎ ConsumedStated of a c
-spent_or_all of left given n room a c is fits so_far within sized (inl spent) = inl spent
-spent_or_all of left given n room a c is fits so_far within sized (inr all) = inr (stated_all of left given n a c is fits all (block_given n given a c room so_far within sized))

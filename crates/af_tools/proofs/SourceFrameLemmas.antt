@@ -16,16 +16,13 @@ use Rattle.af_cli.proofs.FrameSizeLemmas.{some_bytes}
 use Rattle.af_tools.specs.Limits.{most_bytes}
 use Rattle.af_tools.specs.Play.{IsBlock}
 use Rattle.af_tools.specs.Sounds.{served_room, served_type, source_sample, source_width, AreWhole, IsServedAs}
-use Rattle.af_tools.proofs.ServedBlockLemmas.{some_size, source_size}
+use Rattle.af_tools.proofs.SentBlockLemmas.{some_size, source_size}
 use Rattle.af_tools.proofs.SourceCountLemmas.{short_of}
 
--- a sample has no more bytes in the source than as a server takes it
+-- a sample has at most as many bytes in the source as when a server takes it
 least_sample : (c : Coding) → sample_size c ≤ width_of (served_type c)
 least_sample coding.Mu255 = omega arith
-least_sample coding.Alaw = omega arith
-least_sample coding.Lin16Big = omega arith
-least_sample coding.Lin16Little = omega arith
-least_sample coding.U8 = omega arith
+least_sample c = omega arith
 
 source_least : (c : Option Coding) (to : SampleType) → IsServedAs c to → source_sample c to ≤ width_of to
 source_least None to is = omega arith
@@ -39,7 +36,7 @@ pub some_size_of : (c : Option Coding) (to : SampleType) (channels frames width 
 some_size_of c to channels frames width count some is =
     subst (λ (n : ℕ). 0 < frames * n) (sym is) (some_size (source_width c to channels) (source_size c to channels count) frames (omega arith))
 
--- a block of n bytes, behind so many that were given: it fits its room, which has a frame, and what a source may give
+-- a block of n bytes, after so many that were given: it fits its room, which has a frame, and what a source may give
 pub record BlockFits (n size width given : ℕ) : Type 0 where
   pub some : 0 < size
   pub frame : 0 < width
@@ -47,16 +44,16 @@ pub record BlockFits (n size width given : ℕ) : Type 0 where
   pub within : n ≤ size
   pub most : given + n ≤ most_bytes
 
-pub block_fits : (c : Option Coding) (to : SampleType) (channels frames width head given n : ℕ) → IsBlock to channels frames → width ≡ source_width c to channels → head ≤ most_bytes →
+pub block_fits : (c : Option Coding) {to : SampleType} {channels frames width head : ℕ} (given : ℕ) {n : ℕ} → IsBlock to channels frames → width ≡ source_width c to channels → head ≤ most_bytes →
     n ≤ frames * width → given + n ≤ most_bytes - head → BlockFits n (frames * width) width (head + given)
-block_fits c to channels frames width head given n b same low within permitted =
+block_fits c {to} {channels} {frames} {width} given b same low within permitted =
     let frame : 0 < width = subst (λ (k : ℕ). 0 < k) (sym same) (some_bytes (source_width c to channels) (source_size c to channels b.count)) in
     let wide : width ≤ frames * width = wide_of frames width b.some in
     record { some = omega arith; frame = frame; wide = wide; within = within; most = omega arith }
 
 -- one without a whole frame is short
-pub block_short : (n size width given : ℕ) → BlockFits n size width given → n / width ≡ 0 → n < size
-block_short n size width given b none =
+pub block_short : {n size width given : ℕ} → BlockFits n size width given → n / width ≡ 0 → n < size
+block_short {n} {width} b none =
     let less : n < width = short_of n width b.frame none in
     let wide = b.wide in
     omega arith
@@ -69,7 +66,7 @@ size_fits c to channels frames width is b same =
     let most = b.fits in
     subst (λ (n : ℕ). frames * n ≤ greatest_block) (sym same) (omega arith)
 
--- as a server takes it, too
+-- the same as a server takes it
 twice_as_many : (channels frames n : ℕ) → IsChannelCount channels → n ≤ frames * (1 * channels) → frames * (2 * channels) ≤ greatest_block → n * 2 ≤ greatest_block
 twice_as_many channels frames n count few most = elim (one_or_two channels count) [
   | inl one ↦
@@ -83,11 +80,8 @@ twice_as_many channels frames n count few most = elim (one_or_two channels count
 ]
 
 room_for : (c : Coding) (channels frames n : ℕ) → IsBlock (served_type c) channels frames → n ≤ frames * (sample_size c * channels) → n ≤ greatest_block → served_length c n ≤ greatest_block
-room_for coding.Mu255 channels frames n b few most = most
-room_for coding.Alaw channels frames n b few most = most
-room_for coding.Lin16Big channels frames n b few most = most
-room_for coding.Lin16Little channels frames n b few most = most
 room_for coding.U8 channels frames n b few most = twice_as_many channels frames n b.count few b.fits
+room_for c channels frames n b few most = most
 
 pub served_fits : (c : Option Coding) (to : SampleType) (channels frames width n : ℕ) → IsServedAs c to → IsBlock to channels frames → width ≡ source_width c to channels → n ≤ frames * width → served_room c n ≤ greatest_block
 served_fits None to channels frames width n is b same few = omega arith
@@ -105,12 +99,9 @@ even_frames channels n count = elim (one_or_two channels count) [
 ]
 
 are_whole : (c : Option Coding) (to : SampleType) (channels n : ℕ) → IsChannelCount channels → AreWhole c (n / source_width c to channels * source_width c to channels)
-are_whole None to channels n count = tt
-are_whole (Some coding.Mu255) to channels n count = tt
-are_whole (Some coding.Alaw) to channels n count = tt
 are_whole (Some coding.Lin16Big) to channels n count = even_frames channels n count
 are_whole (Some coding.Lin16Little) to channels n count = even_frames channels n count
-are_whole (Some coding.U8) to channels n count = tt
+are_whole c to channels n count = tt
 
 pub whole_samples : (c : Option Coding) (to : SampleType) (channels width n : ℕ) → IsChannelCount channels → width ≡ source_width c to channels → AreWhole c (n / width * width)
 whole_samples c to channels width n count same = subst (λ (k : ℕ). AreWhole c (n / k * k)) (sym same) (are_whole c to channels n count)

@@ -1,4 +1,4 @@
--- The trace of each tool ends in being done or refused, if its device is there and its source gives not too much.
+-- The trace of each tool ends in being done or refused, if its device exists and its source does not give too much.
 use Rattle.std.proofs.Common.{◌≡◌, ℕ, zero, suc, ◌+◌, ◌*◌, ◌/◌, ◌%◌, ◌^◌, ◌≤◌, nat_lt, Bool, true, false, List, [], ◌∷◌, length, take, drop, arith, if◌then◌else◌, length-take, length-drop}
 use Rattle.std.proofs.lemmas.Bool.Decides.{nat_tests}
 use Rattle.std.specs.declared.option.Option.{Option}
@@ -9,26 +9,26 @@ use Rattle.af_lib.specs.Calls.{as_done, as_time}
 use Rattle.af_cli.specs.declared.job.PlayJob.{PlayJob}
 use Rattle.af_cli.specs.declared.job.RecordJob.{RecordJob}
 use Rattle.af_cli.specs.declared.job.SetJob.{SetJob}
-use Rattle.af_tool.specs.Trace.{Trace, ClientState}
-use Rattle.af_tool.proofs.ToolEndLemmas.{IsDoneOrRefused, asked_finish}
-use Rattle.af_standing.specs.declared.standing.Standing.{Standing}
-use Rattle.af_standing.proofs.StandingLemmas.{standing_finish}
+use Rattle.af_toolkit.specs.Trace.{Trace, ClientState}
+use Rattle.af_toolkit.proofs.ToolEndLemmas.{IsDoneOrRefused, asked_finish}
+use Rattle.af_standing.specs.declared.controls_report.ControlsReport.{ControlsReport}
+use Rattle.af_standing.proofs.ControlsReportLemmas.{controls_report_finish}
 use Rattle.af_sound.specs.declared.head.Coding.{Coding}
 use Rattle.af_tools.specs.declared.sound.SourceSound.{SourceSound}
 use Rattle.af_tools.specs.Limits.{most_bytes}
 use Rattle.af_tools.specs.Sounds.{as_served, stated_part}
-use Rattle.af_tools.specs.Play.{block_time, blocks, cut, play_context, played_on, plays, plays_sound}
+use Rattle.af_tools.specs.Play.{block_time, blocks, cut_blocks, play_context, plays_on, plays, plays_sound}
 use Rattle.af_tools.specs.declared.record.RecordedSound.{RecordedSound}
 use Rattle.af_tools.specs.Files.{recorded_sound}
-use Rattle.af_tools.specs.Record.{ends_row, peak, record_context, recorded_on, records, writes_recording}
-use Rattle.af_tools.specs.Set.{asks_where, control_request, hooks, set_on, states_controls}
+use Rattle.af_tools.specs.Record.{ends_row, peak, record_context, records_on, records, writes_recording}
+use Rattle.af_tools.specs.Set.{asks_where, control_request, hooks, sets_on, states_controls}
 
 if_finish : (b : Bool) (c d : Trace) → IsDoneOrRefused c.finish → IsDoneOrRefused d.finish → IsDoneOrRefused (if b then c else d).finish
 if_finish true c d p q = p
 if_finish false c d p q = q
 
 plays_finish : (coding : Option Coding) (width start : ℕ) (n size sent given : ℕ) (bytes : List ℕ) (w : ClientState) (next : ℕ → ClientState → Trace) → given + length bytes ≤ most_bytes → ((frames : ℕ) (v : ClientState) → IsDoneOrRefused (next frames v).finish) →
-    IsDoneOrRefused (plays coding width start sent given (cut n size bytes) w next).finish
+    IsDoneOrRefused (plays coding width start sent given (cut_blocks n size bytes) w next).finish
 unfolding plays
 plays_finish coding width start zero size sent given bytes w next within more = more sent w
 plays_finish coding width start (suc n) size sent given [] w next within more = more sent w
@@ -39,7 +39,7 @@ plays_finish coding width start (suc n) size sent given (b ∷ bytes) w next wit
     let left = length-drop size (b ∷ bytes) in
     let fits : nat_lt most_bytes (given + length block) ≡ false = grind (arith, nat_tests) in
     rw fits (if_finish (nat_lt 0 (length block / width)) _ (next sent w)
-    (asked_finish (play_run false 1 (block_time start sent) (as_served coding (take (length block / width * width) block))) as_time w (λ _ v. plays coding width start (sent + length block / width) (given + length block) (cut n size rest) v next)
+    (asked_finish (play_run false 1 (block_time start sent) (as_served coding (take (length block / width * width) block))) as_time w (λ _ v. plays coding width start (sent + length block / width) (given + length block) (cut_blocks n size rest) v next)
     (λ _ v. plays_finish coding width start n size (sent + length block / width) (given + length block) rest v next (omega arith) more)) (more sent w))
 
 part_few : (of : Option ℕ) (bytes : List ℕ) → length (stated_part of bytes) ≤ length bytes
@@ -47,8 +47,8 @@ part_few None bytes = omega arith
 part_few (Some n) bytes = omega (arith, length-take n bytes)
 
 pub played_finish : (job : PlayJob) (sound : SourceSound) (device : DeviceInfo) (bytes : List ℕ) (w : ClientState) (next : ℕ → ℕ → ClientState → Trace) → sound.head + length bytes ≤ most_bytes → ((frames start : ℕ) (v : ClientState) → IsDoneOrRefused (next frames start v).finish) →
-    IsDoneOrRefused (played_on job sound device bytes w next).finish
-unfolding played_on plays_sound blocks
+    IsDoneOrRefused (plays_on job sound device bytes w next).finish
+unfolding plays_on plays_sound blocks
 played_finish job sound device bytes w next within more =
     asked_finish (play_context job sound.ty sound.channels) as_done w _ (λ _ v.
     asked_finish (get_time job.device) as_time v _ (λ now v.
@@ -63,8 +63,8 @@ records_finish job sound at before peaks (n ∷ lengths) w next more =
     asked_finish _ _ w _ (λ r v. if_finish (ends_row job (peak sound.ty r.samples ∷ peaks)) (next (before + n) v) _ (more (before + n) v)
     (records_finish job sound ((at + n) % 2 ^ 32) (before + n) (peak sound.ty r.samples ∷ peaks) lengths v next more))
 
-pub recorded_finish : (job : RecordJob) (device : DeviceInfo) (w : ClientState) (next : ClientState → Trace) → ((v : ClientState) → IsDoneOrRefused (next v).finish) → IsDoneOrRefused (recorded_on job device w next).finish
-unfolding recorded_on writes_recording
+pub recorded_finish : (job : RecordJob) (device : DeviceInfo) (w : ClientState) (next : ClientState → Trace) → ((v : ClientState) → IsDoneOrRefused (next v).finish) → IsDoneOrRefused (records_on job device w next).finish
+unfolding records_on writes_recording
 recorded_finish job device w next more =
     asked_finish (record_context job device) as_done w _ (λ _ v.
     asked_finish (get_time job.device) as_time v _ (λ now v.
@@ -79,9 +79,9 @@ hook_finish : (device : ℕ) (off : Option Bool) (w : ClientState) (next : Unit 
 hook_finish device (Some off) w next more = asked_finish _ as_done w next more
 hook_finish device None w next more = more tt w
 
-pub set_finish : (job : SetJob) (device : DeviceInfo) (w : ClientState) (next : Standing → ClientState → Trace) → ((s : Standing) (v : ClientState) → IsDoneOrRefused (next s v).finish) → IsDoneOrRefused (set_on job device w next).finish
-unfolding set_on
+pub set_finish : (job : SetJob) (device : DeviceInfo) (w : ClientState) (next : ControlsReport → ClientState → Trace) → ((s : ControlsReport) (v : ClientState) → IsDoneOrRefused (next s v).finish) → IsDoneOrRefused (sets_on job device w next).finish
+unfolding sets_on
 set_finish job device w next more =
     where_finish (states_controls job) (control_request job) w _ (λ _ v.
     hook_finish job.device job.hook_off v _ (λ _ v.
-    standing_finish device.line job.device v next more))
+    controls_report_finish device.line job.device v next more))

@@ -1,4 +1,4 @@
--- What arecord writes of what it records: samples as they are, or a sound file of them.
+-- What arecord writes of what it records: raw samples, or a sound file of them.
 use Rattle.std.specs.Prelude.{◌≡◌, ◌≢◌, ℕ, ◌*◌, ◌%◌, ◌==◌, ◌&&◌, nat_lt, if◌then◌else◌, ⊤, List, [], ◌∷◌, ◌++◌, length, option_map, unwrap_or}
 use Rattle.std.specs.declared.option.Option.{Option}
 use Rattle.std.specs.declared.option.Option.TheVariants.{None, Some}
@@ -11,30 +11,29 @@ use Rattle.af_sound.specs.declared.head.SoundForm.{SoundForm}
 use Rattle.af_sound.specs.declared.head.SoundForm.TheVariants.{Au, Wave}
 use Rattle.af_sound.specs.declared.head.SoundHead.{SoundHead}
 use Rattle.af_sound.specs.Fields.{unknown_length}
-use Rattle.af_sound.specs.Served.{filed}
-use Rattle.af_sound.specs.Written.{written}
+use Rattle.af_sound.specs.Served.{filed_bytes}
+use Rattle.af_sound.specs.Written.{written_head}
 use Rattle.af_request.specs.declared.reply.DeviceInfo.{DeviceInfo}
 use Rattle.af_cli.specs.declared.job.RecordJob.{RecordJob}
 use Rattle.af_tools.specs.declared.record.RecordedSound.{RecordedSound}
 use Rattle.af_tools.specs.Sounds.{served_type}
 
--- the type that is recorded: in a file, samples of 32 bits become some of 16
+-- the type that is recorded: in a file, samples of 32 bits become samples of 16
 abbrev pub recorded_type : Option SoundForm → SampleType → SampleType
 recorded_type (Some form) ty.Lin32 = ty.Lin16
 recorded_type (Some form) ty = ty
 recorded_type None ty = ty
 
--- how a file codes the samples of a type: those of 16 bits have the high byte first in an .au file, and the low one in a WAVE
--- file
+-- the coding of a sample type in a file: 16 bits have the most significant byte first in an .au file, and last in a WAVE file
 abbrev pub coding_in : SoundForm → SampleType → Coding
 coding_in form ty.Mu255 = coding.Mu255
 coding_in form ty.Alaw = coding.Alaw
 coding_in Au _ = coding.Lin16Big
 coding_in Wave _ = coding.Lin16Little
 
--- samples as they are written: as a file codes them, or as they are
+-- samples as they are written: as a file codes them, or raw
 abbrev pub as_filed : Option Coding → List ℕ → List ℕ
-as_filed (Some c) bytes = filed c bytes
+as_filed (Some c) bytes = filed_bytes c bytes
 as_filed None bytes = bytes
 
 -- the samples of a type are written in a coding that a server takes as this type
@@ -48,13 +47,13 @@ recorded_sound job device =
     let ty = recorded_type job.form (unwrap_or job.ty device.ty) in
     record { ty = ty; coding = option_map (λ form. coding_in form ty) job.form; channels = device.channels }
 
--- the length that a head states: that of all frames, each of so many bytes, if quiet cannot end the recording and a head can
+-- the length that a header states: that of all frames, each of so many bytes, if quiet cannot end the recording and a header can
 -- state it
 abbrev pub stated_length : RecordJob → (frame : ℕ) → Option ℕ
 stated_length job frame =
     if (job.stop_peak == 0) && nat_lt (job.frames * frame) unknown_length then Some (job.frames * frame) else None
 
--- the head of a file
+-- the header of a file
 abbrev pub file_head : SoundForm → RecordJob → DeviceInfo → SoundHead
 file_head form job device =
     let ty = (recorded_sound job device).ty in
@@ -65,25 +64,25 @@ file_head form job device =
       length = stated_length job (frame_bytes ty device.channels);
     }
 
--- what is written before the sound: the head, of a file
+-- what is written before the sound: the header of a file
 abbrev pub front_in : Option SoundForm → RecordJob → DeviceInfo → List ℕ
-front_in (Some form) job device = written form (file_head form job device)
+front_in (Some form) job device = written_head form (file_head form job device)
 front_in None job device = []
 
 abbrev pub front_of_recording : RecordJob → DeviceInfo → List ℕ
 front_of_recording job device = front_in job.form job device
 
--- and behind n bytes of it: a byte that makes the sound of a WAVE file even
+-- and after its n bytes: a byte that makes the sound of a WAVE file even
 abbrev pub pad_behind : Option SoundForm → ℕ → List ℕ
 pad_behind (Some Wave) size = if size % 2 == 1 then 0 ∷ [] else []
 pad_behind (Some Au) size = []
 pad_behind None size = []
 
--- the recording of some samples: a sound file of them, or as they are
+-- the recording of some samples: a sound file of them, or raw
 abbrev pub recording_of : RecordJob → DeviceInfo → List ℕ → List ℕ
 recording_of job device samples =
     front_of_recording job device ++ (as_filed (recorded_sound job device).coding samples ++ pad_behind job.form (length samples))
 
--- a job of the same samples that writes them as they are
+-- a job of the same samples that writes them raw
 abbrev pub as_raw : RecordJob → DeviceInfo → RecordJob
 as_raw job device = record (job) { form = None; ty = Some (recorded_sound job device).ty }

@@ -1,4 +1,4 @@
--- What aplay has sent and written where it is done, and what is heard of it.
+-- What aplay has sent and written when it is done, and what is heard of it.
 use Rattle.std.specs.Prelude.{◌≡◌, ℕ, ◌+◌, ◌/◌, ◌%◌, ◌^◌, ◌<◌, false, List, ◌++◌, length, slice_get, Ok}
 use Rattle.std.specs.List.{flat_map}
 use Rattle.std.specs.declared.option.Option.{Option}
@@ -7,7 +7,7 @@ use Rattle.af_time.specs.DeviceTime.{frames_lasting}
 use Rattle.af_time.specs.declared.DevTime.{DevTime}
 use Rattle.af_sample.specs.declared.sample_type.SampleType.{SampleType}
 use Rattle.af_sample.specs.SampleTypes.{frame_bytes}
-use Rattle.af_sample.specs.Heard.{heard, AcceptedPlay}
+use Rattle.af_sample.specs.Heard.{heard_sample, AcceptedPlay}
 use Rattle.af_io.specs.Observed.{Appended}
 use Rattle.af_wire.specs.declared.order.Order.{Order}
 use Rattle.af_request.specs.declared.reply.DeviceInfo.{DeviceInfo}
@@ -15,8 +15,8 @@ use Rattle.af_request.specs.Asked.{free_ac, get_time, play_run}
 use Rattle.af_request.specs.Requests.{request_bytes}
 use Rattle.af_lib.specs.Calls.{as_time}
 use Rattle.af_cli.specs.declared.job.PlayJob.{PlayJob}
-use Rattle.af_tool.specs.Trace.{ClientState, answer_on, after_reply}
-use Rattle.af_tools.specs.Play.{play_context, played, played_frames, start_at}
+use Rattle.af_toolkit.specs.Trace.{ClientState, answer_on, after_reply}
+use Rattle.af_tools.specs.Play.{play_context, played_text, played_frames, start_at}
 use Rattle.af_tools.specs.Sounds.{GivesSamples}
 use Rattle.af_tools.specs.Blocks.{gained_samples, sample_in, sent_blocks, AreAccepted, Block}
 
@@ -24,21 +24,21 @@ use Rattle.af_tools.specs.Blocks.{gained_samples, sample_in, sent_blocks, AreAcc
 abbrev pub play_of : Order → ℕ → Block → List ℕ
 play_of order start block = request_bytes order (play_run false 1 ((start + block.before) % 2 ^ 32) block.bytes)
 
--- the blocks of a job that are sent of such samples
+-- the blocks of a job that are sent for such samples
 abbrev pub blocks_sent : PlayJob → SampleType → (channels : ℕ) → List ℕ → List Block
 blocks_sent job ty channels samples = sent_blocks ty channels (played_frames job ty channels) samples
 
--- what is sent of samples of a type, of so many channels: a context is made and the time asked, each block is played, and the
--- context is freed
+-- what is sent for samples of a type, with so many channels: a context is made and the time asked for, each block is played, and
+-- the context is freed
 abbrev pub played_whole : Order → PlayJob → SampleType → (channels : ℕ) → List ℕ → ℕ → List ℕ
 played_whole order job ty channels samples start =
     request_bytes order (play_context job ty channels) ++ (request_bytes order (get_time job.device)
     ++ (flat_map (play_of order start) (blocks_sent job ty channels samples) ++ request_bytes order (free_ac 1)))
 
--- A job is done on the device with the samples that the source gives, raw or in a sound file, from a start on, which is stated or
--- follows the time that the device told, and which is written behind the number of whole frames. Where a device with the channels
--- that the context names accepts the blocks from a whole time on that is this start modulo 2^32, it plays the samples of the
--- source in each of them.
+-- A job is done on the device with the samples that the source gives, raw or in a sound file, from a start on. The start is
+-- stated, or follows the device's time, and is written after the number of whole frames. Take a device with the channels that the
+-- context names, which accepts the blocks from a whole time on that is this start modulo 2^32: it plays the samples of the source
+-- in each channel.
 pub record IsPlayed (job : PlayJob) (devices : List DeviceInfo) (bytes : List ℕ) (w : ClientState)
     (sent sent' held held' : Option (List ℕ)) : Type 0 where
   pub device : DeviceInfo
@@ -51,10 +51,10 @@ pub record IsPlayed (job : PlayJob) (devices : List DeviceInfo) (bytes : List �
   pub start : ℕ
   pub starts : start ≡ start_at job.time now.0 (frames_lasting device.rate job.lead)
   pub link : Appended sent (played_whole w.order job ty device.channels samples start) sent'
-  pub sink : Appended held (played (length samples / frame_bytes ty device.channels) start) held'
+  pub sink : Appended held (played_text (length samples / frame_bytes ty device.channels) start) held'
   pub hears : (whole : ℕ) (accepted : List AcceptedPlay) → whole % 2 ^ 32 ≡ start →
       AreAccepted ty device.channels job.gain whole (length samples / frame_bytes ty device.channels)
       (blocks_sent job ty device.channels samples) accepted →
       (i channel : ℕ) → i < length samples / frame_bytes ty device.channels → channel < device.channels →
-      heard device.channels accepted (whole + i) channel
+      heard_sample device.channels accepted (whole + i) channel
       ≡ sample_in device.channels (gained_samples ty job.gain samples) i channel

@@ -9,9 +9,7 @@ pub mod Recorded
 pub mod Set
 pub mod Outcomes
 pub mod Fill
-pub mod SoundReads
 pub mod Reading
 pub mod Unread
 pub mod Results
-pub mod Dialled
 pub mod Run

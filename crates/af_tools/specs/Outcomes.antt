@@ -1,8 +1,8 @@
--- The ends that a tool of one link may have, and those of its parts that do more than to send requests and take their replies.
+-- The ends that a tool of one link may have, and those of its parts that do more than send requests and take their replies.
 use Rattle.std.specs.Prelude.{Bool, true, false}
-use Rattle.af_tool.specs.declared.end.ToolEnd.{ToolEnd}
-use Rattle.af_tool.specs.declared.end.ToolEnd.TheVariants as end
-use Rattle.af_tool.specs.Ends.{is_of_link}
+use Rattle.af_toolkit.specs.declared.end.ToolEnd.{ToolEnd}
+use Rattle.af_toolkit.specs.declared.end.ToolEnd.TheVariants as end
+use Rattle.af_toolkit.specs.Ends.{is_of_link}
 
 -- the ends of a part that also reads the source
 abbrev pub is_of_blocks : ToolEnd → Bool
@@ -15,7 +15,7 @@ abbrev pub is_of_records : ToolEnd → Bool
 is_of_records end.SinkFault = true
 is_of_records how = is_of_link how
 
--- A tool may also end in another way than by its link, and for its source only if it reads one.
+-- A tool may also end in ways that its link does not cause. It ends for its source only if it reads one.
 abbrev pub is_of_tool : (reads : Bool) → ToolEnd → Bool
 is_of_tool reads end.Done = true
 is_of_tool reads (end.NoDevice devices) = true

@@ -1,14 +1,14 @@
--- What arecord has sent and written where it is done.
+-- What arecord has sent and written when it is done.
 use Rattle.std.specs.Prelude.{◌≡◌, ℕ, List, slice_get}
 use Rattle.std.specs.declared.option.Option.{Option}
 use Rattle.std.specs.declared.option.Option.TheVariants.{Some}
 use Rattle.af_io.specs.Observed.{Appended}
 use Rattle.af_request.specs.declared.reply.DeviceInfo.{DeviceInfo}
 use Rattle.af_cli.specs.declared.job.RecordJob.{RecordJob}
-use Rattle.af_tool.specs.declared.end.ToolEnd.{ToolEnd}
-use Rattle.af_tool.specs.declared.end.ToolEnd.TheVariants as end
-use Rattle.af_tool.specs.Trace.{ClientState}
-use Rattle.af_tool.specs.Ends.{client_of}
+use Rattle.af_toolkit.specs.declared.end.ToolEnd.{ToolEnd}
+use Rattle.af_toolkit.specs.declared.end.ToolEnd.TheVariants as end
+use Rattle.af_toolkit.specs.Trace.{ClientState}
+use Rattle.af_toolkit.specs.Ends.{client_of}
 use Rattle.af_lib.specs.Calls.{ConnState}
 use Rattle.af_tools.specs.Files.{as_raw, recording_of}
 use Rattle.af_tools.specs.Record.{arecord_output, arecord_sends}
@@ -24,7 +24,7 @@ pub record IsRecorded (job : RecordJob) (devices : List DeviceInfo) (w : ClientS
   pub link : Appended sent (arecord_sends (as_raw job device) devices w) sent'
   pub sink : Appended held (recording_of job device samples) held'
 
--- arecord, if it is done, over a connection whose link tells what it gives
+-- arecord, if it is done, over a connection whose link is observable
 abbrev pub LeavesRecording : {L K : Type 0} → (left sent : L → Option (List ℕ)) → (held : K → Option (List ℕ)) → RecordJob →
     ToolEnd → (conn conn' : ConnState L) → (sink sink' : K) → Type 0
 LeavesRecording left sent held job how conn conn' sink sink' = (input : List ℕ) → left conn.link ≡ Some input → how ≡ end.Done →

@@ -5,31 +5,31 @@ use Rattle.std.specs.declared.option.Option.TheVariants.{Some}
 use Rattle.af_request.specs.declared.reply.DeviceInfo.{DeviceInfo}
 use Rattle.af_lib.specs.Calls.{ConnState}
 use Rattle.af_cli.specs.declared.job.PlayJob.{PlayJob}
-use Rattle.af_tool.specs.declared.end.ToolEnd.{ToolEnd}
-use Rattle.af_tool.specs.declared.end.ToolEnd.TheVariants as end
-use Rattle.af_tool.specs.Trace.{Trace, ClientState, Finish, bad_sound, channel_mismatch, mismatch, sound_cut, tool_end}
-use Rattle.af_tool.specs.Ends.{is_outer, client_of, EndsByReply, ObservedTrace, IsAnswered}
+use Rattle.af_toolkit.specs.declared.end.ToolEnd.{ToolEnd}
+use Rattle.af_toolkit.specs.declared.end.ToolEnd.TheVariants as end
+use Rattle.af_toolkit.specs.Trace.{Trace, ClientState, Finish, bad_sound, channel_mismatch, mismatch, sound_cut, tool_end}
+use Rattle.af_toolkit.specs.Ends.{is_outer, client_of, EndsByReply, ObservedTrace, IsAnswered}
 use Rattle.af_tools.specs.Limits.{most_bytes}
 use Rattle.af_tools.specs.Play.{aplay_trace}
 use Rattle.af_tools.specs.Sounds.{IsPlayable}
 use Rattle.af_tools.specs.Intent.{IsPlayed}
 
--- A tool ran that is about the device with this number, by what its link gives. What the link was sent and the sink gained are
--- those of the trace, or prefixes of them where something from outside ended it. An end of a reply is that of the trace. With the
--- device there and an awaited reply for each request it is done, unless something from outside ended it.
+-- A tool ran that uses the device with this number, by what its link gives. What the link was sent, and what the sink gained, are
+-- those of the trace, or prefixes of them if something from outside ended it. An end for a reply is that of the trace. If the
+-- device exists and each request gets its reply it is done, unless something from outside ended it.
 pub record ToolRan (trace : Trace) (device : ℕ) (devices : List DeviceInfo) (how : ToolEnd)
     (sent sent' held held' : Option (List ℕ)) : Type 0 where
   pub followed : ObservedTrace trace how sent sent' held held'
   pub reply : EndsByReply trace how
   pub complete : device < length devices → IsAnswered trace → (how ≡ end.Done) ⊎ (is_outer how ≡ true)
 
--- the same over a connection whose link tells what it gives
+-- the same over a connection whose link is observable
 abbrev pub RunsTool : {L K : Type 0} → (left sent : L → Option (List ℕ)) → (held : K → Option (List ℕ)) →
     (ClientState → Trace) → ℕ → ToolEnd → (conn conn' : ConnState L) → (sink sink' : K) → Type 0
 RunsTool left sent held trace device how conn conn' sink sink' = (input : List ℕ) → left conn.link ≡ Some input →
     ToolRan (trace (client_of conn input)) device conn.devices how (sent conn.link) (sent conn'.link) (held sink) (held sink')
 
--- a source that is no sound file, or a file or a device of another rate or other channels than the device that is played to
+-- a source that is no sound file, or a file or a device whose rate or channels differ from those of the playing device
 abbrev pub is_of_sound_finish : Finish → Bool
 is_of_sound_finish (mismatch from to) = true
 is_of_sound_finish (channel_mismatch from to) = true
@@ -37,15 +37,15 @@ is_of_sound_finish (bad_sound fault) = true
 is_of_sound_finish sound_cut = true
 is_of_sound_finish _ = false
 
--- Where a source is no sound that its device plays, or a device has what another does not play, the tool ends with that, unless
--- something from outside has ended it; and it ends so only there.
+-- If a source is no sound that its device plays, or a device has what another does not play, the tool ends with that, unless
+-- something from outside has ended it. It ends so in no other case.
 pub record EndsBySound (trace : Trace) (how : ToolEnd) : Type 0 where
   pub only : (finish : Finish) → is_of_sound_finish finish ≡ true → how ≡ tool_end finish → trace.finish ≡ finish
   pub always : (finish : Finish) → is_of_sound_finish finish ≡ true → trace.finish ≡ finish →
       (how ≡ tool_end finish) ⊎ (is_outer how ≡ true)
 
--- aplay ran, by what its link and its source give: as above, if the source gives what the device plays, and no more than it
--- takes. Done, each block was played at its time, and is heard there by whom accepts it in time.
+-- aplay ran, by what its link and its source give: as above, if the source gives what the device plays, and at most what aplay
+-- takes. If it is done, each block was played at its time, and is heard there on a device that accepts it in time.
 pub record AplayRan (job : PlayJob) (devices : List DeviceInfo) (bytes : List ℕ) (w : ClientState) (how : ToolEnd)
     (sent sent' held held' : Option (List ℕ)) : Type 0 where
   pub followed : ObservedTrace (aplay_trace job devices bytes w) how sent sent' held held'
@@ -56,7 +56,7 @@ pub record AplayRan (job : PlayJob) (devices : List DeviceInfo) (bytes : List �
       length bytes ≤ most_bytes →
       IsAnswered (aplay_trace job devices bytes w) → (how ≡ end.Done) ⊎ (is_outer how ≡ true)
 
--- the same over a connection whose link and a source that tell what they give; the source still tells it afterwards
+-- the same over a connection with an observable link, and an observable source, which stays so
 abbrev pub RunsAplay : {L S K : Type 0} → (left sent : L → Option (List ℕ)) → (gives : S → Option (List ℕ)) →
     (held : K → Option (List ℕ)) →
     PlayJob → ToolEnd → (conn conn' : ConnState L) → (source source' : S) → (sink sink' : K) → Type 0
@@ -64,6 +64,6 @@ RunsAplay left sent gives held job how conn conn' source source' sink sink' =
     (input bytes : List ℕ) → left conn.link ≡ Some input → gives source ≡ Some bytes → IsSome (gives source') →
     AplayRan job conn.devices bytes (client_of conn input) how (sent conn.link) (sent conn'.link) (held sink) (held sink')
 
--- a tool ends for want of its device exactly where its number is not below the number of devices, which the end carries
+-- a tool ends for a missing device exactly where its number is not below the number of devices, which the end carries
 abbrev pub LacksDevice : ℕ → List DeviceInfo → ToolEnd → Type 0
 LacksDevice device devices how = (n : ℕ) → (how ≡ end.NoDevice n) ↔ ((n ≡ length devices) × (length devices ≤ device))

@@ -1,17 +1,16 @@
--- What the tools do, by their words, the bytes of the source, and what the links that are dialled give.
+-- What the tools do, by their arguments, the bytes of the source, and what the dialled links give.
 use Rattle.std.specs.Prelude.{◌≡◌, ◌≢◌, ◌≤◌, ◌⊎◌, ℕ, Bool, true, false, List, [], ◌∷◌, ◌++◌, length, Ok}
 use Rattle.std.specs.declared.option.Option.{Option}
 use Rattle.std.specs.declared.option.Option.TheVariants.{None, Some}
 use Rattle.clap.specs.Words.{Text}
-use Rattle.af_io.specs.Observed.{Appended}
+use Rattle.af_io.specs.Observed.{Appended, CountsFault}
 use Rattle.af_io.specs.Dial.{AppendedBack, ToldLink}
 use Rattle.af_request.specs.declared.reply.DeviceInfo.{DeviceInfo}
-use Rattle.af_tool.specs.declared.end.ToolEnd.{ToolEnd}
-use Rattle.af_tool.specs.declared.end.ToolEnd.TheVariants as end
+use Rattle.af_toolkit.specs.declared.end.ToolEnd.{ToolEnd}
+use Rattle.af_toolkit.specs.declared.end.ToolEnd.TheVariants as end
 use Rattle.af_cli.specs.declared.job.Task.{Task}
 use Rattle.af_cli.specs.declared.job.Task.TheVariants as task
-use Rattle.af_tool.specs.Trace.{Trace, ClientState, bad_sound, channel_mismatch, dials}
-use Rattle.af_tool.specs.Trace.{mismatch, no_device, set_up, setup_answer, sound_cut}
+use Rattle.af_toolkit.specs.Trace.{Trace, ClientState, bad_sound, channel_mismatch, dials, mismatch, no_device, client_after_setup, setup_answer, sound_cut, not_dialled}
 use Rattle.af_tools.specs.Limits.{most_bytes}
 use Rattle.af_tools.specs.Play.{aplay_trace}
 use Rattle.af_tools.specs.Record.{arecord_trace}
@@ -23,19 +22,54 @@ use Rattle.af_wire.specs.declared.order.Order.{Order}
 use Rattle.af_cli.specs.declared.job.RecordJob.{RecordJob}
 use Rattle.af_wire.specs.Front.{setup_bytes}
 use Rattle.af_lib.specs.Calls.{ConnState}
-use Rattle.af_relay.specs.Pass.{RelayTrace, apass_trace, on_from, on_to}
-use Rattle.af_tools.specs.Dialled.{alone, dials_to, relay_trace}
+use Rattle.af_relay.specs.Pass.{RelayTrace, apass_trace, on_from, on_to, ends_both, relay_after_answer, sends_first_from, sends_first_to}
 use Rattle.af_relay.specs.Relayed.{IsRelayed}
 use Rattle.af_tools.specs.Intent.{IsPlayed}
 use Rattle.af_tools.specs.Recorded.{IsRecorded}
 use Rattle.af_cli.specs.Words.{Job, one, relay}
 use Rattle.af_relay.specs.Pair.{is_of_pass}
-use Rattle.af_tool.specs.Ends.{MatchesTrace, EndsByReply, IsAnswered, is_outer, client_of}
+use Rattle.af_toolkit.specs.Ends.{MatchesTrace, EndsByReply, IsAnswered, is_outer, client_of}
 use Rattle.af_tools.specs.Outcomes.{is_of_tool}
 use Rattle.af_sound.specs.declared.head.SoundFault.{SoundFault}
 use Rattle.af_sound.specs.declared.head.SoundForm.{SoundForm}
 use Rattle.af_tools.specs.Results.{EndsBySound}
-use Rattle.af_tools.specs.Reading.{TellsIfRead}
+use Rattle.af_tools.specs.Reading.{TellsIfRead, UsesSource}
+use Rattle.af_relay.specs.RelayParts.{ObservedRelayTrace}
+
+-- the setup of an order is sent on one of the links, and what follows goes by the devices of its answer
+unfoldable pub connects_by : Order → (List ℕ → RelayTrace → RelayTrace) → List ℕ → (List DeviceInfo → ClientState → RelayTrace) →
+    RelayTrace
+connects_by order sending input next =
+    sending (setup_bytes order) (relay_after_answer (setup_answer order input) (client_after_setup order input) next)
+
+-- the second server is dialled, and its link set up
+abbrev pub dials_to : Order → List ToldLink → (List DeviceInfo → ClientState → RelayTrace) → RelayTrace
+dials_to order [] next = ends_both not_dialled
+dials_to order (link ∷ links) next = connects_by order sends_first_to link.gives next
+
+-- the trace of a relay: both servers are dialled, one after the other, and each link is set up in the same order
+abbrev pub relay_trace : Order → PassJob → List ToldLink → RelayTrace
+relay_trace order job [] = ends_both not_dialled
+relay_trace order job (link ∷ links) =
+    connects_by order sends_first_from link.gives (λ from v. dials_to order links (λ to w. apass_trace job from to v w))
+
+-- a tool of one link, as a relay that does not use its second
+abbrev pub as_relay : Trace → RelayTrace
+as_relay c = record { from = c.sends; to = []; output = c.output; finish = c.finish }
+
+-- A relay ended, as in `ObservedRelayTrace`, whose second link was not set up before; if memory ran out, nothing was sent.
+pub record RelayedOver (relay : RelayTrace) (how : ToolEnd) (from from' to to' held held' : Option (List ℕ)) : Type 0 where
+  pub followed : ObservedRelayTrace relay how from from' to to' held held'
+  pub early : how ≡ end.OutOfMemory → (followed.sends_from ≡ []) × (followed.sends_to ≡ [])
+
+-- the same over a connection and a link that was dialled, which tell what they give
+abbrev pub RelaysOver : {L M K : Type 0} → (left_from sent_from : L → Option (List ℕ)) → (left_to sent_to : M → Option (List ℕ)) →
+    (held : K → Option (List ℕ)) →
+    Order → PassJob → ToolEnd → (conn conn' : ConnState L) → (far far' : M) → (sink sink' : K) → Type 0
+RelaysOver left_from sent_from left_to sent_to held order job how conn conn' far far' sink sink' =
+    (v w : List ℕ) → left_from conn.link ≡ Some v → left_to far ≡ Some w →
+    RelayedOver (connects_by order sends_first_to w (λ to u. apass_trace job conn.devices to (client_of conn v) u)) how
+    (sent_from conn.link) (sent_from conn'.link) (sent_to far) (sent_to far') (held sink) (held sink')
 
 -- the trace of a task on a server that was set up
 abbrev pub task_trace : Task → List DeviceInfo → List ℕ → ClientState → Trace
@@ -44,21 +78,19 @@ task_trace (task.Record job) devices bytes w = arecord_trace job devices w
 task_trace (task.Set job) devices bytes w = aset_trace job devices w
 task_trace task.List devices bytes w = list_trace devices w
 
--- the trace of a tool with one server: it dials it, sets the link up in an order, and does its task
+-- the trace of a tool with one server: it dials it, sets the link up in a byte order, and does its task
 abbrev pub one_trace : Order → Task → List ToldLink → List ℕ → Trace
 one_trace order task links bytes = dials order links (λ devices w. task_trace task devices bytes w)
 
 -- the trace of a tool, by its job, the links that a dial gives, and the bytes of the source
 abbrev pub run_trace : Job → List ToldLink → List ℕ → RelayTrace
-run_trace (one server order task) links bytes = alone (one_trace order task links bytes)
+run_trace (one server order task) links bytes = as_relay (one_trace order task links bytes)
 run_trace (relay from to order job) links bytes = relay_trace order job links
 
 -- whether a tool reads its source
 abbrev pub reads_source : Task → Bool
 reads_source (task.Play job) = true
-reads_source (task.Record job) = false
-reads_source (task.Set job) = false
-reads_source task.List = false
+reads_source _ = false
 
 abbrev pub job_reads : Job → Bool
 job_reads (one server order task) = reads_source task
@@ -67,9 +99,7 @@ job_reads (relay from to order job) = false
 -- the form of the sound file that a tool reads, if it reads one
 abbrev pub source_form : Task → Option SoundForm
 source_form (task.Play job) = job.form
-source_form (task.Record job) = None
-source_form (task.Set job) = None
-source_form task.List = None
+source_form _ = None
 
 abbrev pub job_form : Job → Option SoundForm
 job_form (one server order task) = source_form task
@@ -83,7 +113,7 @@ abbrev pub reads_of : Option Job → Bool
 reads_of (Some j) = job_reads j
 reads_of None = false
 
--- the ends of a tool with one server that has its link, and of one that dials; only one that reads its source ends for it
+-- the ends of a tool with one server over its link, and of one that dials; only one that reads its source ends for it
 abbrev pub is_of_far : (reads : Bool) → ToolEnd → Bool
 is_of_far reads end.OutOfMemory = true
 is_of_far reads how = is_of_tool reads how
@@ -92,7 +122,7 @@ abbrev pub is_of_one : (reads : Bool) → ToolEnd → Bool
 is_of_one reads end.DialFault = true
 is_of_one reads how = is_of_far reads how
 
--- the ends of a relay that has a second link, and of one that dials; only a relay, and a tool that reads its source, ends for two
+-- the ends of a relay over its second link, and of one that dials; only a relay, and a tool that reads its source, ends for two
 -- rates
 abbrev pub is_of_over : ToolEnd → Bool
 is_of_over end.OutOfMemory = true
@@ -107,7 +137,7 @@ abbrev pub is_of_job : Job → ToolEnd → Bool
 is_of_job (one server order task) how = is_of_one (reads_source task) how
 is_of_job (relay from to order job) how = is_of_relay how
 
--- the ends of the program: Usage, and those of the job that its words name; if they name none, want of memory
+-- the ends of the program: Usage, and those of the job that its words name; if they name none, OutOfMemory
 abbrev pub is_of_named : Option Job → ToolEnd → Bool
 is_of_named (Some j) how = is_of_job j how
 is_of_named None end.OutOfMemory = true
@@ -117,8 +147,8 @@ abbrev pub is_of_af : Option Job → ToolEnd → Bool
 is_of_af named end.Usage = true
 is_of_af named how = is_of_named named how
 
--- Each link that was dialled was given back: none, and then nothing was sent; or the first, having been sent this besides what
--- it had been sent before.
+-- Each link that was dialled was given back: none, and then nothing was sent; or the first, which was sent this after what it had
+-- been sent before.
 abbrev pub ReturnedLink : List ToldLink → Option (List ToldLink) → List ℕ → Option (List (List ℕ)) → Option (List (List ℕ)) →
     Type 0
 ReturnedLink links links' sends back back' =
@@ -126,19 +156,7 @@ ReturnedLink links links' sends back back' =
     ⊎ ((link : ToldLink) × (rest : List ToldLink) × (links ≡ link ∷ rest) × (links' ≡ Some rest)
     × Appended back ((link.sent ++ sends) ∷ []) back')
 
--- A tool with one server ran: what it sent and wrote are those of its trace, or prefixes where something from outside ended it,
--- and its link was given back.
-pub record RanOne (trace : Trace) (how : ToolEnd) (links : List ToldLink) (links' : Option (List ToldLink))
-    (held held' : Option (List ℕ)) (back back' : Option (List (List ℕ))) : Type 0 where
-  pub sends : List ℕ
-  pub output : List ℕ
-  pub ended : MatchesTrace trace how sends output
-  pub sink : Appended held output held'
-  pub link : ReturnedLink links links' sends back back'
-  -- memory runs out before any request was sent, and before the setup
-  pub early : how ≡ end.OutOfMemory → sends ≡ []
-
--- What a relay does behind the setup of its first link, which gives this and had been sent that: the second server is dialled, or
+-- What a relay does after the setup of its first link, which gives this and had been sent that: the second server is dialled, or
 -- not, and both links are given back in the order in which they were dialled.
 pub record RelayRanTo (order : Order) (job : PassJob) (from : List DeviceInfo) (v : ClientState) (how : ToolEnd)
     (links : List ToldLink) (links' : Option (List ToldLink)) (sent held held' : Option (List ℕ))
@@ -156,8 +174,8 @@ pub record RelayRanTo (order : Order) (job : PassJob) (from : List DeviceInfo) (
   pub second : ReturnedLink links links' sends_to between back'
   pub early : how ≡ end.OutOfMemory → (sends_from ≡ []) × (sends_to ≡ [])
 
--- Each link that was dialled was given back, in the order of dialling: none, and then nothing was sent; or the first, having been
--- sent this besides what it had been sent before, and then none or the second likewise.
+-- Each link that was dialled was given back, in the order of dialling: none, and then nothing was sent; or the first, which was
+-- sent this after what it had been sent before, and then none or the second likewise.
 abbrev pub ReturnedLinks : List ToldLink → Option (List ToldLink) → (sends_from sends_to : List ℕ) → Option (List (List ℕ)) →
     Option (List (List ℕ)) → Type 0
 ReturnedLinks links links' sends_from sends_to back back' =
@@ -165,12 +183,12 @@ ReturnedLinks links links' sends_from sends_to back back' =
     ⊎ ((link : ToldLink) × (rest : List ToldLink) × (between : Option (List (List ℕ))) × (links ≡ link ∷ rest)
     × Appended back ((link.sent ++ sends_from) ∷ []) between × ReturnedLink rest links' sends_to between back')
 
--- memory runs out before any request was sent, and of a tool with one server before its setup
+-- memory runs out before any request was sent, and in a tool with one server before its setup
 abbrev pub IsEarly : Job → (sends_from sends_to : List ℕ) → Type 0
 IsEarly (one server order task) sends_from sends_to = (sends_from ≡ []) × (sends_to ≡ [])
 IsEarly (relay from to order job) sends_from sends_to = ((sends_from ≡ []) ⊎ (sends_from ≡ setup_bytes order)) × (sends_to ≡ [])
 
--- A tool ran: what it sent on its one or two links and what it wrote are those of its trace, or prefixes where something from
+-- A tool ran: what it sent on its one or two links and what it wrote are those of its trace, or prefixes if something from
 -- outside ended it, and the links were given back.
 pub record JobRan (j : Job) (bytes : List ℕ) (how : ToolEnd) (links : List ToldLink) (links' : Option (List ToldLink))
     (held held' : Option (List ℕ)) (back back' : Option (List (List ℕ))) : Type 0 where
@@ -183,57 +201,51 @@ pub record JobRan (j : Job) (bytes : List ℕ) (how : ToolEnd) (links : List Tol
   pub link : ReturnedLinks links links' sends_from sends_to back back'
   pub early : how ≡ end.OutOfMemory → IsEarly j sends_from sends_to
 
+-- the first link of a dial, whose setup was answered with these devices
+pub record SetUpFirst (order : Order) (links : List ToldLink) : Type 0 where
+  pub link : ToldLink
+  pub rest : List ToldLink
+  pub links_are : links ≡ link ∷ rest
+  pub devices : List DeviceInfo
+  pub set : setup_answer order link.gives ≡ Ok devices
+
 -- What a relay has passed between its two servers: its first two links were set up and then used, and given back in their order.
 pub record RelayRan (order : Order) (job : PassJob) (links : List ToldLink) (links' : Option (List ToldLink))
     (held held' : Option (List ℕ)) (back back' : Option (List (List ℕ))) : Type 0 where
-  pub first : ToldLink
-  pub second : ToldLink
+  pub from : SetUpFirst order links
+  pub to : ToldLink
   pub rest : List ToldLink
-  pub links_are : links ≡ first ∷ second ∷ rest
-  pub from : List DeviceInfo
-  pub set : setup_answer order first.gives ≡ Ok from
+  pub to_is_next : from.rest ≡ to ∷ rest
   pub sends_from : List ℕ
   pub sends_to : List ℕ
-  pub relayed : IsRelayed job from (set_up order first.gives) (set_up order second.gives) (Some []) (Some sends_from) (Some [])
-      (Some sends_to) held held'
+  pub relayed : IsRelayed job from.devices (client_after_setup order from.link.gives) (client_after_setup order to.gives) (Some []) (Some sends_from)
+      (Some []) (Some sends_to) held held'
   pub link : ReturnedLinks links links' (setup_bytes order ++ sends_from) (setup_bytes order ++ sends_to) back back'
 
 -- What aplay has played on its server: its link was set up and then used, and given back.
 pub record PlayRan (order : Order) (job : PlayJob) (bytes : List ℕ) (links : List ToldLink) (links' : Option (List ToldLink))
     (held held' : Option (List ℕ)) (back back' : Option (List (List ℕ))) : Type 0 where
-  pub first : ToldLink
-  pub rest : List ToldLink
-  pub links_are : links ≡ first ∷ rest
-  pub devices : List DeviceInfo
-  pub set : setup_answer order first.gives ≡ Ok devices
+  pub server : SetUpFirst order links
   pub sends : List ℕ
-  pub played : IsPlayed job devices bytes (set_up order first.gives) (Some []) (Some sends) held held'
+  pub played : IsPlayed job server.devices bytes (client_after_setup order server.link.gives) (Some []) (Some sends) held held'
   pub link : ReturnedLinks links links' (setup_bytes order ++ sends) [] back back'
 
 -- What arecord has recorded on its server: its link was set up and then used, and given back.
 pub record RecordRan (order : Order) (job : RecordJob) (links : List ToldLink) (links' : Option (List ToldLink))
     (held held' : Option (List ℕ)) (back back' : Option (List (List ℕ))) : Type 0 where
-  pub first : ToldLink
-  pub rest : List ToldLink
-  pub links_are : links ≡ first ∷ rest
-  pub devices : List DeviceInfo
-  pub set : setup_answer order first.gives ≡ Ok devices
+  pub server : SetUpFirst order links
   pub sends : List ℕ
-  pub recorded : IsRecorded job devices (set_up order first.gives) (Some []) (Some sends) held held'
+  pub recorded : IsRecorded job server.devices (client_after_setup order server.link.gives) (Some []) (Some sends) held held'
   pub link : ReturnedLinks links links' (setup_bytes order ++ sends) [] back back'
 
--- What list has told of its server: its link was set up, and the sink gained a line for each device.
+-- What list has written of its server: its link was set up, and the sink gained a line for each device.
 pub record DevicesListed (order : Order) (links : List ToldLink) (held held' : Option (List ℕ)) : Type 0 where
-  pub first : ToldLink
-  pub rest : List ToldLink
-  pub links_are : links ≡ first ∷ rest
-  pub devices : List DeviceInfo
-  pub set : setup_answer order first.gives ≡ Ok devices
+  pub server : SetUpFirst order links
   pub output : List ℕ
-  pub lines : HasLines 0 devices output
+  pub lines : HasLines 0 server.devices output
   pub sink : Appended held output held'
 
--- the same by what the links that a dial gives, a sink, and a source if the job reads it tell
+-- the same by what is observable of the links that a dial gives, a sink, and a source if the job reads it
 abbrev pub RunsJob : {D S K : Type 0} → (links : D → Option (List ToldLink)) → (back : D → Option (List (List ℕ))) →
     (gives : S → Option (List ℕ)) → (held : K → Option (List ℕ)) →
     Job → ToolEnd → (dial dial' : D) → (source source' : S) → (sink sink' : K) → Type 0
@@ -241,7 +253,7 @@ RunsJob links back gives held j how dial dial' source source' sink sink' =
     (told : List ToldLink) (bytes : List ℕ) → links dial ≡ Some told → TellsIfRead gives (job_reads j) bytes source source' →
     JobRan j bytes how told (links dial') (held sink) (held sink') (back dial) (back dial')
 
--- the same of a relay behind the setup of its first link
+-- the same for a relay after the setup of its first link
 abbrev pub RunsRelayTo : {F D K : Type 0} → (left sent : F → Option (List ℕ)) → (links : D → Option (List ToldLink)) →
     (back : D → Option (List (List ℕ))) → (held : K → Option (List ℕ)) →
     Order → PassJob → ToolEnd → ConnState F → (dial dial' : D) → (sink sink' : K) → Type 0
@@ -250,24 +262,36 @@ RunsRelayTo left sent links back held order job how conn dial dial' sink sink' =
     RelayRanTo order job conn.devices (client_of conn v) how told (links dial') (sent conn.link) (held sink) (held sink')
     (back dial) (back dial')
 
--- where two devices have different rates, the tool ends with that, unless something from outside has ended it; and it ends so
--- only there
+-- if two devices have different rates, the tool ends with that, unless something from outside has ended it; and it ends so in no
+-- other case
 pub record EndsByRates (trace : Trace) (how : ToolEnd) : Type 0 where
   pub only : (a b : ℕ) → how ≡ end.RateMismatch a b → trace.finish ≡ mismatch a b
   pub always : (a b : ℕ) → trace.finish ≡ mismatch a b → (how ≡ end.RateMismatch a b) ⊎ (is_outer how ≡ true)
 
--- where the device of a tool is not there, the tool ends with that, unless something from outside has ended it; and it ends so
--- only there
+-- if the device of a tool does not exist, the tool ends with that, unless something from outside has ended it; and it ends so in
+-- no other case
 pub record EndsByDevice (trace : Trace) (how : ToolEnd) : Type 0 where
   pub only : (n : ℕ) → how ≡ end.NoDevice n → trace.finish ≡ no_device n
   pub always : (n : ℕ) → trace.finish ≡ no_device n → (how ≡ end.NoDevice n) ⊎ (is_outer how ≡ true)
+
+-- Each end of a tool that dials has its cause. Nothing was written where memory ran out, and nothing was read or written where a
+-- server was not had. A failed dial, a failed link and a failed write end the tool exactly where they are counted.
+pub record EndsForCause {S K D : Type 0} (left : S → Option (List ℕ)) (read_faults : S → ℕ) (write_faults : K → ℕ)
+    (dial_faults hurt : D → ℕ) (reads : Bool) (form : Option SoundForm) (how : ToolEnd) (before after : S) (held held' : K)
+    (dial dial' : D) : Type 0 where
+  pub memory : how ≡ end.OutOfMemory → held' ≡ held
+  pub source : UsesSource left read_faults reads form how before after
+  pub dialled : CountsFault (how ≡ end.DialFault) (dial_faults dial) (dial_faults dial')
+  pub undialled : how ≡ end.DialFault → (after ≡ before) × (held' ≡ held)
+  pub link : CountsFault (how ≡ end.LinkFault) (hurt dial) (hurt dial')
+  pub sink : CountsFault (how ≡ end.SinkFault) (write_faults held) (write_faults held')
 
 -- the addresses of a job, in order
 abbrev pub servers_of : Job → List Text
 servers_of (one server order task) = server ∷ []
 servers_of (relay from to order job) = from ∷ to ∷ []
 
--- The first of some addresses were asked for, in order: none only where memory ran out before, and all where the tool is done.
+-- The first of some addresses were dialled, in order: none only if memory ran out before, and all if the tool is done.
 pub record AskedFor (servers : List Text) (how : ToolEnd) (asked asked' : Option (List Text)) : Type 0 where
   pub named : List Text
   pub others : List Text
@@ -276,8 +300,8 @@ pub record AskedFor (servers : List Text) (how : ToolEnd) (asked asked' : Option
   pub none : named ≡ [] → how ≡ end.OutOfMemory
   pub all : how ≡ end.Done → others ≡ []
 
--- the device is there, a source that is a sound file is one, two devices, or a file and a device, have one rate and the same
--- channels, and each request gets the reply that it awaits
+-- the device exists; a source that is to be a sound file is one; two devices, or a file and a device, have one rate and the same
+-- channels; and each request gets its reply
 pub record IsServed (trace : Trace) : Type 0 where
   pub there : (devices : ℕ) → trace.finish ≢ no_device devices
   pub good : (fault : SoundFault) → trace.finish ≢ bad_sound fault
@@ -286,9 +310,9 @@ pub record IsServed (trace : Trace) : Type 0 where
   pub one_shape : (from to : ℕ) → trace.finish ≢ channel_mismatch from to
   pub answered : IsAnswered trace
 
--- What the tools did for a job: it ran, and each end that replies or devices cause is that of its trace. Done, what aplay played
--- is heard as it was intended, arecord left a recording, list told each device, and a relay has passed all blocks. If the source
--- gives no more than a tool takes, and the job is served, it is done, unless something from outside ended it.
+-- What the tools did for a job: it ran, and each end for a reply or for devices is that of its trace. If it is done, what aplay
+-- played is heard as intended, arecord left a recording, list wrote a line for each device, and a relay has passed all blocks. If
+-- the source gives at most what a tool takes, and the job is served, it is done, unless something from outside ended it.
 pub record JobDone (j : Job) (bytes : List ℕ) (how : ToolEnd) (links : List ToldLink) (links' : Option (List ToldLink))
     (held held' : Option (List ℕ)) (back back' : Option (List (List ℕ))) : Type 0 where
   pub ran : JobRan j bytes how links links' held held' back back'
@@ -307,7 +331,7 @@ pub record JobDone (j : Job) (bytes : List ℕ) (how : ToolEnd) (links : List To
   pub complete : length bytes ≤ most_bytes → IsServed (on_from (run_trace j links bytes)) →
       (how ≡ end.Done) ⊎ (is_outer how ≡ true)
 
--- the same by what the links that a dial gives, a sink, and a source if the job reads it tell
+-- the same by what is observable of the links that a dial gives, a sink, and a source if the job reads it
 abbrev pub DoesJob : {D S K : Type 0} → (links : D → Option (List ToldLink)) → (back : D → Option (List (List ℕ))) →
     (gives : S → Option (List ℕ)) → (held : K → Option (List ℕ)) →
     Job → ToolEnd → (dial dial' : D) → (source source' : S) → (sink sink' : K) → Type 0

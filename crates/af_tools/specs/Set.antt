@@ -1,15 +1,15 @@
--- What aset does: it sets what its words state, and then writes how the controls of the device stand, and its line.
+-- What aset does: it sets what its arguments state, and then writes the controls of the device, and its line.
 use Rattle.std.specs.Prelude.{ℕ, ◌||◌, Bool, true, false, List, is_some}
 use Rattle.std.specs.declared.option.Option.{Option}
 use Rattle.std.specs.declared.option.Option.TheVariants.{None, Some}
 use Rattle.af_request.specs.declared.reply.DeviceInfo.{DeviceInfo}
 use Rattle.af_request.specs.Asked.{Asked, hook_switch}
 use Rattle.af_request.specs.Fields.{flag_byte}
-use Rattle.af_lib.specs.Calls.{as_done, controls_changed}
+use Rattle.af_lib.specs.Calls.{as_done, controls_request}
 use Rattle.af_cli.specs.declared.job.SetJob.{SetJob}
-use Rattle.af_tool.specs.Trace.{Trace, ClientState, asks, done, ends, with_job_device, writing}
-use Rattle.af_standing.specs.declared.standing.Standing.{Standing}
-use Rattle.af_standing.specs.Standing.{asks_standing, standing_text}
+use Rattle.af_toolkit.specs.Trace.{Trace, ClientState, asks, done, ends, with_job_device, writes_first}
+use Rattle.af_standing.specs.declared.controls_report.ControlsReport.{ControlsReport}
+use Rattle.af_standing.specs.ControlsReport.{asks_controls_report, controls_report_text}
 
 -- some control is stated
 abbrev pub states_controls : SetJob → Bool
@@ -17,9 +17,9 @@ states_controls job = is_some job.input_gain || is_some job.output_gain || is_so
 
 -- the request that sets the stated controls, and leaves the others
 abbrev pub control_request : SetJob → Asked
-control_request job = controls_changed job.device job.input_gain job.output_gain job.input_on job.output_on
+control_request job = controls_request job.device job.input_gain job.output_gain job.input_on job.output_on
 
--- a request that is sent only where there is need of it
+-- a request that is sent only if it is needed
 abbrev pub asks_where : Bool → Asked → ClientState → (Unit {0} → ClientState → Trace) → Trace
 asks_where true asked w next = asks asked as_done w next
 asks_where false asked w next = next tt w
@@ -29,20 +29,14 @@ abbrev pub hooks : ℕ → Option Bool → ClientState → (Unit {0} → ClientS
 hooks device (Some off) w next = asks (hook_switch device (flag_byte off)) as_done w next
 hooks device None w next = next tt w
 
--- the controls and the hook are set, and then it is asked how the device stands
-unfoldable pub set_on : SetJob → DeviceInfo → ClientState → (Standing → ClientState → Trace) → Trace
-set_on job device w next =
+-- the controls and the hook are set, and then the device is asked for its state
+unfoldable pub sets_on : SetJob → DeviceInfo → ClientState → (ControlsReport → ClientState → Trace) → Trace
+sets_on job device w next =
     asks_where (states_controls job) (control_request job) w (λ _ w.
     hooks job.device job.hook_off w (λ _ w.
-    asks_standing device.line job.device w next))
+    asks_controls_report device.line job.device w next))
 
 -- the trace of aset, by the devices of the server and what the link gives
 unfoldable pub aset_trace : SetJob → List DeviceInfo → ClientState → Trace
-aset_trace job devices w = with_job_device job.device devices (λ device. set_on job device w (λ standing _. writing (standing_text standing) (ends done)))
-
--- what aset sends, and what it writes
-abbrev pub aset_sends : SetJob → List DeviceInfo → ClientState → List ℕ
-aset_sends job devices w = (aset_trace job devices w).sends
-
-abbrev pub aset_output : SetJob → List DeviceInfo → ClientState → List ℕ
-aset_output job devices w = (aset_trace job devices w).output
+aset_trace job devices w = with_job_device job.device devices (λ device.
+    sets_on job device w (λ controls_report _. writes_first (controls_report_text controls_report) (ends done)))

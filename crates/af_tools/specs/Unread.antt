@@ -1,4 +1,4 @@
--- When aplay reads the first byte of a source without a head.
+-- When aplay reads the first byte of a source without a header.
 use Rattle.std.specs.Prelude.{◌≡◌, ◌⊎◌, ℕ, List, ◌∷◌, slice_get, unwrap_or, Ok}
 use Rattle.std.specs.declared.option.Option.{Option}
 use Rattle.std.specs.declared.option.Option.TheVariants.{None, Some}
@@ -8,8 +8,8 @@ use Rattle.af_wire.specs.declared.order.Order.{Order}
 use Rattle.af_request.specs.Asked.{Asked}
 use Rattle.af_request.specs.declared.reply.DeviceInfo.{DeviceInfo}
 use Rattle.af_lib.specs.Calls.{ConnState, as_done}
-use Rattle.af_tool.specs.Trace.{ClientState, answer_on, set_up, setup_answer}
-use Rattle.af_tool.specs.Ends.{client_of}
+use Rattle.af_toolkit.specs.Trace.{ClientState, answer_on, client_after_setup, setup_answer}
+use Rattle.af_toolkit.specs.Ends.{client_of}
 use Rattle.af_cli.specs.declared.job.PlayJob.{PlayJob}
 use Rattle.af_cli.specs.declared.job.Task.{Task}
 use Rattle.af_cli.specs.declared.job.Task.TheVariants as task
@@ -20,29 +20,28 @@ use Rattle.af_tools.specs.Play.{play_context}
 abbrev pub GivesReply : Asked → ClientState → Type 0
 GivesReply context w = answer_on context as_done w ≡ Ok tt
 
--- the device of a job is there, and the link gives the reply that the context of the job was made on it
+-- the device of a job exists, and the link gives the reply that the context of the job was made on it
 abbrev pub GivesContext : PlayJob → List DeviceInfo → ClientState → Type 0
 GivesContext job devices w = (device : DeviceInfo) × (slice_get devices job.device ≡ Some device)
     × GivesReply (play_context job (unwrap_or job.ty device.ty) device.channels) w
 
--- the same of a link that is set up first
+-- the same for a link that is set up first
 abbrev pub LinkGivesContext : Order → PlayJob → List ℕ → Type 0
 LinkGivesContext order job input =
-    (devices : List DeviceInfo) × (setup_answer order input ≡ Ok devices) × GivesContext job devices (set_up order input)
+    (devices : List DeviceInfo) × (setup_answer order input ≡ Ok devices) × GivesContext job devices (client_after_setup order input)
 
--- the same of the first link that is dialled
+-- the same for the first link that is dialled
 abbrev pub DialGivesContext : Order → PlayJob → List ToldLink → Type 0
 DialGivesContext order job links =
     (first : ToldLink) × (rest : List ToldLink) × (links ≡ first ∷ rest) × LinkGivesContext order job first.gives
 
--- A source without a head is as it was, unless the link of a connection gives the reply that the context was made, if it tells
--- what it gives.
+-- A source without a header is as it was, unless an observable link gives the reply that the context was made.
 abbrev pub ReadsAfterContext : {L S : Type 0} → (left : L → Option (List ℕ)) → PlayJob → ConnState L → (source source' : S) →
     Type 0
 ReadsAfterContext left job conn source source' = job.form ≡ None →
     (source' ≡ source) ⊎ ((input : List ℕ) → left conn.link ≡ Some input → GivesContext job conn.devices (client_of conn input))
 
--- the same of a task, if it is one of aplay, over a connection, over a link, and over a dial
+-- the same for a task, if it is aplay, over a connection, over a link, and over a dial
 abbrev pub TaskReadsLate : {L S : Type 0} → (left : L → Option (List ℕ)) → Task → ConnState L → (source source' : S) → Type 0
 TaskReadsLate left t conn source source' = (job : PlayJob) → t ≡ task.Play job → ReadsAfterContext left job conn source source'
 
@@ -55,7 +54,7 @@ abbrev pub DialReadsLate : {D S : Type 0} → (links : D → Option (List ToldLi
 DialReadsLate links order t dial source source' = (job : PlayJob) → t ≡ task.Play job → job.form ≡ None →
     (source' ≡ source) ⊎ ((told : List ToldLink) → links dial ≡ Some told → DialGivesContext order job told)
 
--- the same of a job
+-- the same for a job
 abbrev pub JobReadsLate : {D S : Type 0} → (links : D → Option (List ToldLink)) → Job → D → (source source' : S) → Type 0
 JobReadsLate links j dial source source' =
     (server : Text) (order : Order) (t : Task) → j ≡ one server order t → DialReadsLate links order t dial source source'

@@ -1,11 +1,11 @@
-// arecord writes a sound file: a head, samples as the file codes them, and a byte that makes it even.
+// arecord writes a sound file: a header, samples as the file codes them, and a pad byte that makes it even.
 ghost use Rattle.std.specs.Prelude.{◌≡◌, ◌≢◌, ◌<◌, length, Err};
 ghost use Rattle.std.specs.declared.option.Option.TheVariants.{Some};
 ghost use Rattle.af_io.specs.Observed.{CountsFault};
 ghost use Rattle.af_sound.specs.Written.{IsWritableHead};
 ghost use Rattle.af_request.specs.Replies.{IsDeviceInfo};
 ghost use Rattle.af_tools.specs.Files.{as_filed, coding_in, file_head, front_of_recording, pad_behind, recorded_sound, recorded_type, stated_length, IsFiledAs};
-ghost use Rattle.af_tool.specs.Ends.{Writes};
+ghost use Rattle.af_toolkit.specs.Ends.{Writes};
 ghost use Rattle.af_tools.specs.Sounds.{AreWhole};
 
 use crate::record::RecordedSound;
@@ -14,9 +14,9 @@ use af_io::Sink;
 use af_request::DeviceInfo;
 use af_sample::SampleType;
 use af_sound::{Coding, SoundForm, SoundHead, to_file, write_sound_head};
-use af_tool::{ToolEnd, write_piece};
+use af_toolkit::{ToolEnd, write_piece};
 
-// How a file codes the samples of a type.
+// The coding of a sample type in a file.
 fn coding_in(form: SoundForm, ty: SampleType) -> Coding
     ensures { result ≡ coding_in form ty }
 {
@@ -28,7 +28,7 @@ fn coding_in(form: SoundForm, ty: SampleType) -> Coding
     }
 }
 
-// The type that is recorded: no file has samples of 32 bits.
+// The type that is recorded. No file has samples of 32 bits.
 fn recorded_type(form: Option<SoundForm>, ty: SampleType) -> SampleType
     ensures { result ≡ recorded_type form ty }
 {
@@ -55,7 +55,7 @@ pub fn recorded_sound(job: &RecordJob, device: DeviceInfo) -> RecordedSound
     }
 }
 
-// The length that a head states: that of all frames, if quiet cannot end the recording and a head can state it.
+// The length that a header states: that of all frames, if quiet cannot end the recording and the header can state it.
 fn stated_length(job: &RecordJob, frame: usize) -> Option<u32>
     requires { frame < 16 }
     ensures { result ≡ stated_length job.now frame }
@@ -68,7 +68,7 @@ fn stated_length(job: &RecordJob, frame: usize) -> Option<u32>
     }
 }
 
-// The head of a file.
+// The header of a file.
 fn file_head(form: SoundForm, job: &RecordJob, device: DeviceInfo) -> SoundHead
     requires shape { IsDeviceInfo device }
     ensures value { result ≡ file_head form job.now device }

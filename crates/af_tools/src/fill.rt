@@ -1,13 +1,13 @@
 // Blocks of a source's bytes.
-ghost use Rattle.std.specs.Prelude.{◌≡◌, ◌<◌, ◌≤◌, ◌⊎◌, length, take, Err, IfOk, IsErrOf};
+ghost use Rattle.std.specs.Prelude.{◌≡◌, ◌<◌, ◌≤◌, length, take, Err, IfOk, IsErrOf};
 ghost use Rattle.std.specs.declared.option.Option.TheVariants.{Some};
 ghost use Rattle.af_io.specs.Observed.{CountsFault, Consumed};
 ghost use Rattle.af_io.specs.Flow.{IsSpent};
-ghost use Rattle.af_tools.specs.Fill.{fill_end, ConsumedAbove, ConsumedUpTo};
-ghost use Rattle.af_tools.specs.Sounds.{stated_behind, stated_room, FitsStated};
+ghost use Rattle.af_tools.specs.Fill.{fill_end, ConsumedAbove, ConsumedUpTo, FillsBlock};
+ghost use Rattle.af_tools.specs.Sounds.{stated_behind, FitsStated};
 
 use af_io::{Got, Source};
-use af_tool::ToolEnd;
+use af_toolkit::ToolEnd;
 
 /// Why a source gave no block.
 #[derive(Clone, Copy, Debug, PartialEq, Eq)]
@@ -29,7 +29,7 @@ impl From<FillFault> for ToolEnd {
     }
 }
 
-// How many bytes of a sound there are behind some.
+// How many bytes of a sound are left after `count` more.
 pub fn left_behind(left: Option<u32>, count: usize) -> Option<u32>
     requires { FitsStated left count }
     ensures { result ≡ stated_behind left count }
@@ -49,12 +49,7 @@ pub fn fill_stated<S: Source>(
     allowed: u64,
 ) -> Result<usize, FillFault>
     ensures room { length block.new ≡ length block.old }
-    ensures given { IfOk result (λ n. Consumed (S.left source.old) (take n block.new) (S.left source.new)) }
-    ensures within { IfOk result (λ n. (n ≤ length block.new) × (n ≤ allowed) × FitsStated left n) }
-    ensures ended { IfOk result (λ n. n < length block.new → IsSpent (S.left source.new) ⊎ (left ≡ Some n)) }
-    ensures long { IsErrOf result FillFault.TooLong →
-        ConsumedAbove allowed (stated_room left (length block.new)) (S.left source.old) (S.left source.new) }
-    ensures cut { IsErrOf result FillFault.ReadFault → ConsumedUpTo allowed (S.left source.old) (S.left source.new) }
+    ensures fills { FillsBlock (length block.new) allowed left result block.new (S.left source.old) (S.left source.new) }
     ensures fault { CountsFault (IsErrOf result FillFault.ReadFault) (S.faults source.old) (S.faults source.new) }
 {
     let room = match left {
@@ -64,7 +59,8 @@ pub fn fill_stated<S: Source>(
     fill_block(source, &mut block[..room], allowed)
 }
 
-// Reads until the block is full or the source has ended: how many bytes it has. At most n bytes are allowed.
+// Reads until the block is full or the source has ended, and answers how many bytes the block has. More than `allowed` are
+// refused.
 fn fill_block<S: Source>(source: &mut S, block: &mut [u8], allowed: u64) -> Result<usize, FillFault>
     ensures given { IfOk result (λ n. Consumed (S.left source.old) (take n block.new) (S.left source.new)) }
     ensures within { IfOk result (λ n. (n ≤ length block.new) × (n ≤ allowed)) }

@@ -19,7 +19,7 @@ mod sound;
 pub use af_cli::{PassJob, PlayJob, RecordJob, SetJob};
 pub use af_relay::apass;
 pub use af_standing::list;
-pub use af_tool::ToolEnd;
+pub use af_toolkit::ToolEnd;
 pub use player::aplay;
 pub use recorder::arecord;
 pub use run::af_run;

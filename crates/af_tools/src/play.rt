@@ -1,19 +1,18 @@
 // What a source gives is played, block by block.
-ghost use Rattle.std.specs.Prelude.{ℕ, List, ◌≡◌, ◌<◌, ◌≤◌, ◌⊎◌, ◌*◌, ◌+◌, ◌-◌, ◌++◌, true, false, length, take, IfErr, IfOk, IsErrOf};
+ghost use Rattle.std.specs.Prelude.{ℕ, List, ◌≡◌, ◌<◌, ◌≤◌, ◌*◌, ◌+◌, ◌-◌, ◌++◌, true, false, length, take, IfErr, IfOk, IsErrOf};
 ghost use Rattle.std.specs.declared.option.Option.{Option};
 ghost use Rattle.std.specs.declared.option.Option.TheVariants.{None};
-ghost use Rattle.af_io.specs.Observed.{Consumed, CountsFault};
-ghost use Rattle.af_io.specs.Flow.{IsSpent};
+ghost use Rattle.af_io.specs.Observed.{CountsFault};
 ghost use Rattle.af_request.specs.Asked.{play_run};
 ghost use Rattle.af_lib.specs.Calls.{as_time};
-ghost use Rattle.af_tool.specs.Trace.{asks};
-ghost use Rattle.af_tool.specs.Ends.{is_of_link, KeepsConnection, ObservedPartOver};
+ghost use Rattle.af_toolkit.specs.Trace.{asks};
+ghost use Rattle.af_toolkit.specs.Ends.{is_of_link, KeepsConnection, ObservedPartOver};
 ghost use Rattle.af_sound.specs.Served.{served_length};
 ghost use Rattle.af_tools.specs.Limits.{most_bytes};
 ghost use Rattle.af_tools.specs.Play.{plays_sound, IsBlock};
-ghost use Rattle.af_tools.specs.Sounds.{as_served, block_bytes, served_room, stated_room, AreWhole, IsServedAs};
+ghost use Rattle.af_tools.specs.Sounds.{as_served, block_bytes, served_room, AreWhole, IsServedAs};
 ghost use Rattle.af_tools.specs.Outcomes.{is_of_blocks};
-ghost use Rattle.af_tools.specs.Fill.{left_before, ConsumedAbove, ConsumedBeyond, ConsumedStated, ConsumedUpTo, IsEarlyBlock, IsNextBlock};
+ghost use Rattle.af_tools.specs.Fill.{left_before, ConsumedUpTo, FillsBlock, IsEarlyBlock, IsNextBlock, TakesSound};
 ghost use Rattle.af_tools.specs.Reading.{ObservedPartReading};
 ghost use Rattle.af_cli.specs.Sizes.{greatest_block};
 
@@ -24,7 +23,7 @@ use af_io::{Link, Source};
 use af_lib::Conn;
 use af_sound::{Coding, to_server};
 use af_time::DevTime;
-use af_tool::{CONTEXT, ToolEnd, time_behind};
+use af_toolkit::{CONTEXT, ToolEnd, time_behind};
 
 /// How many bytes a source may give, with the header of a file.
 pub const MOST_BYTES: u64 = 1 << 40;
@@ -38,7 +37,7 @@ pub struct Playback {
     pub start: DevTime,
 }
 
-// How many bytes a server takes for some of a file.
+// How many bytes a server takes for so many bytes of a file.
 fn served_size(coding: Coding, count: usize) -> usize
     requires { served_length coding count ≤ greatest_block }
     ensures { result ≡ served_length coding count }
@@ -65,7 +64,7 @@ fn play_samples<L: Link + Drop>(
     Ok(conn.play_run(CONTEXT, at, samples)?)
 }
 
-// Plays a block as a server takes it. A file's samples are converted into the room that is handed in.
+// Plays a block as a server takes it. The samples of a file are converted into the room that is handed in.
 fn play_block<L: Link + Drop>(
     conn: &mut Conn<L>,
     coding: Option<Coding>,
@@ -93,7 +92,7 @@ fn play_block<L: Link + Drop>(
     }
 }
 
-// Reads the first block of a sound, of so many frames: how many bytes it has.
+// Reads the first block of a sound, of so many frames, and answers how many bytes it has.
 fn fill_first<S: Source>(
     source: &mut S,
     sound: SourceSound,
@@ -104,13 +103,8 @@ fn fill_first<S: Source>(
     requires sound { IsServedAs sound.coding sound.ty × (sound.head ≤ most_bytes) }
     requires room { greatest_block ≤ length room.old }
     ensures room { length room.new ≡ length room.old }
-    ensures given { IfOk result (λ n. Consumed (S.left source.old) (take n room.new) (S.left source.new)) }
-    ensures first { IfOk result (λ n.
-        IsNextBlock (block_bytes sound block) (most_bytes - sound.head) sound.length n (S.left source.new)) }
-    ensures long { IsErrOf result FillFault.TooLong → ConsumedAbove (most_bytes - sound.head)
-        (stated_room sound.length (block_bytes sound block)) (S.left source.old) (S.left source.new) }
-    ensures cut { IsErrOf result FillFault.ReadFault →
-        ConsumedUpTo (most_bytes - sound.head) (S.left source.old) (S.left source.new) }
+    ensures fills { FillsBlock (block_bytes sound block) (most_bytes - sound.head) sound.length result room.new
+        (S.left source.old) (S.left source.new) }
     ensures fault { CountsFault (IsErrOf result FillFault.ReadFault) (S.faults source.old) (S.faults source.new) }
 {
     let size = block as usize * sound.width();
@@ -162,14 +156,9 @@ pub fn read_first<S: Source>(
     requires sound { IsServedAs sound.coding sound.ty × (sound.head ≤ most_bytes) }
     requires room { greatest_block ≤ length room.old }
     ensures room { length room.new ≡ length room.old }
-    ensures given { (before : Option (List ℕ)) → IsEarlyBlock (block_bytes sound block) (most_bytes - sound.head)
+    ensures fills { (before : Option (List ℕ)) → IsEarlyBlock (block_bytes sound block) (most_bytes - sound.head)
         sound.length early room.old before (S.left source.old) →
-        IfOk result (λ n. Consumed before (take n room.new) (S.left source.new)
-        × IsNextBlock (block_bytes sound block) (most_bytes - sound.head) sound.length n (S.left source.new)) }
-    ensures long { IsErrOf result FillFault.TooLong → (early ≡ None) × ConsumedAbove (most_bytes - sound.head)
-        (stated_room sound.length (block_bytes sound block)) (S.left source.old) (S.left source.new) }
-    ensures cut { IsErrOf result FillFault.ReadFault →
-        (early ≡ None) × ConsumedUpTo (most_bytes - sound.head) (S.left source.old) (S.left source.new) }
+        FillsBlock (block_bytes sound block) (most_bytes - sound.head) sound.length result room.new before (S.left source.new) }
     ensures fault { CountsFault (IsErrOf result FillFault.ReadFault) (S.faults source.old) (S.faults source.new) }
 {
     match early {
@@ -195,14 +184,8 @@ pub fn play_blocks<L: Link + Drop, S: Source>(
     requires room { greatest_block ≤ length room.old }
     ensures goes { ObservedPartReading L.left L.sent S.left conn.old conn.new source.old source.new
         (λ bytes w. plays_sound playback.sound playback.block playback.start.0 (take first room.old ++ bytes) w) result }
-    ensures spent { IfOk result (λ _. IsSpent (S.left source.new)
-        ⊎ ConsumedStated playback.sound.length (left_before (take first room.old) (S.left source.old)) (S.left source.new)) }
-    ensures long { IsErrOf result ToolEnd.TooLong →
-        ConsumedBeyond (most_bytes - playback.sound.head) (left_before (take first room.old) (S.left source.old))
-        (S.left source.new) }
-    ensures within { (IsErrOf result ToolEnd.TooLong → ⊥) →
-        ConsumedUpTo (most_bytes - playback.sound.head) (left_before (take first room.old) (S.left source.old))
-        (S.left source.new) }
+    ensures takes { TakesSound playback.sound.length (most_bytes - playback.sound.head) result
+        (left_before (take first room.old) (S.left source.old)) (S.left source.new) }
     ensures holds { KeepsConnection L.left L.faults conn.old conn.new result }
     ensures end { IfErr result (λ how. is_of_blocks how ≡ true) }
     ensures fault { CountsFault (IsErrOf result ToolEnd.ReadFault) (S.faults source.old) (S.faults source.new) }

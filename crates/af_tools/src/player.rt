@@ -3,14 +3,14 @@ ghost use Rattle.std.specs.Prelude.{ℕ, List, ◌≡◌, ◌≤◌, ◌⊎◌, 
 ghost use Rattle.std.specs.declared.option.Option.TheVariants.{None, Some};
 ghost use Rattle.af_time.specs.DeviceTime.{frames_lasting};
 ghost use Rattle.af_io.specs.Observed.{CountsFault};
-ghost use Rattle.af_io.specs.Flow.{IsSpent};
 ghost use Rattle.af_sample.specs.Channels.{IsChannelCount};
-ghost use Rattle.af_lib.specs.Calls.{device_channels};
-ghost use Rattle.af_tool.specs.Talk.{creates};
-ghost use Rattle.af_tool.specs.Ends.{client_of, KeepsConnection};
-ghost use Rattle.af_tools.specs.Play.{play_context, played_on, start_at};
+ghost use Rattle.af_lib.specs.Calls.{as_done, device_channels};
+ghost use Rattle.af_toolkit.specs.Talk.{creates};
+ghost use Rattle.af_toolkit.specs.Trace.{asks};
+ghost use Rattle.af_toolkit.specs.Ends.{client_of, is_of_link, KeepsConnection, ObservedPartOver};
+ghost use Rattle.af_tools.specs.Play.{play_context, played_frames, plays_on, start_at, IsBlock};
 ghost use Rattle.af_tools.specs.Outcomes.{is_of_blocks, is_of_play};
-ghost use Rattle.af_tools.specs.Fill.{ConsumedBeyond, ConsumedStated, ConsumedUpTo};
+ghost use Rattle.af_tools.specs.Fill.{TakesSound};
 ghost use Rattle.af_tools.specs.Limits.{most_bytes};
 ghost use Rattle.af_tools.specs.Sounds.{IsServedAs};
 ghost use Rattle.af_tools.specs.Reading.{ObservedPartReading, UsesSource};
@@ -27,7 +27,9 @@ use af_lib::Conn;
 use af_request::DeviceInfo;
 use af_sample::{Gain, SampleType};
 use af_time::DevTime;
-use af_tool::{ToolContext, ToolEnd, device_time, device_with, finish, make_context, time_behind};
+use af_toolkit::{
+    ToolContext, ToolEnd, device_time, device_with, finish, make_context, time_behind,
+};
 
 // How many frames were played, and from when on.
 #[derive(Clone, Copy)]
@@ -36,7 +38,7 @@ pub struct Played {
     pub start: DevTime,
 }
 
-// The start of a job, where the device's time is now.
+// The time from which a job plays, if the device's time is now.
 fn start_of(job: &PlayJob, now: DevTime, rate: u32) -> DevTime
     ensures { result.0 ≡ start_at job.now.time now.0 (frames_lasting rate job.now.lead) }
 {
@@ -60,6 +62,35 @@ fn context_of(job: &PlayJob, ty: SampleType) -> ToolContext
     }
 }
 
+// Makes the context of a job for a sound.
+fn make_play_context<L: Link + Drop>(
+    job: &PlayJob,
+    sound: SourceSound,
+    conn: &mut Conn<L>,
+) -> Result<(), ToolEnd>
+    requires usable { conn.old.cause ≡ None }
+    requires channels { device_channels conn.old.devices job.now.device ≡ sound.channels }
+    ensures goes { ObservedPartOver L.left L.sent conn.old conn.new
+        (λ w. asks (play_context job.now sound.ty sound.channels) as_done w) result }
+    ensures made { IfOk result (λ _. (input : List ℕ) → L.left conn.old.link ≡ Some input →
+        GivesReply (play_context job.now sound.ty sound.channels) (client_of conn.old input)) }
+    ensures holds { KeepsConnection L.left L.faults conn.old conn.new result }
+    ensures end { IfErr result (λ how. is_of_link how ≡ true) }
+{
+    make_context(conn, context_of(job, sound.ty))
+}
+
+// The frames of a block of a job.
+fn block_of(job: &PlayJob, sound: SourceSound) -> u32
+    requires begun { 1 ≤ job.now.block }
+    requires count { IsChannelCount sound.channels }
+    ensures value { result ≡ played_frames job.now sound.ty sound.channels }
+    ensures block { IsBlock sound.ty sound.channels result }
+{
+    let frame = sound.ty.frame_bytes(sound.channels);
+    block_frames(job.block, frame)
+}
+
 // A job, and what its source gives to be played on its device.
 #[derive(Clone, Copy)]
 struct Plan {
@@ -68,7 +99,7 @@ struct Plan {
     sound: SourceSound,
 }
 
-// Plays a sound that a source gives on a device.
+// Plays the sound of a source on a device.
 fn play_on<L: Link + Drop, S: Source>(
     plan: Plan,
     conn: &mut Conn<L>,
@@ -82,14 +113,9 @@ fn play_on<L: Link + Drop, S: Source>(
     requires count { IsChannelCount plan.sound.channels }
     requires room { greatest_block ≤ length room.old }
     ensures goes { ObservedPartReading L.left L.sent S.left conn.old conn.new source.old source.new
-        (λ bytes w next. played_on plan.job plan.sound plan.device bytes w
+        (λ bytes w next. plays_on plan.job plan.sound plan.device bytes w
         (λ frames start. next (record { frames = frames; start = record { 0 = start } }))) result }
-    ensures spent { IfOk result (λ _. IsSpent (S.left source.new)
-        ⊎ ConsumedStated plan.sound.length (S.left source.old) (S.left source.new)) }
-    ensures long { IsErrOf result ToolEnd.TooLong →
-        ConsumedBeyond (most_bytes - plan.sound.head) (S.left source.old) (S.left source.new) }
-    ensures within { (IsErrOf result ToolEnd.TooLong → ⊥) →
-        ConsumedUpTo (most_bytes - plan.sound.head) (S.left source.old) (S.left source.new) }
+    ensures takes { TakesSound plan.sound.length (most_bytes - plan.sound.head) result (S.left source.old) (S.left source.new) }
     ensures unread { (source.new ≡ source.old) ⊎ ((input : List ℕ) → L.left conn.old.link ≡ Some input →
         GivesReply (play_context plan.job plan.sound.ty plan.sound.channels) (client_of conn.old input)) }
     ensures holds { KeepsConnection L.left L.faults conn.old conn.new result }
@@ -97,9 +123,8 @@ fn play_on<L: Link + Drop, S: Source>(
     ensures fault { CountsFault (IsErrOf result ToolEnd.ReadFault) (S.faults source.old) (S.faults source.new) }
 {
     let Plan { job, device, sound } = plan;
-    make_context(conn, context_of(&job, sound.ty))?;
-    let frame = sound.ty.frame_bytes(sound.channels);
-    let block = block_frames(job.block, frame);
+    make_play_context(&job, sound, conn)?;
+    let block = block_of(&job, sound);
     // The time is asked for once there is something to play, so a source that is slow to begin costs no lead.
     let early = read_early(source, sound, block, room)?;
     let now = device_time(conn, job.device)?;

@@ -1,10 +1,10 @@
-// Blocks are recorded, one behind the other, and written to the sink.
+// Blocks are recorded, one after another, and written to the sink.
 ghost use Rattle.std.specs.Prelude.{◌≡◌, ◌<◌, ◌≤◌, ◌+◌, ◌*◌, ◌^◌, length, nat_lt, if◌then◌else◌, true, Err, IfErr, IfOk};
 ghost use Rattle.std.specs.declared.option.Option.{Option};
 ghost use Rattle.std.specs.declared.option.Option.TheVariants.{None};
 ghost use Rattle.af_io.specs.Observed.{CountsFault};
 ghost use Rattle.af_sample.specs.Channels.{IsChannelCount};
-ghost use Rattle.af_tool.specs.Ends.{KeepsConnection, ObservedPartWriting};
+ghost use Rattle.af_toolkit.specs.Ends.{KeepsConnection, ObservedPartWriting};
 ghost use Rattle.af_tools.specs.Files.{IsFiledAs};
 ghost use Rattle.af_tools.specs.Record.{peak, recorded_frame, records_all, takes_block};
 ghost use Rattle.af_tools.specs.Outcomes.{is_of_records};
@@ -18,7 +18,7 @@ use af_lib::Conn;
 use af_sample::{SampleType, decode};
 use af_sound::Coding;
 use af_time::DevTime;
-use af_tool::{CONTEXT, ToolEnd};
+use af_toolkit::{CONTEXT, ToolEnd};
 
 /// What is recorded, and how it is written.
 #[derive(Clone, Copy)]
@@ -52,7 +52,7 @@ pub fn peak(ty: SampleType, block: &[u8]) -> u32
     peak
 }
 
-// How many quiet blocks in a row there are behind one with this peak.
+// How many quiet blocks there are in a row after one with this peak.
 fn row_behind(row: u32, peak: u32, limit: u32) -> u32
     requires { row + 1 < 2 ^ 32 }
     ensures { result ≡ if nat_lt peak limit then row + 1 else 0 }
@@ -60,7 +60,7 @@ fn row_behind(row: u32, peak: u32, limit: u32) -> u32
     if peak < limit { row + 1 } else { 0 }
 }
 
-// Records a block, and writes it to the sink: its peak.
+// Records a block, writes it to the sink, and answers its peak.
 fn record_block<L: Link + Drop, K: Sink>(
     conn: &mut Conn<L>,
     sink: &mut K,

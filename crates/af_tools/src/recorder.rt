@@ -4,9 +4,9 @@ ghost use Rattle.std.specs.declared.option.Option.TheVariants.{None};
 ghost use Rattle.af_io.specs.Observed.{CountsFault};
 ghost use Rattle.af_request.specs.Replies.{IsDeviceInfo};
 ghost use Rattle.af_lib.specs.Calls.{device_channels};
-ghost use Rattle.af_tool.specs.Talk.{creates};
-ghost use Rattle.af_tool.specs.Ends.{KeepsConnection, ObservedPartWriting};
-ghost use Rattle.af_tools.specs.Record.{arecord_trace, record_context, recorded_on, writes_recording};
+ghost use Rattle.af_toolkit.specs.Talk.{creates};
+ghost use Rattle.af_toolkit.specs.Ends.{KeepsConnection, ObservedPartWriting};
+ghost use Rattle.af_tools.specs.Record.{arecord_trace, record_context, records_on, writes_recording};
 ghost use Rattle.af_tools.specs.Recorded.{LeavesRecording};
 ghost use Rattle.af_tools.specs.Outcomes.{is_of_writer, is_of_records};
 ghost use Rattle.af_tools.specs.Results.{LacksDevice, RunsTool};
@@ -20,9 +20,9 @@ use af_lib::Conn;
 use af_request::DeviceInfo;
 use af_sample::Gain;
 use af_time::DevTime;
-use af_tool::{ToolContext, ToolEnd, begin, device_with, finish};
+use af_toolkit::{ToolContext, ToolEnd, begin, device_with, finish};
 
-// The start of a job, where the device's time is now.
+// The time from which a job records, if the device's time is now.
 fn start_of(job: &RecordJob, now: DevTime) -> DevTime
     ensures { result.0 ≡ unwrap_or job.now.time now.0 }
 {
@@ -46,7 +46,7 @@ fn context_of(job: &RecordJob, device: DeviceInfo) -> ToolContext
     }
 }
 
-// Records a device from a start on, and writes it, as samples or in a sound file.
+// Records a device from a start on, and writes samples or a sound file.
 fn write_recording<L: Link + Drop, K: Sink>(
     job: &RecordJob,
     device: DeviceInfo,
@@ -88,7 +88,7 @@ fn record_on<L: Link + Drop, K: Sink>(
     requires stop { (1 ≤ job.now.stop_blocks) × (job.now.stop_blocks ≤ 1000000) }
     requires room { greatest_block ≤ length room.old }
     ensures goes { ObservedPartWriting L.left L.sent K.held conn.old conn.new sink.old sink.new
-        (λ w next. recorded_on job.now device w (next tt)) result }
+        (λ w next. records_on job.now device w (next tt)) result }
     ensures holds { KeepsConnection L.left L.faults conn.old conn.new result }
     ensures end { IfErr result (λ how. is_of_records how ≡ true) }
     ensures fault { CountsFault (result ≡ Err ToolEnd.SinkFault) (K.faults sink.old) (K.faults sink.new) }

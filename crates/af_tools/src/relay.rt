@@ -5,8 +5,7 @@ ghost use Rattle.af_io.specs.Observed.{CountsFault, Appended, FaultCounted};
 ghost use Rattle.af_io.specs.Dial.{ToldLink};
 ghost use Rattle.af_cli.specs.Ranges.{IsAddress, IsPaced};
 ghost use Rattle.af_cli.specs.Words.{relay};
-ghost use Rattle.af_tools.specs.Dialled.{RelaysOver};
-ghost use Rattle.af_tools.specs.Run.{is_of_over, is_of_relay, AskedFor, JobRan, RunsRelayTo};
+ghost use Rattle.af_tools.specs.Run.{RelaysOver, is_of_over, is_of_relay, AskedFor, JobRan, RunsRelayTo};
 ghost use Rattle.af_cli.specs.Sizes.{greatest_block};
 
 use crate::memory::Memory;
@@ -14,10 +13,10 @@ use af_cli::{PassJob, RelayCall};
 use af_io::{Dial, Dialed, Link, Sink};
 use af_lib::Conn;
 use af_relay::apass;
-use af_tool::ToolEnd;
+use af_toolkit::ToolEnd;
 use af_wire::Order;
 
-// Sets the link to the other server up in an order, and passes blocks to it. The link comes back.
+// Sets the link to the other server up in a byte order, and passes blocks to it. The link comes back.
 fn pass_over<L: Link + Drop, M: Link + Drop, K: Sink>(
     order: Order,
     job: &PassJob,

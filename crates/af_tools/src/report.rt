@@ -1,18 +1,18 @@
-// What aplay writes when it has played all.
+// The line that aplay writes when it has played all.
 ghost use Rattle.std.specs.Prelude.{◌≡◌, ◌≤◌, length, take, true};
 ghost use Rattle.af_io.specs.Observed.{CountsFault};
-ghost use Rattle.af_tool.specs.Ends.{is_of_report, Reports};
-ghost use Rattle.af_tools.specs.Play.{played};
+ghost use Rattle.af_toolkit.specs.Ends.{is_of_report, Reports};
+ghost use Rattle.af_tools.specs.Play.{played_text};
 
 use af_io::Sink;
 use af_time::DevTime;
-use af_tool::{ToolEnd, put, put_number, write_text};
+use af_toolkit::{ToolEnd, put, put_number, write_text};
 
-// Writes the line into a buffer: its length.
+// Writes the line into a buffer, and answers its length.
 fn write_line(out: &mut [u8], frames: u64, start: DevTime) -> usize
     requires { 128 ≤ length out.old }
     ensures within { result ≤ length out.new }
-    ensures bytes { take result out.new ≡ played frames start.0 }
+    ensures bytes { take result out.new ≡ played_text frames start.0 }
 {
     let at = put(out, 0, b"played ");
     let at = put_number(out, at, frames);
@@ -23,7 +23,7 @@ fn write_line(out: &mut [u8], frames: u64, start: DevTime) -> usize
 
 /// Writes how many frames were played, and from when on.
 pub fn report<K: Sink>(sink: &mut K, frames: u64, start: DevTime) -> ToolEnd
-    ensures followed { Reports K.held (played frames start.0) result sink.old sink.new }
+    ensures followed { Reports K.held (played_text frames start.0) result sink.old sink.new }
     ensures end { is_of_report result ≡ true }
     ensures fault { CountsFault (result ≡ ToolEnd.SinkFault) (K.faults sink.old) (K.faults sink.new) }
 {

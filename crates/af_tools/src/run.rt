@@ -1,16 +1,16 @@
-// The tools, by their words: a server is dialled, and what the words ask is done.
+// The tools, by their arguments: a server is dialled, and the job is done.
 ghost use Rattle.std.specs.Prelude.{◌≡◌, ◌≢◌, ◌≤◌, ◌⊎◌, ◌∷◌, [], true, length};
 ghost use Rattle.std.specs.declared.option.Option.TheVariants.{None, Some};
 ghost use Rattle.af_io.specs.Observed.{CountsFault, Appended, FaultCounted};
-ghost use Rattle.af_tool.specs.Trace.{connects};
-ghost use Rattle.af_tool.specs.Ends.{client_of};
+ghost use Rattle.af_toolkit.specs.Trace.{connects};
+ghost use Rattle.af_toolkit.specs.Ends.{client_of};
 ghost use Rattle.af_cli.specs.Words.{is_spelled, job, one, Job};
 ghost use Rattle.af_cli.specs.Call.{job_of_call, IsCall};
 ghost use Rattle.af_cli.specs.Ranges.{IsAddress, IsRanged};
 ghost use Rattle.af_tools.specs.Outcomes.{is_of_tool};
 ghost use Rattle.af_tools.specs.Reading.{FollowsTrace, UsesSource};
 ghost use Rattle.af_tools.specs.Unread.{DialReadsLate, JobReadsLate, LinkReadsLate, TaskReadsLate};
-ghost use Rattle.af_tools.specs.Run.{form_of, is_of_af, is_of_far, is_of_job, is_of_one, job_form, job_reads, reads_of, reads_source, servers_of, source_form, task_trace, AskedFor, DoesJob, RunsJob};
+ghost use Rattle.af_tools.specs.Run.{form_of, is_of_af, is_of_far, is_of_job, is_of_one, job_form, job_reads, reads_of, reads_source, servers_of, source_form, task_trace, AskedFor, DoesJob, EndsForCause, RunsJob};
 ghost use Rattle.af_cli.specs.Sizes.{greatest_block};
 
 use crate::memory::Memory;
@@ -22,7 +22,7 @@ use af_cli::{Call, OptionsFault, Task, TaskCall, call_of};
 use af_io::{Args, Dial, Dialed, Link, Sink, Source};
 use af_lib::Conn;
 use af_standing::list;
-use af_tool::ToolEnd;
+use af_toolkit::ToolEnd;
 use af_wire::Order;
 use std::alloc::Global;
 
@@ -54,7 +54,7 @@ fn perform<L: Link + Drop, S: Source, K: Sink>(
     }
 }
 
-// Sets a link up in an order and does a task on it. The link comes back.
+// Sets a link up in a byte order and does a task on it. The link comes back.
 fn perform_over<L: Link + Drop, S: Source, K: Sink>(
     order: Order,
     task: &Task,
@@ -98,15 +98,10 @@ fn run_one<S: Source, K: Sink, D: Dial>(
     ensures ran { RunsJob D.links D.back S.left K.held (one call.now.server.now call.now.order call.now.task) result
         dial.old dial.new source.old source.new sink.old sink.new }
     ensures asked { Appended (D.asked dial.old) (call.now.server.now ∷ []) (D.asked dial.new) }
-    ensures memory { result ≡ ToolEnd.OutOfMemory → sink.new ≡ sink.old }
     ensures end { is_of_one (reads_source call.now.task) result ≡ true }
-    ensures source { UsesSource S.left S.faults (reads_source call.now.task) (source_form call.now.task) result
-        source.old source.new }
+    ensures causes { EndsForCause S.left S.faults K.faults D.faults D.hurt
+        (reads_source call.now.task) (source_form call.now.task) result source.old source.new sink.old sink.new dial.old dial.new }
     ensures unread { DialReadsLate D.links call.now.order call.now.task dial.old source.old source.new }
-    ensures dialled { CountsFault (result ≡ ToolEnd.DialFault) (D.faults dial.old) (D.faults dial.new) }
-    ensures undialled { result ≡ ToolEnd.DialFault → (source.new ≡ source.old) × (sink.new ≡ sink.old) }
-    ensures link { CountsFault (result ≡ ToolEnd.LinkFault) (D.hurt dial.old) (D.hurt dial.new) }
-    ensures sink { CountsFault (result ≡ ToolEnd.SinkFault) (K.faults sink.old) (K.faults sink.new) }
 {
     match dial.dial(call.server) {
         Dialed::Far(far) => {
@@ -131,15 +126,11 @@ fn run_call<S: Source, K: Sink, D: Dial>(
     ensures ran { RunsJob D.links D.back S.left K.held (job_of_call call.now) result
         dial.old dial.new source.old source.new sink.old sink.new }
     ensures asked { AskedFor (servers_of (job_of_call call.now)) result (D.asked dial.old) (D.asked dial.new) }
-    ensures memory { result ≡ ToolEnd.OutOfMemory → sink.new ≡ sink.old }
     ensures end { is_of_job (job_of_call call.now) result ≡ true }
-    ensures source { UsesSource S.left S.faults (job_reads (job_of_call call.now)) (job_form (job_of_call call.now)) result
-        source.old source.new }
+    ensures causes { EndsForCause S.left S.faults K.faults D.faults D.hurt
+        (job_reads (job_of_call call.now)) (job_form (job_of_call call.now)) result
+        source.old source.new sink.old sink.new dial.old dial.new }
     ensures unread { JobReadsLate D.links (job_of_call call.now) dial.old source.old source.new }
-    ensures dialled { CountsFault (result ≡ ToolEnd.DialFault) (D.faults dial.old) (D.faults dial.new) }
-    ensures undialled { result ≡ ToolEnd.DialFault → (source.new ≡ source.old) × (sink.new ≡ sink.old) }
-    ensures link { CountsFault (result ≡ ToolEnd.LinkFault) (D.hurt dial.old) (D.hurt dial.new) }
-    ensures sink { CountsFault (result ≡ ToolEnd.SinkFault) (K.faults sink.old) (K.faults sink.new) }
 {
     let Ok(mut memory) = Memory::new(alloc) else {
         return ToolEnd::OutOfMemory;
@@ -160,7 +151,7 @@ pub fn af_run<S: Source, K: Sink, D: Dial>(
     sink: &mut K,
     dial: &mut D,
 ) -> ToolEnd
-    // Usage never where the words are spelled; all others get it, but for those that the command takes all the same
+    // valid arguments never get Usage; all others get it, except those that the command accepts as well
     ensures usage { is_spelled words.now ≡ true → result ≢ ToolEnd.Usage }
     ensures other { job words.now ≡ None → (result ≡ ToolEnd.Usage) ⊎ (result ≡ ToolEnd.OutOfMemory) }
     ensures untouched { result ≡ ToolEnd.Usage → (source.new ≡ source.old) × (sink.new ≡ sink.old) × (dial.new ≡ dial.old) }
@@ -174,13 +165,9 @@ pub fn af_run<S: Source, K: Sink, D: Dial>(
 
     // each end has its cause
     ensures end { is_of_af (job words.now) result ≡ true }
-    ensures memory { result ≡ ToolEnd.OutOfMemory → sink.new ≡ sink.old }
-    ensures source { UsesSource S.left S.faults (reads_of (job words.now)) (form_of (job words.now)) result source.old source.new }
+    ensures causes { EndsForCause S.left S.faults K.faults D.faults D.hurt (reads_of (job words.now)) (form_of (job words.now))
+        result source.old source.new sink.old sink.new dial.old dial.new }
     ensures unread { (j : Job) → job words.now ≡ Some j → JobReadsLate D.links j dial.old source.old source.new }
-    ensures dialled { CountsFault (result ≡ ToolEnd.DialFault) (D.faults dial.old) (D.faults dial.new) }
-    ensures undialled { result ≡ ToolEnd.DialFault → (source.new ≡ source.old) × (sink.new ≡ sink.old) }
-    ensures link { CountsFault (result ≡ ToolEnd.LinkFault) (D.hurt dial.old) (D.hurt dial.new) }
-    ensures sink { CountsFault (result ≡ ToolEnd.SinkFault) (K.faults sink.old) (K.faults sink.new) }
 {
     match call_of(alloc, words) {
         Ok(call) => run_call(alloc, &call, source, sink, dial),

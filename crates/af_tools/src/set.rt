@@ -1,15 +1,15 @@
 // What aset asks.
 ghost use Rattle.std.specs.Prelude.{◌≡◌, true, IfErr};
 ghost use Rattle.std.specs.declared.option.Option.TheVariants.{None};
-ghost use Rattle.af_tool.specs.Ends.{is_of_link, ObservedPartOver, KeepsConnection};
-ghost use Rattle.af_tools.specs.Set.{asks_where, control_request, hooks, set_on, states_controls};
+ghost use Rattle.af_toolkit.specs.Ends.{is_of_link, ObservedPartOver, KeepsConnection};
+ghost use Rattle.af_tools.specs.Set.{asks_where, control_request, hooks, sets_on, states_controls};
 
 use af_cli::SetJob;
 use af_io::Link;
 use af_lib::Conn;
 use af_request::DeviceInfo;
-use af_standing::{Standing, standing_of};
-use af_tool::ToolEnd;
+use af_standing::{ControlsReport, controls_report_of};
+use af_toolkit::ToolEnd;
 
 // Whether a job states a control.
 fn states_controls(job: &SetJob) -> bool
@@ -41,7 +41,7 @@ fn set_controls<L: Link + Drop>(job: &SetJob, conn: &mut Conn<L>) -> Result<(), 
     Ok(())
 }
 
-// Takes the hook off or puts it on, where a job states that.
+// Takes the hook off or puts it on, if a job states that.
 fn set_hook<L: Link + Drop>(job: &SetJob, conn: &mut Conn<L>) -> Result<(), ToolEnd>
     requires { conn.old.cause ≡ None }
     ensures goes { ObservedPartOver L.left L.sent conn.old conn.new (λ w. hooks job.now.device job.now.hook_off w) result }
@@ -59,13 +59,13 @@ pub fn set_on<L: Link + Drop>(
     job: &SetJob,
     device: DeviceInfo,
     conn: &mut Conn<L>,
-) -> Result<Standing, ToolEnd>
+) -> Result<ControlsReport, ToolEnd>
     requires { conn.old.cause ≡ None }
-    ensures goes { ObservedPartOver L.left L.sent conn.old conn.new (λ w. set_on job.now device w) result }
+    ensures goes { ObservedPartOver L.left L.sent conn.old conn.new (λ w. sets_on job.now device w) result }
     ensures holds { KeepsConnection L.left L.faults conn.old conn.new result }
     ensures end { IfErr result (λ how. is_of_link how ≡ true) }
 {
     set_controls(job, conn)?;
     set_hook(job, conn)?;
-    standing_of(job.device, device.line, conn)
+    controls_report_of(job.device, device.line, conn)
 }

@@ -1,10 +1,10 @@
-// aset: controls and a hook are set, and how they stand is written to the sink.
+// aset: sets controls and a hook, and writes the state of the device to the sink.
 ghost use Rattle.std.specs.Prelude.{◌≡◌, true};
 ghost use Rattle.std.specs.declared.option.Option.{Option};
 ghost use Rattle.std.specs.declared.option.Option.TheVariants.{None};
 ghost use Rattle.af_io.specs.Observed.{CountsFault};
-ghost use Rattle.af_tool.specs.Ends.{is_of_report, Reports};
-ghost use Rattle.af_standing.specs.Standing.{standing_text};
+ghost use Rattle.af_toolkit.specs.Ends.{is_of_report, Reports};
+ghost use Rattle.af_standing.specs.ControlsReport.{controls_report_text};
 ghost use Rattle.af_tools.specs.Set.{aset_trace};
 ghost use Rattle.af_tools.specs.Outcomes.{is_of_writer};
 ghost use Rattle.af_tools.specs.Results.{LacksDevice, RunsTool};
@@ -13,17 +13,17 @@ use crate::set::set_on;
 use af_cli::SetJob;
 use af_io::{Link, Sink};
 use af_lib::Conn;
-use af_standing::{Standing, write_standing};
-use af_tool::{ToolEnd, device_with, write_text};
+use af_standing::{ControlsReport, write_controls_report};
+use af_toolkit::{ToolEnd, device_with, write_text};
 
-// Writes how a device stands.
-fn report<K: Sink>(sink: &mut K, standing: Standing) -> ToolEnd
-    ensures followed { Reports K.held (standing_text standing) result sink.old sink.new }
+// Writes the state of a device.
+fn report<K: Sink>(sink: &mut K, controls_report: ControlsReport) -> ToolEnd
+    ensures followed { Reports K.held (controls_report_text controls_report) result sink.old sink.new }
     ensures end { is_of_report result ≡ true }
     ensures fault { CountsFault (result ≡ ToolEnd.SinkFault) (K.faults sink.old) (K.faults sink.new) }
 {
     let mut text = [0; 136];
-    let length = write_standing(&mut text, standing);
+    let length = write_controls_report(&mut text, controls_report);
     write_text(sink, &text[..length])
 }
 
@@ -47,7 +47,7 @@ pub fn aset<L: Link + Drop, K: Sink>(job: &SetJob, conn: &mut Conn<L>, sink: &mu
         Err(end) => return end,
     };
     match set_on(job, device, conn) {
-        Ok(standing) => report(sink, standing),
+        Ok(controls_report) => report(sink, controls_report),
         Err(end) => end,
     }
 }

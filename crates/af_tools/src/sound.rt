@@ -1,11 +1,10 @@
-// What a source gives to be played: samples, or a sound file.
+// The sound that a source gives to play: samples, or a sound file.
 ghost use Rattle.std.specs.Prelude.{◌≡◌, ◌≤◌, ◌*◌, ◌==◌, ◌&&◌, ℕ, List, [], length, take, true, IfErr, IfOk, IsErrOf, unwrap_or};
 ghost use Rattle.std.specs.declared.option.Option.TheVariants.{None, Some};
 ghost use Rattle.af_io.specs.Observed.{CountsFault};
-ghost use Rattle.af_sound.specs.declared.head.SoundFault.{SoundFault};
 ghost use Rattle.af_tools.specs.Sounds.{at_one_shape, file_sound, raw_sound, served_type, source_width, IsServedAs};
-ghost use Rattle.af_tools.specs.SoundReads.{ends_shape, is_of_front, is_of_sound, BringsHead, BringsSound};
-ghost use Rattle.af_tools.specs.Fill.{ConsumedBeyondMost, ConsumedCut, ConsumedFault, ConsumedHead, ConsumedWithinMost};
+ghost use Rattle.af_tools.specs.Reading.{ends_shape, is_of_front, is_of_sound, BringsHead, BringsSound, TakesFront};
+ghost use Rattle.af_tools.specs.Fill.{ConsumedHead};
 
 use crate::play::MOST_BYTES;
 use af_cli::PlayJob;
@@ -13,7 +12,7 @@ use af_io::{Got, Source};
 use af_request::DeviceInfo;
 use af_sample::SampleType;
 use af_sound::{Coding, HeadReader, HeadStep, SoundForm, SoundHead};
-use af_tool::ToolEnd;
+use af_toolkit::ToolEnd;
 
 /// The samples that a source gives, after the bytes that were read of it.
 #[derive(Clone, Copy, Debug, PartialEq, Eq)]
@@ -44,14 +43,14 @@ impl SourceSound {
     }
 }
 
-// The head of a file, and how many bytes it has.
+// The header of a file, and how many bytes it has.
 #[derive(Clone, Copy)]
 pub struct FileHead {
     pub head: SoundHead,
     pub size: u64,
 }
 
-// The type that the device takes the samples of a file as.
+// The sample type in which the device takes the samples of a file.
 fn type_of(coding: Coding) -> SampleType
     ensures { result ≡ served_type coding }
 {
@@ -62,17 +61,13 @@ fn type_of(coding: Coding) -> SampleType
     }
 }
 
-// Reads the head of a file, byte by byte.
+// Reads the header of a file, byte by byte.
 fn read_head<S: Source>(form: SoundForm, source: &mut S) -> Result<FileHead, ToolEnd>
     ensures brings { BringsHead S.left form result source.old source.new }
     ensures read { IfOk result (λ file.
         ConsumedHead (Some form) file.size file.head.length (S.left source.old) (S.left source.new)) }
     ensures end { IfErr result (λ how. is_of_front how ≡ true) }
-    ensures bad { (fault : SoundFault) → IsErrOf result (ToolEnd.BadSound fault) →
-        ConsumedFault (Some form) fault (S.left source.old) (S.left source.new) }
-    ensures cut { IsErrOf result ToolEnd.SoundCut → ConsumedCut (Some form) (S.left source.old) (S.left source.new) }
-    ensures long { IsErrOf result ToolEnd.TooLong → ConsumedBeyondMost (S.left source.old) (S.left source.new) }
-    ensures within { (IsErrOf result ToolEnd.TooLong → ⊥) → ConsumedWithinMost (S.left source.old) (S.left source.new) }
+    ensures takes { TakesFront (Some form) result (S.left source.old) (S.left source.new) }
     ensures fault { CountsFault (IsErrOf result ToolEnd.ReadFault) (S.faults source.old) (S.faults source.new) }
 {
     let mut reader = HeadReader::new(form);
@@ -93,7 +88,7 @@ fn read_head<S: Source>(form: SoundForm, source: &mut S) -> Result<FileHead, Too
     }
 }
 
-// A file is to have the rate and the channels of its device.
+// Checks that a file has the rate and the channels of its device.
 fn fit(head: SoundHead, device: DeviceInfo) -> Result<(), ToolEnd>
     ensures { result ≡ ends_shape head device }
 {
@@ -126,11 +121,7 @@ pub fn sound_of<S: Source>(
     ensures raw { job.now.form ≡ None →
         (source.new ≡ source.old) × IfOk result (λ sound. sound.ty ≡ unwrap_or job.now.ty device.ty) }
     ensures end { IfErr result (λ how. is_of_sound how ≡ true) }
-    ensures bad { (fault : SoundFault) → IsErrOf result (ToolEnd.BadSound fault) →
-        ConsumedFault job.now.form fault (S.left source.old) (S.left source.new) }
-    ensures cut { IsErrOf result ToolEnd.SoundCut → ConsumedCut job.now.form (S.left source.old) (S.left source.new) }
-    ensures long { IsErrOf result ToolEnd.TooLong → ConsumedBeyondMost (S.left source.old) (S.left source.new) }
-    ensures within { (IsErrOf result ToolEnd.TooLong → ⊥) → ConsumedWithinMost (S.left source.old) (S.left source.new) }
+    ensures takes { TakesFront job.now.form result (S.left source.old) (S.left source.new) }
     ensures fault { CountsFault (IsErrOf result ToolEnd.ReadFault) (S.faults source.old) (S.faults source.new) }
 {
     let Some(form) = job.form else {

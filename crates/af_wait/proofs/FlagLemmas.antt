@@ -1,4 +1,4 @@
--- The flags beside a list of waits, which tell of each link whether it waits.
+-- The flags beside a list of waits, which say for each link whether it is in the list.
 use Rattle.std.proofs.Common.{◌≡◌, ◌≢◌, ℕ, ◌<◌, ◌==◌, ◌||◌, inl, inr, Bool, true, false, not, List, [], ◌∷◌, ◌++◌, length, map, get_or, set, replicate, refl, sym, ap, ◌∙◌, arith}
 use Rattle.std.proofs.Math.Bool.{or-false, or-true}
 use Rattle.std.proofs.lemmas.Bool.{cases_eq, cases_lt}
@@ -8,8 +8,8 @@ use Rattle.std.proofs.lemmas.List.Folds.{list_any-append}
 use Rattle.std.proofs.lemmas.Map.Views.{any-filter_same}
 use Rattle.af_limits.specs.Limits.{most_links}
 use Rattle.af_wait.specs.declared.Wait.{Wait}
-use Rattle.af_wait.specs.Waits.{is_waiting, passed, without_link, AreFlags}
-use Rattle.af_wait.proofs.WaitLemmas.{passed-link}
+use Rattle.af_wait.specs.Waits.{is_waiting, wait_after_frames, without_link, AreFlags}
+use Rattle.af_wait.proofs.WaitLemmas.{wait_after_frames-link}
 
 -- nothing waits, and no flag is set
 pub AreFlags-none : AreFlags (replicate most_links false) []
@@ -56,7 +56,7 @@ cleared flags link = elim (cases_lt link (length flags)) [
   | inr past ↦ get_or_past (set flags link false) link false (let n = length-set flags link false in omega arith)
 ]
 
--- without a link its flag is clear
+-- once a link is taken out, its flag is clear
 pub AreFlags-without_link : (flags : List Bool) (ws : List Wait) (link : ℕ) → AreFlags flags ws → AreFlags (set flags link false) (without_link ws link)
 AreFlags-without_link flags ws link h = record {
   count = length-set flags link false ∙ h.count;
@@ -66,13 +66,13 @@ AreFlags-without_link flags ws link h = record {
   ];
 }
 
-waiting-passed : (ws : List Wait) (device n k : ℕ) → is_waiting (map (passed device n) ws) k ≡ is_waiting ws k
-waiting-passed [] device n k = refl
-waiting-passed (w ∷ ws) device n k = ap (λ link. (link == k) || is_waiting (map (passed device n) ws) k) (passed-link device n w) ∙ ap (λ b. (w.link == k) || b) (waiting-passed ws device n k)
+waiting-wait_after_frames : (ws : List Wait) (device n k : ℕ) → is_waiting (map (wait_after_frames device n) ws) k ≡ is_waiting ws k
+waiting-wait_after_frames [] device n k = refl
+waiting-wait_after_frames (w ∷ ws) device n k = ap (λ link. (link == k) || is_waiting (map (wait_after_frames device n) ws) k) (wait_after_frames-link device n w) ∙ ap (λ b. (w.link == k) || b) (waiting-wait_after_frames ws device n k)
 
--- when frames have passed the same links wait
-pub AreFlags-passed : (flags : List Bool) (ws : List Wait) (device n : ℕ) → AreFlags flags ws → AreFlags flags (map (passed device n) ws)
-AreFlags-passed flags ws device n h = record {
+-- after frames have passed, the same links wait
+pub AreFlags-wait_after_frames : (flags : List Bool) (ws : List Wait) (device n : ℕ) → AreFlags flags ws → AreFlags flags (map (wait_after_frames device n) ws)
+AreFlags-wait_after_frames flags ws device n h = record {
   count = h.count;
-  fits = λ k. h.fits k ∙ sym (waiting-passed ws device n k);
+  fits = λ k. h.fits k ∙ sym (waiting-wait_after_frames ws device n k);
 }

@@ -1,4 +1,4 @@
--- Lists of waits in which each link stands once.
+-- Lists of waits with each link at most once.
 use Rattle.std.proofs.Common.{◌≡◌, ◌≢◌, ℕ, zero, suc, ◌+◌, ◌-◌, ◌<◌, ◌≤◌, ◌==◌, ◌||◌, Bool, true, false, cond, not, eqb, List, [], ◌∷◌, ◌++◌, length, map, filter, find, get_or, option_map, IfSome, Option, Some, None, refl, sym, ap, ◌∙◌, subst, arith, rules}
 use Rattle.std.proofs.lemmas.Bool.Decides.{nat_tests}
 use Rattle.std.specs.List.{list_any, All, AllPairs}
@@ -10,7 +10,7 @@ use Rattle.std.proofs.lemmas.Map.Keys.{IsDistinct-from_apart}
 use Rattle.std.proofs.lemmas.Map.Steps.{length-le_from_distinct_below}
 use Rattle.af_limits.specs.Limits.{most_links}
 use Rattle.af_wait.specs.declared.Wait.{Wait}
-use Rattle.af_wait.specs.Waits.{is_waiting, passed, without_first, without_link, without_taken, AreWaits}
+use Rattle.af_wait.specs.Waits.{is_waiting, wait_after_frames, without_first, without_link, without_taken, AreWaits}
 
 apart : (ws : List Wait) (link : ℕ) → is_waiting ws link ≡ false → (k : ℕ) (d : Wait) → k < length ws → (get_or ws k d).link ≢ link
 apart ws link free k d low same =
@@ -18,7 +18,7 @@ apart ws link free k d low same =
     let waits : is_waiting ws link ≡ true = list_any_at (λ w. w.link == link) ws k d low is in
     absurd cc
 
--- one wait more, of a link that does not wait
+-- one more wait, for a link that has none
 pub AreWaits-push : (ws : List Wait) (w : Wait) → AreWaits ws → w.link < most_links → is_waiting ws w.link ≡ false → AreWaits (ws ++ w ∷ [])
 AreWaits-push ws w h low free = record {
   distinct = all_pairs_push (λ a b. a.link ≢ b.link) ws w h.distinct (apart ws w.link free);
@@ -40,7 +40,7 @@ link_apart ws i j d h below low same =
     h.distinct i j x below low
     (sym (get_or-map (λ w. w.link) ws i x d (omega arith)) ∙ same ∙ get_or-map (λ w. w.link) ws j x d low)
 
--- links of which each waits once are no more than there may be
+-- a list with each link at most once has at most as many entries as there are links
 length-AreWaits : (ws : List Wait) → AreWaits ws → length ws ≤ most_links
 length-AreWaits ws h =
     let links : List ℕ = map (λ w. w.link) ws in
@@ -49,7 +49,7 @@ length-AreWaits ws h =
     let ne : get_or links i d ≢ get_or links j d = link_apart ws i j d h below (omega arith) in grind (arith, nat_tests)) in
     let m = length-le_from_distinct_below links most_links distinct (λ q e. any_below ws q h.links e) in omega arith
 
--- so there is room for a link that does not wait
+-- so there is room for a link that has none
 pub room-AreWaits : (ws : List Wait) (w : Wait) → AreWaits ws → w.link < most_links → is_waiting ws w.link ≡ false → length ws < most_links
 room-AreWaits ws w h low free =
     let m = length-AreWaits (ws ++ w ∷ []) (AreWaits-push ws w h low free) in
@@ -70,7 +70,7 @@ filter_pairs p (w ∷ ws) h =
     elim (p w) as (λ b. AllPairs (λ a b'. a.link ≢ b'.link) (cond b (w ∷ filter p ws) (filter p ws)))
     [ true ↦ pairs-cons w (filter p ws) (All-filter p (λ x. w.link ≢ x.link) ws head) rest | false ↦ rest ]
 
--- without a link they are waits still
+-- once a link is taken out, they are still waits
 pub AreWaits-without_link : (ws : List Wait) (link : ℕ) → AreWaits ws → AreWaits (without_link ws link)
 AreWaits-without_link ws link h = record {
   distinct = filter_pairs (λ w. not (w.link == link)) ws h.distinct;
@@ -99,7 +99,7 @@ later_kept p w ws (Some x) e h =
     let other : (w.link == x.link) ≡ false = let ne = find-apart p ws x w e h in grind (arith, nat_tests) in
     ap (λ b. cond (not b) (w ∷ without_link ws x.link) (without_link ws x.link)) other
 
--- what the link of the first that passes a test leaves is the list without that one
+-- taking out the link of the first that passes a test takes out that one
 pub without_taken-find : (p : Wait → Bool) (ws : List Wait) → AllPairs (λ a b. a.link ≢ b.link) ws
     → without_taken ws (option_map (λ w. w.link) (find p ws)) ≡ without_first p ws
 without_taken-find p [] h = refl
@@ -112,21 +112,21 @@ without_taken-find p (w ∷ ws) h =
       | false ↦ later_kept p w ws (find p ws) refl head ∙ ap (λ l. w ∷ l) (without_taken-find p ws tail)
     ]
 
-pub passed-link : (device n : ℕ) (w : Wait) → (passed device n w).link ≡ w.link
-passed-link device n w = elim (w.device == device) as (λ b. (cond b (record w { left = w.left - n }) w).link ≡ w.link) [ true ↦ refl | false ↦ refl ]
+pub wait_after_frames-link : (device n : ℕ) (w : Wait) → (wait_after_frames device n w).link ≡ w.link
+wait_after_frames-link device n w = elim (w.device == device) as (λ b. (cond b (record w { left = w.left - n }) w).link ≡ w.link) [ true ↦ refl | false ↦ refl ]
 
-link_at : (ws : List Wait) (device n k : ℕ) (d : Wait) → k < length ws → (get_or (map (passed device n) ws) k d).link ≡ (get_or ws k d).link
+link_at : (ws : List Wait) (device n k : ℕ) (d : Wait) → k < length ws → (get_or (map (wait_after_frames device n) ws) k d).link ≡ (get_or ws k d).link
 link_at ws device n k d low =
-    ap (λ (w : Wait). w.link) (get_or-map (passed device n) ws k d d low) ∙ passed-link device n (get_or ws k d)
+    ap (λ (w : Wait). w.link) (get_or-map (wait_after_frames device n) ws k d d low) ∙ wait_after_frames-link device n (get_or ws k d)
 
--- when frames have passed they are waits still
-pub AreWaits-passed : (ws : List Wait) (device n : ℕ) → AreWaits ws → AreWaits (map (passed device n) ws)
-AreWaits-passed ws device n h = record {
+-- after frames have passed, they are still waits
+pub AreWaits-wait_after_frames : (ws : List Wait) (device n : ℕ) → AreWaits ws → AreWaits (map (wait_after_frames device n) ws)
+AreWaits-wait_after_frames ws device n h = record {
   distinct = λ i j d below low same.
-      let k : length (map (passed device n) ws) ≡ length ws = length-map ws (passed device n) in
+      let k : length (map (wait_after_frames device n) ws) ≡ length ws = length-map ws (wait_after_frames device n) in
       h.distinct i j d below (omega arith)
       (sym (link_at ws device n i d (omega arith)) ∙ same ∙ link_at ws device n j d (omega arith));
-  links = All-map (λ w. w.link < most_links) (passed device n) ws (All-weaker (λ w. w.link < most_links) (λ w. (passed device n w).link < most_links) (λ w low. subst (λ k. k < most_links) (sym (passed-link device n w)) low) ws h.links);
+  links = All-map (λ w. w.link < most_links) (wait_after_frames device n) ws (All-weaker (λ w. w.link < most_links) (λ w. (wait_after_frames device n w).link < most_links) (λ w low. subst (λ k. k < most_links) (sym (wait_after_frames-link device n w)) low) ws h.links);
 }
 
 -- the link of one that is found is a link's number

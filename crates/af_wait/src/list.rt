@@ -1,8 +1,10 @@
-// The list of requests that wait.
+// The list of deferred requests.
+// Layout: the entries in order, the longest deferred first, at most one for each link. A flag for each link says whether it has
+// one.
 ghost use Rattle.std.specs.Prelude.{◌≡◌, ◌↔◌, ◌<◌, false, [], ◌∷◌, ◌++◌, length, map, option_map, slice_set, IfSome, IsNone};
 ghost use Rattle.std.specs.List.{All};
 ghost use Rattle.af_limits.specs.Limits.{most_links};
-ghost use Rattle.af_wait.specs.Waits.{first_due, is_due, is_waiting, passed, without_first, without_link, without_taken, AreWaits};
+ghost use Rattle.af_wait.specs.Waits.{first_due, is_due, is_waiting, wait_after_frames, without_first, without_link, without_taken, AreWaits};
 
 use crate::Wait;
 use af_limits::MOST_LINKS;
@@ -13,7 +15,7 @@ use std::marker::Model;
 #[derive(Drop)]
 pub struct Waiting {
     waits: ArrayVec<Wait, MOST_LINKS>,
-    // of each link whether it waits, since that is asked of every link in every turn
+    // by link, since a turn asks this of every link
     is_waiting: [bool; MOST_LINKS],
 }
 
@@ -80,7 +82,7 @@ impl Waiting {
 
     /// n frames of a device have passed.
     pub fn pass(&mut self, device: u8, n: u32)
-        ensures passed { self.new ≡ map (passed device n) self.old }
+        ensures passed { self.new ≡ map (wait_after_frames device n) self.old }
         ensures list { AreWaits self.new }
     {
         pass_all(&mut self.waits, device, n);
@@ -109,7 +111,7 @@ impl Waiting {
     }
 }
 
-// A link waits no more. One that has no flag never waited.
+// A link has no deferred request any more. One without a flag never had one.
 fn clear_flag(flags: &mut [bool], link: u8)
     ensures { flags.new ≡ slice_set flags.old link false }
 {
@@ -119,25 +121,25 @@ fn clear_flag(flags: &mut [bool], link: u8)
     }
 }
 
-// Time goes on for the requests that wait for a device.
+// Frames go by for the requests that wait for a device.
 fn pass_all(waits: &mut [Wait], device: u8, n: u32)
-    ensures { waits.new ≡ map (passed device n) waits.old }
+    ensures { waits.new ≡ map (wait_after_frames device n) waits.old }
 {
     for wait in waits.iter_mut() {
         pass_one(wait, device, n);
     }
 }
 
-// Time goes on for a request, if it waits for the device.
+// Frames go by for a request, if it waits for the device.
 fn pass_one(wait: &mut Wait, device: u8, n: u32)
-    ensures { wait.new ≡ passed device n wait.old }
+    ensures { wait.new ≡ wait_after_frames device n wait.old }
 {
     if wait.device == device {
         wait.left = wait.left.saturating_sub(n);
     }
 }
 
-// The link of the earliest request that waits for a device and is due.
+// The link whose request is due for a device, the longest deferred first.
 fn first_due_link(waits: &[Wait], device: u8) -> Option<u8>
     ensures earliest { result ≡ option_map (λ w. w.link) (first_due device waits.now) }
     ensures none { IsNone result ↔ All (λ w. is_due device w ≡ false) waits.now }

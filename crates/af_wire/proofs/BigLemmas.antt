@@ -1,4 +1,4 @@
--- In Big the wire is what it was before a client chose its order: the same facts, in the records of either.
+-- In Big the wire is what it was before a client chose its byte order: the same facts, in the records of either.
 use Rattle.std.proofs.Common.{◌↔◌, inl, inr, ℕ, List, refl, subst}
 use Rattle.af_wire.specs.declared.order.Order.TheVariants.{Big, Little}
 use Rattle.af_wire.specs.declared.front.Front.{Front}

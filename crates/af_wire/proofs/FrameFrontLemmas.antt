@@ -1,4 +1,4 @@
--- The front of a frame, and what the bytes begin with: each holds exactly where the other does.
+-- The front of a frame, and what the bytes begin with: each holds exactly if the other does.
 use Rattle.std.proofs.Common.{◌≡◌, ◌<◌, ◌≤◌, ◌+◌, ◌-◌, ◌*◌, ◌⊎◌, ◌↔◌, ◌==◌, ◌||◌, nat_lt, inl, inr, ℕ, Bool, true, false, List, [], ◌∷◌, ◌++◌, length, take, drop, refl, sym, ap, ◌∙◌, subst, arith, length-take, append_assoc}
 use Rattle.std.specs.Prelude.{if◌then◌else◌}
 use Rattle.af_wire.specs.declared.order.Order.{Order}
@@ -83,7 +83,7 @@ module _ (order : Order) where
       ∙ ap (λ n. frame_with n (length (s.opcode ∷ s.detail ∷ (s.words_field ++ s.rest)))) s.is_words.is
       ∙ ap (λ (b : List ℕ). frame_with words (length b)) (sym s.is)
 
-  -- what a piece states, the bytes state that begin with it
+  -- bytes state what the piece states that they begin with
   longer : (words : ℕ) (piece bytes : List ℕ) → StatesFrame order words piece → BeginsWith piece bytes → StatesFrame order words bytes
   longer words piece bytes s b = record {
     opcode = s.opcode;

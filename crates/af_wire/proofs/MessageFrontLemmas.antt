@@ -1,4 +1,4 @@
--- The front of a message, and what the bytes begin with: each holds exactly where the other does.
+-- The front of a message, and what the bytes begin with: each holds exactly if the other does.
 use Rattle.std.proofs.Common.{◌≡◌, ◌<◌, ◌≤◌, ◌+◌, ◌*◌, ◌↔◌, nat_lt, inl, inr, ℕ, Bool, true, false, List, [], ◌∷◌, ◌++◌, length, take, drop, refl, sym, ap, ◌∙◌, subst, arith, length-take, append_assoc}
 use Rattle.std.specs.Prelude.{IsTrue, if◌then◌else◌}
 use Rattle.af_wire.specs.declared.order.Order.{Order}
@@ -11,7 +11,7 @@ use Rattle.af_wire.specs.Order.{u16_of, u32_of}
 use Rattle.af_wire.specs.Begins.{BeginsWith, StatesHead, IsMessage, HasMessageFront}
 
 module _ (order : Order) where
-  -- the head, as it stands before any other bytes
+  -- the header, as it stands before any other bytes
   head_there : (kind detail a b c d e f : ℕ) (rest : List ℕ) →
       StatesHead order kind detail (u16_of order (a ∷ b ∷ [])) (u32_of order (c ∷ d ∷ e ∷ f ∷ [])) (kind ∷ detail ∷ a ∷ b ∷ c ∷ d ∷ e ∷ f ∷ rest)
   head_there kind detail a b c d e f rest = record {
@@ -42,7 +42,7 @@ module _ (order : Order) where
         record { words = words; states = head_there kind detail a b c d e f body; good = good; size = size } in
         (piece, begins, is, size)
 
-    -- and one that is not, or whose head is bad
+    -- a message that is not all there, or whose header is bad
     by_tests : (good less : Bool) →
         (let words = u32_of order (c ∷ d ∷ e ∷ f ∷ []) in is_head kind detail words ≡ good → nat_lt (length (kind ∷ detail ∷ a ∷ b ∷ c ∷ d ∷ e ∷ f ∷ tail)) (8 + 4 * words) ≡ less →
         HasMessageFront order (kind ∷ detail ∷ a ∷ b ∷ c ∷ d ∷ e ∷ f ∷ tail)
@@ -89,7 +89,7 @@ module _ (order : Order) where
       ∙ ap (λ n. message_with kind detail sequence n there) s.is_words.is
       ∙ ap (λ (b : List ℕ). message_with kind detail sequence words (length b)) (sym s.is)
 
-  -- what a piece states, the bytes state that begin with it
+  -- bytes state what the piece states that they begin with
   longer : (kind detail sequence words : ℕ) (piece bytes : List ℕ) → StatesHead order kind detail sequence words piece → BeginsWith piece bytes →
       StatesHead order kind detail sequence words bytes
   longer kind detail sequence words piece bytes s b = record {

@@ -16,12 +16,12 @@ use Rattle.af_wire.specs.Order.{u32_bytes, u32_of}
 use Rattle.af_wire.specs.Begins.{StatesError}
 use Rattle.af_wire.proofs.OrderLemmas.{u16_again, u32_again}
 
--- the front of a good head, behind which its body is there
+-- the front of a good header with its whole body
 good_front : (t : Bool) (k d s m there : ℕ) → IsTrue t → m ≤ there → (if t then (if nat_lt there m then NeedMore m else Message k d s m) else BadMessage) ≡ Message k d s m
 good_front true k d s m there good fits = grind (arith, nat_tests)
 good_front false k d s m there good fits = absurd cc
 
--- a good head with its body is one message
+-- a good header with its body is one message
 pub head_framed : (order : Order) (kind detail sequence words : ℕ) (body rest : List ℕ) → IsTrue (is_head kind detail words) → sequence < 2 ^ 16 → words < 2 ^ 32 → length body ≡ 4 * words →
     message_front order (head order kind detail sequence words ++ body ++ rest) ≡ Message kind detail sequence (8 + 4 * words)
 unfolding head
@@ -33,7 +33,7 @@ head_framed order kind detail sequence words body rest good low few whole =
     ∙ ap (λ (w : ℕ). message_with kind detail sequence w there) (u32_again order words few)
     ∙ good_front (is_head kind detail words) kind detail sequence (8 + 4 * words) there good fits
 
--- bytes that spell a good head are one message with the body that they state
+-- bytes that spell a good header are one message with the body that they state
 pub head_one : (order : Order) (kind detail sequence words : ℕ) (bytes body : List ℕ) → bytes ≡ head order kind detail sequence words → IsTrue (is_head kind detail words) → sequence < 2 ^ 16 → words < 2 ^ 32 → length body ≡ 4 * words →
     IsOneMessage order kind detail sequence (bytes ++ body)
 unfolding IsOneMessage head
@@ -45,7 +45,7 @@ head_one order kind detail sequence words bytes body e good low few whole rest =
 error_head : (code : ℕ) → 1 ≤ code → code ≤ 8 → IsTrue (is_head 0 code 2)
 error_head code some most = grind (arith, nat_tests)
 
--- an error of a code that there is, is one message
+-- an error with a known code is one message
 pub error_one : (order : Order) (code value opcode sequence : ℕ) (bytes : List ℕ) → bytes ≡ error order code value opcode sequence → sequence < 2 ^ 16 → 1 ≤ code → code ≤ 8 → IsOneMessage order 0 code sequence bytes
 unfolding error head
 error_one order code value opcode sequence bytes e low some most =

@@ -1,4 +1,4 @@
--- Numbers that are spelled in an order and read again.
+-- Numbers that are spelled in a byte order and read again.
 use Rattle.std.proofs.Common.{◌≡◌, ◌<◌, ◌^◌, ◌∙◌, ℕ, ℤ, ap}
 use Rattle.std.specs.Prelude.{FitsSigned}
 use Rattle.std.specs.Int.{w16, cast_signed, cast_unsigned}

@@ -1,4 +1,4 @@
--- The front of a setup, and what the bytes begin with: each holds exactly where the other does.
+-- The front of a setup, and what the bytes begin with: each holds exactly if the other does.
 use Rattle.std.proofs.Common.{◌≡◌, ◌≢◌, ◌<◌, ◌↔◌, ◌==◌, inl, inr, ℕ, Bool, true, false, List, [], ◌∷◌, ◌++◌, length, refl, sym, ap, ◌∙◌, subst, arith}
 use Rattle.std.specs.Prelude.{if◌then◌else◌}
 use Rattle.std.proofs.lemmas.Bool.Decides.{nat_tests}
@@ -6,11 +6,11 @@ use Rattle.af_wire.specs.declared.order.Order.{Order}
 use Rattle.af_wire.specs.declared.order.Order.TheVariants.{Big, Little}
 use Rattle.af_wire.specs.declared.front.SetupFront.{SetupFront}
 use Rattle.af_wire.specs.declared.front.SetupFront.TheVariants as setup
-use Rattle.af_wire.specs.Front.{setup_front, setup_with, versioned}
+use Rattle.af_wire.specs.Front.{setup_front, setup_with, setup_of_version}
 use Rattle.af_wire.specs.Order.{magic, u16_of, u32_of}
 use Rattle.af_wire.specs.Begins.{StatesSetup, HasSetupFront}
 
--- the first 8 bytes, with their version in an order
+-- the first 8 bytes, with their version in a byte order
 fields : (order : Order) (a b c d e f g h : ℕ) (rest : List ℕ) →
     StatesSetup order (u32_of Big (a ∷ b ∷ c ∷ d ∷ [])) (u16_of order (e ∷ f ∷ [])) (a ∷ b ∷ c ∷ d ∷ e ∷ f ∷ g ∷ h ∷ rest)
 fields order a b c d e f g h rest = record {
@@ -24,8 +24,8 @@ fields order a b c d e f g h rest = record {
   is_minor = refl;
 }
 
--- the front of a setup of an order
-by_version : (order : Order) (name major : ℕ) (bytes : List ℕ) → name ≡ magic order → StatesSetup order name major bytes → HasSetupFront bytes (versioned order major)
+-- the front of a setup of a byte order
+by_version : (order : Order) (name major : ℕ) (bytes : List ℕ) → name ≡ magic order → StatesSetup order name major bytes → HasSetupFront bytes (setup_of_version order major)
 unfolding HasSetupFront
 by_version order name major bytes is s = by (major == 1) refl where
   named : StatesSetup order (magic order) major bytes
@@ -49,7 +49,7 @@ by_fields a b c d e f g h rest = by (name == magic Big) (name == magic Little) r
   bytes = a ∷ b ∷ c ∷ d ∷ e ∷ f ∷ g ∷ h ∷ rest
 
   by : (big little : Bool) → (name == magic Big) ≡ big → (name == magic Little) ≡ little →
-      HasSetupFront bytes (if big then versioned Big (u16_of Big (e ∷ f ∷ [])) else if little then versioned Little (u16_of Little (e ∷ f ∷ [])) else setup.BadSetup Big name)
+      HasSetupFront bytes (if big then setup_of_version Big (u16_of Big (e ∷ f ∷ [])) else if little then setup_of_version Little (u16_of Little (e ∷ f ∷ [])) else setup.BadSetup Big name)
   by true little is _ = by_version Big name (u16_of Big (e ∷ f ∷ [])) bytes (grind (arith, nat_tests)) (fields Big a b c d e f g h rest)
   by false true _ is = by_version Little name (u16_of Little (e ∷ f ∷ [])) bytes (grind (arith, nat_tests)) (fields Little a b c d e f g h rest)
   by false false not_big not_little =
@@ -78,15 +78,15 @@ short : (bytes : List ℕ) → length bytes < 8 → setup_front bytes ≡ setup.
 short (a ∷ b ∷ c ∷ d ∷ e ∷ f ∷ g ∷ h ∷ rest) less = absurd (omega (arith, less))
 short _ less = refl
 
--- the setup of an order, whatever its version
-of_order : (order : Order) (major : ℕ) (bytes : List ℕ) → StatesSetup order (magic order) major bytes → setup_front bytes ≡ versioned order major
-of_order Big major bytes s = stated Big (magic Big) major bytes s ∙ ap (versioned Big) s.is_major.is
-of_order Little major bytes s = stated Little (magic Little) major bytes s ∙ ap (versioned Little) s.is_major.is
+-- the setup of a byte order, whatever its version
+of_order : (order : Order) (major : ℕ) (bytes : List ℕ) → StatesSetup order (magic order) major bytes → setup_front bytes ≡ setup_of_version order major
+of_order Big major bytes s = stated Big (magic Big) major bytes s ∙ ap (setup_of_version Big) s.is_major.is
+of_order Little major bytes s = stated Little (magic Little) major bytes s ∙ ap (setup_of_version Little) s.is_major.is
 
 another_name : (value : ℕ) (version : List ℕ) → value ≢ magic Big → value ≢ magic Little → setup_with value version ≡ setup.BadSetup Big value
 another_name value version not_big not_little = grind (arith, nat_tests)
 
-another_version : (order : Order) (value : ℕ) → value ≢ 1 → versioned order value ≡ setup.BadSetup order value
+another_version : (order : Order) (value : ℕ) → value ≢ 1 → setup_of_version order value ≡ setup.BadSetup order value
 another_version order value other = grind (arith, nat_tests)
 
 -- and no other front

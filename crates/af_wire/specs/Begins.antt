@@ -1,4 +1,4 @@
--- What bytes begin with, said of whole lists: the pieces that they are put together from, and no place in them.
+-- What bytes begin with, as a statement on whole lists: on the pieces that they are made of, and without offsets.
 use Rattle.std.specs.Prelude.{◌≡◌, ◌≢◌, ◌≤◌, ◌<◌, ◌⊎◌, ◌+◌, ◌*◌, ℕ, false, IsTrue, List, [], ◌∷◌, ◌++◌, length}
 use Rattle.af_limits.specs.Limits.{most_words}
 use Rattle.af_wire.specs.declared.order.Order.{Order}
@@ -12,12 +12,12 @@ use Rattle.af_wire.specs.declared.message_front.MessageFront.TheVariants as mess
 use Rattle.af_wire.specs.Order.{magic, u16_of, u32_of}
 use Rattle.af_wire.specs.MessageFront.{is_head}
 
--- two bytes that spell a number in an order
+-- two bytes that spell a number in a byte order
 pub record IsU16 (order : Order) (number : ℕ) (field : List ℕ) : Type 0 where
   pub size : length field ≡ 2
   pub is : u16_of order field ≡ number
 
--- four bytes that spell a number in an order
+-- four bytes that spell a number in a byte order
 pub record IsU32 (order : Order) (number : ℕ) (field : List ℕ) : Type 0 where
   pub size : length field ≡ 4
   pub is : u32_of order field ≡ number
@@ -27,7 +27,8 @@ pub record BeginsWith (piece bytes : List ℕ) : Type 0 where
   pub rest : List ℕ
   pub is : bytes ≡ piece ++ rest
 
--- bytes that begin with a setup: a name, which is a number in Big, a major version in an order, and a minor version, which is free
+-- bytes that begin with a setup: a name, which is a number in Big; a major version in a byte order; and a minor version, which is
+-- free
 pub record StatesSetup (order : Order) (name major : ℕ) (bytes : List ℕ) : Type 0 where
   pub name_field : List ℕ
   pub major_field : List ℕ
@@ -38,17 +39,17 @@ pub record StatesSetup (order : Order) (name major : ℕ) (bytes : List ℕ) : T
   pub is_major : IsU16 order major major_field
   pub is_minor : length minor_field ≡ 2
 
--- a setup of an order and of another major version is bad with that version
+-- a setup of a byte order with another major version is bad with that version
 abbrev pub HasOtherVersion : Order → ℕ → List ℕ → Type 0
 HasOtherVersion order value bytes = StatesSetup order (magic order) value bytes × (value ≢ 1)
 
--- a setup of another protocol, which is one of no order, is bad with its name, and is answered in Big
+-- a setup of another protocol, which is none of a byte order, is bad with its name, and is answered in Big
 abbrev pub HasOtherName : Order → ℕ → List ℕ → Type 0
 HasOtherName order value bytes =
     (major : ℕ) × StatesSetup Big value major bytes × (order ≡ Big) × (value ≢ magic Big) × (value ≢ magic Little)
 
--- which bytes need more, have a good setup of an order, or have a bad one, answered in an order: nothing is decided before 8
--- bytes are there
+-- which bytes need more, have a good setup of a byte order, or have a bad one, answered in a byte order: nothing is decided
+-- before 8 bytes are there
 unfoldable pub HasSetupFront : List ℕ → SetupFront → Type 0
 HasSetupFront bytes setup.NeedMore = length bytes < 8
 HasSetupFront bytes (setup.Setup order) = StatesSetup order (magic order) 1 bytes
@@ -85,7 +86,7 @@ HasFront order bytes frame.NeedMore = NeedsMoreOfFrame order bytes
 HasFront order bytes (frame.Frame n) = (piece : List ℕ) × BeginsWith piece bytes × IsFrame order piece × (length piece ≡ n)
 HasFront order bytes frame.Malformed = (words : ℕ) × StatesFrame order words bytes × ((words ≡ 0) ⊎ (most_words < words))
 
--- bytes that begin with the head of a message: a kind, a detail, a sequence number, and the length of the body in words
+-- bytes that begin with the header of a message: a kind, a detail, a sequence number, and the length of the body in words
 pub record StatesHead (order : Order) (kind detail sequence words : ℕ) (bytes : List ℕ) : Type 0 where
   pub sequence_field : List ℕ
   pub words_field : List ℕ
@@ -94,7 +95,7 @@ pub record StatesHead (order : Order) (kind detail sequence words : ℕ) (bytes 
   pub is_sequence : IsU16 order sequence sequence_field
   pub is_words : IsU32 order words words_field
 
--- a whole message: a head that a client takes, and as many words as it states
+-- a complete message: a header that a client takes, and as many words as it states
 pub record IsMessage (order : Order) (kind detail sequence : ℕ) (bytes : List ℕ) : Type 0 where
   pub words : ℕ
   pub states : StatesHead order kind detail sequence words bytes
@@ -107,7 +108,7 @@ pub record StatesError (order : Order) (value opcode : ℕ) (body : List ℕ) : 
   pub is : body ≡ value_field ++ (opcode ∷ 0 ∷ 0 ∷ 0 ∷ [])
   pub is_value : IsU32 order value value_field
 
--- too little for a message of n bytes: for its head, or for the body of a head that a client takes
+-- too little for a message of n bytes: for its header, or for the body after a header that a client takes
 pub record NeedsMoreOfMessage (order : Order) (n : ℕ) (bytes : List ℕ) : Type 0 where
   pub kind : ℕ
   pub detail : ℕ
@@ -118,7 +119,7 @@ pub record NeedsMoreOfMessage (order : Order) (n : ℕ) (bytes : List ℕ) : Typ
   pub size : n ≡ 8 + 4 * words
   pub short : length bytes < n
 
--- bytes that begin with a head that no client takes
+-- bytes that begin with a header that no client takes
 pub record HasBadHead (order : Order) (bytes : List ℕ) : Type 0 where
   pub kind : ℕ
   pub detail : ℕ
@@ -127,7 +128,7 @@ pub record HasBadHead (order : Order) (bytes : List ℕ) : Type 0 where
   pub states : StatesHead order kind detail sequence words bytes
   pub bad : is_head kind detail words ≡ false
 
--- which bytes need more, have a message of n bytes, or have a bad head: nothing is decided before 8 bytes are there
+-- which bytes need more, have a message of n bytes, or have a bad header: nothing is decided before 8 bytes are there
 unfoldable pub HasMessageFront : Order → List ℕ → MessageFront → Type 0
 HasMessageFront order bytes (message.NeedMore n) = ((length bytes < 8) × (n ≡ 8)) ⊎ NeedsMoreOfMessage order n bytes
 HasMessageFront order bytes (message.Message kind detail sequence n) =

@@ -15,7 +15,7 @@ detail_of kind.Hook = 2
 detail_of kind.Current = 4
 detail_of kind.Digit = 8
 
--- the kind of event that a detail stands for, if it stands for one
+-- the kind of event for a detail, if it has one
 abbrev pub kind_of_code : ℕ → Option EventKind
 kind_of_code code =
     if code == 1 then Some kind.Ring
@@ -29,7 +29,7 @@ abbrev pub is_value : EventKind → ℕ → Bool
 is_value kind.Digit value = true
 is_value _ value = nat_le value 1
 
--- how an event is spelled, with the number of the request that was performed or begun last
+-- how an event is spelled, with the number of the last request that was performed or begun
 unfoldable pub event_bytes : Order → Event → ℕ → List ℕ
 event_bytes order e sequence =
     head order 2 (detail_of e.kind) sequence 3 ++ (u32_bytes order e.device ++ u32_bytes order e.time.0 ++ u32_bytes order e.value)

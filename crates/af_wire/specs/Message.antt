@@ -1,9 +1,9 @@
--- The spelling of what the server sends, in the order of a link.
+-- How the server's messages are spelled, in the byte order of a link.
 use Rattle.std.specs.Prelude.{ℕ, List, [], ◌∷◌, ◌++◌}
 use Rattle.af_wire.specs.declared.order.Order.{Order}
 use Rattle.af_wire.specs.Order.{u16_bytes, u32_bytes}
 
--- the head of a message: its kind, a detail, the number of the request that it answers, and how many words follow
+-- the header of a message: its kind, a detail, the number of the request that it answers, and how many words follow
 unfoldable pub head : Order → ℕ → ℕ → ℕ → ℕ → List ℕ
 head order kind detail sequence words = kind ∷ detail ∷ [] ++ u16_bytes order sequence ++ u32_bytes order words
 

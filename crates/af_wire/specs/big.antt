@@ -1,5 +1,5 @@
--- The wire as it was before a client chose its order: all numbers in Big. The laws say that in Big nothing else is meant now, but for a
--- setup of the other order, which was a bad one.
+-- The wire as it was before a client chose its byte order: all numbers in Big. The laws say that in Big all means the same still,
+-- except a setup of the other byte order, which was a bad one.
 use Rattle.std.specs.Prelude.{◌≡◌, ◌≢◌, ◌≤◌, ◌<◌, ◌⊎◌, ◌+◌, ◌*◌, ℕ, false, IsTrue, List, [], ◌∷◌, ◌++◌, length, Option, None}
 use Rattle.std.specs.Int.{w16, w32, from_be_bytes, to_be_bytes}
 use Rattle.af_limits.specs.Limits.{most_words}
@@ -25,7 +25,7 @@ pub data Setup : Type 0 where
   good : Setup
   bad : (value : ℕ) → Setup
 
--- the same of bytes whose setup is one of Big, or of no order
+-- the same for bytes whose setup is one of Big, or of no byte order
 abbrev pub front_now : Setup → SetupFront
 front_now need_more = setup.NeedMore
 front_now good = setup.Setup Big
@@ -52,7 +52,7 @@ pub record StatesSetup (name major : ℕ) (bytes : List ℕ) : Type 0 where
   pub is_major : IsU16 major major_field
   pub is_minor : length minor_field ≡ 2
 
--- a setup of another protocol is bad with its name, and one of this protocol and of another major version with that version
+-- a setup of another protocol is bad with its name, and one of this protocol with another major version is bad with that version
 abbrev pub HasBadSetup : ℕ → List ℕ → Type 0
 HasBadSetup value bytes =
     ((major : ℕ) × (StatesSetup value major bytes) × (value ≢ magic)) ⊎ (StatesSetup magic value bytes × (value ≢ 1))
@@ -94,7 +94,7 @@ HasFront bytes frame.NeedMore = NeedsMoreOfFrame bytes
 HasFront bytes (frame.Frame n) = (piece : List ℕ) × BeginsWith piece bytes × IsFrame piece × (length piece ≡ n)
 HasFront bytes frame.Malformed = (words : ℕ) × StatesFrame words bytes × ((words ≡ 0) ⊎ (most_words < words))
 
--- bytes that begin with the head of a message: a kind, a detail, a sequence number, and the length of the body in words
+-- bytes that begin with the header of a message: a kind, a detail, a sequence number, and the length of the body in words
 pub record StatesHead (kind detail sequence words : ℕ) (bytes : List ℕ) : Type 0 where
   pub sequence_field : List ℕ
   pub words_field : List ℕ
@@ -103,7 +103,7 @@ pub record StatesHead (kind detail sequence words : ℕ) (bytes : List ℕ) : Ty
   pub is_sequence : IsU16 sequence sequence_field
   pub is_words : IsU32 words words_field
 
--- a whole message: a head that a client takes, and as many words as it states
+-- a complete message: a header that a client takes, and as many words as it states
 pub record IsMessage (kind detail sequence : ℕ) (bytes : List ℕ) : Type 0 where
   pub words : ℕ
   pub states : StatesHead kind detail sequence words bytes
@@ -116,7 +116,7 @@ pub record StatesError (value opcode : ℕ) (body : List ℕ) : Type 0 where
   pub is : body ≡ value_field ++ (opcode ∷ 0 ∷ 0 ∷ 0 ∷ [])
   pub is_value : IsU32 value value_field
 
--- too little for a message of n bytes: for its head, or for the body of a head that a client takes
+-- too little for a message of n bytes: for its header, or for the body after a header that a client takes
 pub record NeedsMoreOfMessage (n : ℕ) (bytes : List ℕ) : Type 0 where
   pub kind : ℕ
   pub detail : ℕ
@@ -127,7 +127,7 @@ pub record NeedsMoreOfMessage (n : ℕ) (bytes : List ℕ) : Type 0 where
   pub size : n ≡ 8 + 4 * words
   pub short : length bytes < n
 
--- bytes that begin with a head that no client takes
+-- bytes that begin with a header that no client takes
 pub record HasBadHead (bytes : List ℕ) : Type 0 where
   pub kind : ℕ
   pub detail : ℕ
@@ -136,14 +136,14 @@ pub record HasBadHead (bytes : List ℕ) : Type 0 where
   pub states : StatesHead kind detail sequence words bytes
   pub bad : is_head kind detail words ≡ false
 
--- which bytes need more, have a message of n bytes, or have a bad head: nothing is decided before 8 bytes are there
+-- which bytes need more, have a message of n bytes, or have a bad header: nothing is decided before 8 bytes are there
 unfoldable pub HasMessageFront : List ℕ → MessageFront → Type 0
 HasMessageFront bytes (message.NeedMore n) = ((length bytes < 8) × (n ≡ 8)) ⊎ NeedsMoreOfMessage n bytes
 HasMessageFront bytes (message.Message kind detail sequence n) =
     (piece : List ℕ) × BeginsWith piece bytes × IsMessage kind detail sequence piece × (length piece ≡ n)
 HasMessageFront bytes message.BadMessage = HasBadHead bytes
 
--- how the head of a message, an error and an event are spelled
+-- how the header of a message, an error and an event are spelled
 unfoldable pub head : ℕ → ℕ → ℕ → ℕ → List ℕ
 head kind detail sequence words = kind ∷ detail ∷ [] ++ to_be_bytes w16 sequence ++ to_be_bytes w32 words
 

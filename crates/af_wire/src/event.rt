@@ -33,7 +33,7 @@ impl EventKind {
         }
     }
 
-    /// The kind that a detail stands for. None exactly where that is none of 1, 2, 4 and 8.
+    /// The kind of a detail. None exactly if it is none of 1, 2, 4 and 8.
     pub fn of_code(code: u8) -> Option<EventKind>
         ensures { result ≡ kind_of_code code }
     {
@@ -72,8 +72,8 @@ pub fn write_event(order: Order, event: Event, sequence: u16, out: &mut [u8])
     back.copy_from_slice(&[d0, d1, d2, d3, t0, t1, t2, t3, v0, v1, v2, v3]);
 }
 
-/// Reads the event that a message of this detail and body states. None exactly where it states none: a detail that is no
-/// kind, a body of another length than 12, a device above 7, or a value above 1 of another event than a digit.
+/// Reads the event that a message of this detail and body states. None exactly if it states none: a detail that is no kind, a
+/// body of another length than 12, a device above 7, or a value above 1 of another event than a digit.
 pub fn read_event(order: Order, detail: u8, body: &[u8]) -> Option<Event>
     ensures { result ≡ event_in order detail body.now }
 {

@@ -6,7 +6,7 @@ ghost use Rattle.af_wire.specs.declared.front.Front.TheVariants as frame;
 ghost use Rattle.af_wire.specs.declared.front.SetupFront.{SetupFront};
 ghost use Rattle.af_wire.specs.declared.front.Front.{Front};
 ghost use Rattle.af_wire.specs.Begins.{HasSetupFront, HasFront};
-ghost use Rattle.af_wire.specs.Front.{setup_front, versioned, frame_front, IsFrameWithin, IsSetupWithin};
+ghost use Rattle.af_wire.specs.Front.{setup_front, setup_of_version, frame_front, IsFrameWithin, IsSetupWithin};
 ghost use Rattle.af_wire.specs.Order.{u16_of};
 
 use crate::Order;
@@ -33,7 +33,7 @@ pub enum Front {
     Malformed,
 }
 
-/// Reads a setup. It needs more exactly where fewer than 8 bytes are there.
+/// Reads a setup. It needs more exactly if fewer than 8 bytes are there.
 #[tactic(auto, using(crate::proofs::SetupFrontLemmas::setup_exactly))]
 pub fn setup_of(input: &[u8]) -> SetupFront
     ensures value { result ≡ setup_front input.now }
@@ -55,9 +55,9 @@ pub fn setup_of(input: &[u8]) -> SetupFront
     }
 }
 
-// A setup of an order, by its major version.
+// The setup of a byte order, by its major version.
 fn versioned(order: Order, version: [u8; 2]) -> SetupFront
-    ensures { result ≡ versioned order (u16_of order version) }
+    ensures { result ≡ setup_of_version order (u16_of order version) }
 {
     match order.u16(version) {
         1 => SetupFront::Setup(order),
@@ -68,8 +68,7 @@ fn versioned(order: Order, version: [u8; 2]) -> SetupFront
     }
 }
 
-/// Reads the length of a frame. It needs more exactly where fewer than 4 bytes are there, or fewer than a good stated
-/// length.
+/// Reads the length of a frame. It needs more exactly if fewer than 4 bytes are there, or fewer than a good stated length.
 #[tactic(auto, using(crate::proofs::FrameFrontLemmas::frame_exactly))]
 pub fn frame_at(order: Order, input: &[u8]) -> Front
     ensures value { result ≡ frame_front order input.now }

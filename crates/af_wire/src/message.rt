@@ -1,4 +1,4 @@
-// Parts of the server's messages in an order, written into a slice of their very length.
+// Parts of the server's messages, written in a byte order into a slice of exactly their length.
 ghost use Rattle.std.specs.Prelude.{◌≡◌, ◌≤◌, ◌*◌, ◌++◌, ℕ, List, IsTrue, drop, length};
 ghost use Rattle.af_wire.specs.Begins.{StatesError};
 ghost use Rattle.af_wire.specs.Message.{head, error};

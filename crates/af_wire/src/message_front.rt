@@ -22,7 +22,7 @@ pub enum MessageFront {
     BadMessage,
 }
 
-/// Reads the front of a message. It needs more exactly where fewer than 8 bytes are there, or fewer than a good head states.
+/// Reads the front of a message. It needs more exactly if fewer than 8 bytes are there, or fewer than a good header states.
 #[tactic(auto, using(crate::proofs::MessageFrontLemmas::message_exactly))]
 pub fn message_at(order: Order, input: &[u8]) -> MessageFront
     ensures value { result ≡ message_front order input.now }
@@ -50,7 +50,7 @@ pub fn message_at(order: Order, input: &[u8]) -> MessageFront
     }
 }
 
-// Whether a client takes this for the head of a message.
+// Whether a client accepts this as the header of a message.
 fn is_head(kind: u8, detail: u8, words: u32) -> bool
     ensures value { result ≡ is_head kind detail words }
     ensures most { result ≡ true → words ≤ 4002 }

@@ -1,4 +1,4 @@
-// The order of the bytes of a link, which its setup chooses.
+// The byte order of a link, which its setup chooses.
 ghost use Rattle.std.specs.Prelude.{◌≡◌};
 ghost use Rattle.std.specs.Int.{w16, w32, from_be_bytes};
 ghost use Rattle.af_wire.specs.Order.{i16_bytes, i16_of, u16_bytes, u16_of, u32_bytes, u32_of};
@@ -64,8 +64,8 @@ impl Order {
         }
     }
 
-    // The number whose bytes, the most significant first, are those of this one in the order. The number is turned, and not its bytes,
-    // since that takes one instruction and no branch.
+    // The number whose bytes, the most significant first, are those of this one in the order. The number is swapped, and not its
+    // bytes, since that takes one instruction and no branch.
     fn turned_u16(self, number: u16) -> u16
         ensures { result ≡ from_be_bytes w16 (u16_bytes self number) }
     {

@@ -1,4 +1,4 @@
--- What stands behind a device.
+-- The kinds of devices, by their backends.
 use Rattle.std.specs.Prelude.{ℕ, List}
 use Rattle.af_process.specs.Acts.{words_of}
 use Rattle.af_world.specs.declared.card_kind.CardKind.{CardKind}
@@ -7,26 +7,26 @@ use Rattle.af_world.specs.declared.live.Kind.TheVariants as kind
 use Rattle.af_world.specs.declared.lifecycle.ToldKind.{ToldKind}
 use Rattle.af_world.specs.declared.lifecycle.ToldKind.TheVariants as told
 
--- silence, or the names of the two files that the device captures from and hands its sound out to
+-- silence, or the names of the two files that the device captures from and emits to
 abbrev pub silence : ToldKind
 silence = told.Silent
 
 abbrev pub two_files : List ℕ → List ℕ → ToldKind
 two_files input output = told.Files input output
 
--- a child program of these words, which is started anew so often; it is given the sound that the device hands out
+-- a child program with this command line, which is started again so often; it is given the sound that the device emits
 abbrev pub child_program : ℕ → List (List ℕ) → ToldKind
 child_program restarts words = told.Codec restarts words
 
--- a program of these words whose time is that of the device, and which is started anew so often
+-- a program with this command line that the device goes by, and that is started again so often
 abbrev pub card_program : CardKind → ℕ → List (List ℕ) → ToldKind
 card_program card restarts words = told.Card card restarts words
 
--- how often that is, at most
+-- the most restarts
 abbrev pub most_card_restarts : ℕ
 most_card_restarts = 1000000
 
--- what a kind says of the device
+-- the observable part of a kind
 abbrev pub told_kind : Kind → ToldKind
 told_kind kind.Silent = silence
 told_kind (kind.Files input output) = two_files input.now output.now

@@ -1,4 +1,4 @@
--- What is told of listens, attaches and waits.
+-- The entries of listens, attaches and waits.
 use Rattle.std.specs.Prelude.{ℕ, Bool, List, [], ◌∷◌}
 use Rattle.af_world.specs.declared.live.Ready.{Ready}
 use Rattle.af_world.specs.declared.live.Ready.TheVariants as ready
@@ -9,7 +9,7 @@ use Rattle.af_world.specs.declared.lifecycle.Lifecycle.{Lifecycle}
 use Rattle.af_world.specs.declared.lifecycle.Lifecycle.TheVariants as lifecycle
 use Rattle.af_world.specs.declared.script.DeviceSpec.{DeviceSpec}
 
--- the entry of a listen, which is there where it was done
+-- the entry of a listen, if it was done
 abbrev pub listened : Ready → List ℕ → List Lifecycle
 listened ready.Done address = lifecycle.Listened address ∷ []
 listened ready.Failed address = []
@@ -21,7 +21,7 @@ attached ready.Done device spec kind = lifecycle.Attached device spec kind ∷ [
 attached ready.Failed device spec kind = []
 attached ready.OutOfMemory device spec kind = []
 
--- the entry of a program that stands for the exchange of a telephone line
+-- the entry of a program that is the exchange of a telephone line
 abbrev pub line_attached : Ready → ℕ → ℕ → List (List ℕ) → List Lifecycle
 line_attached ready.Done device restarts words = lifecycle.LineAttached device restarts words ∷ []
 line_attached ready.Failed device restarts words = []

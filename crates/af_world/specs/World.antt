@@ -1,4 +1,4 @@
--- What the answers of a world are in its log.
+-- The answers of a world in its log.
 use Rattle.std.specs.Prelude.{ℕ, ◌≤◌, Bool, true, false, List, take}
 use Rattle.std.specs.declared.option.Option.{Option}
 use Rattle.std.specs.declared.option.Option.TheVariants.{None, Some}
@@ -11,19 +11,19 @@ use Rattle.af_world.specs.declared.world.LinkGot.TheVariants as got
 use Rattle.af_world.specs.declared.world.LinkTook.{LinkTook}
 use Rattle.af_world.specs.declared.world.LinkTook.TheVariants as took
 
--- what a read gave, of the slice that was read into
+-- the bytes that a read put into the slice
 abbrev pub got_of : LinkGot → List ℕ → ReadGot
 got_of (got.Bytes n) into = happened.Given (take n into)
 got_of got.NotYet into = happened.NotYet
 got_of got.Ended into = happened.Ended
 got_of got.Failed into = happened.Failed
 
--- what a write took, of the piece that was offered
+-- the bytes of the piece that a write took
 abbrev pub took_of : LinkTook → List ℕ → Option (List ℕ)
 took_of (took.Took n) piece = Some (take n piece)
 took_of took.Failed piece = None
 
--- what a capture gave, of the slice that was captured into
+-- the bytes that a capture put into the slice
 abbrev pub captured_of : Put → List ℕ → Option (List ℕ)
 captured_of put.Done into = Some into
 captured_of put.Failed into = None

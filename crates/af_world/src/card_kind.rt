@@ -1,4 +1,4 @@
-// Devices whose time is that of a program.
+// The kinds of devices that go by a program.
 
 /// How often the program of a device whose time it is may be started again.
 pub const MOST_CARD_RESTARTS: u32 = 1_000_000;

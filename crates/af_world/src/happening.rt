@@ -1,4 +1,4 @@
-// What happens to the server: the wakes that begin its turns, and the answers that the outside gives to its calls.
+// What happens to the server: the wakes that begin its turns, and the answers of the outside to its calls.
 use crate::Bytes;
 use af_phone::LineChange;
 

@@ -26,8 +26,8 @@ pub enum Kind<'a> {
         restarts: u32,
         words: &'a Words,
     },
-    /// Its time is that of a program, one of these words, which is started again so often. The program gives what it captures, is given
-    /// what it hands out, or both.
+    /// Its time is that of a program, one of these words, which is started again so often. The program gives what it captures, is
+    /// given what it hands out, or both.
     Card {
         card: CardKind,
         restarts: u32,
@@ -35,7 +35,7 @@ pub enum Kind<'a> {
     },
 }
 
-/// The program that stands for the exchange of a telephone line: one of these words, which is started again so often.
+/// The program that is the exchange of a telephone line: one with this command line, which is started again so often.
 #[derive(Clone, Copy, Debug)]
 pub struct LineProgram<'a> {
     pub restarts: u32,
@@ -57,8 +57,8 @@ pub enum Waited {
     Failed,
 }
 
-/// A world that gives its own wakes. Each call that is done adds exactly its one entry to the lifecycle log, if that is observable,
-/// and adds nothing to the log. No call moves a count of faults down.
+/// A world that gives its own wakes. Each call that is done adds exactly its one entry to the lifecycle log, if that is
+/// observable, and adds nothing to the log. No call moves a count of faults down.
 pub trait Live: World {
     /// How often a listen has failed.
     ghost listen_faults: { Self → ℕ };
@@ -67,12 +67,12 @@ pub trait Live: World {
     ghost wait_faults: { Self → ℕ };
 
     /// The listens, attaches and waits that were done so far, in order, if they are observable.
-    ghost outer: { Self → Option (List Lifecycle) };
+    ghost lifecycle: { Self → Option (List Lifecycle) };
 
     /// Begins to take links at an address.
     fn listen(&mut self, alloc: Global, address: &str) -> Ready
         ensures log { Unchanged (Self.World.log self.old) (Self.World.log self.new) }
-        ensures outer { Appended (outer self.old) (listened result address.now) (outer self.new) }
+        ensures lifecycle { Appended (lifecycle self.old) (listened result address.now) (lifecycle self.new) }
         ensures cause { result ≡ Ready.Failed → FaultCounted (listen_faults self.old) (listen_faults self.new) }
         ensures link_count { Self.World.link_faults self.old ≤ Self.World.link_faults self.new }
         ensures device_count { Self.World.device_faults self.old ≤ Self.World.device_faults self.new }
@@ -82,17 +82,19 @@ pub trait Live: World {
     /// Attaches a device, with its backend.
     fn attach(&mut self, alloc: Global, device: u8, spec: &DeviceSpec, kind: Kind<'_>) -> Ready
         ensures log { Unchanged (Self.World.log self.old) (Self.World.log self.new) }
-        ensures outer { Appended (outer self.old) (attached result device spec.now (told_kind kind.entry)) (outer self.new) }
+        ensures lifecycle { Appended (lifecycle self.old) (attached result device spec.now (told_kind kind.entry))
+            (lifecycle self.new) }
         ensures cause { result ≡ Ready.Failed → FaultCounted (Self.World.device_faults self.old) (Self.World.device_faults self.new) }
         ensures link_count { Self.World.link_faults self.old ≤ Self.World.link_faults self.new }
         ensures device_count { Self.World.device_faults self.old ≤ Self.World.device_faults self.new }
         ensures listen_count { listen_faults self.old ≤ listen_faults self.new }
         ensures wait_count { wait_faults self.old ≤ wait_faults self.new };
 
-    /// Puts the program that stands for the exchange of the telephone line of a device there.
+    /// Attaches the program that is the exchange of a device's telephone line.
     fn attach_line(&mut self, alloc: Global, device: u8, program: LineProgram<'_>) -> Ready
         ensures log { Unchanged (Self.World.log self.old) (Self.World.log self.new) }
-        ensures outer { Appended (outer self.old) (line_attached result device program.entry.restarts (words_of program.entry.words.now)) (outer self.new) }
+        ensures lifecycle { Appended (lifecycle self.old) (line_attached result device program.entry.restarts (words_of program.entry.words.now))
+            (lifecycle self.new) }
         ensures cause { result ≡ Ready.Failed → FaultCounted (Self.World.device_faults self.old) (Self.World.device_faults self.new) }
         ensures link_count { Self.World.link_faults self.old ≤ Self.World.link_faults self.new }
         ensures device_count { Self.World.device_faults self.old ≤ Self.World.device_faults self.new }
@@ -104,7 +106,7 @@ pub trait Live: World {
     /// open, name one that is, or name an attached device, but no clause says so, and who takes it tests it.
     fn wait(&mut self, more: bool) -> Waited
         ensures log { Unchanged (Self.World.log self.old) (Self.World.log self.new) }
-        ensures outer { Appended (outer self.old) (waited more result) (outer self.new) }
+        ensures lifecycle { Appended (lifecycle self.old) (waited more result) (lifecycle self.new) }
         ensures cause { result ≡ Waited.Failed → FaultCounted (wait_faults self.old) (wait_faults self.new) }
         ensures link_count { Self.World.link_faults self.old ≤ Self.World.link_faults self.new }
         ensures device_count { Self.World.device_faults self.old ≤ Self.World.device_faults self.new }
@@ -116,8 +118,8 @@ pub trait Live: World {
 
     ghost wait_faults_apart: { (a b : Self) → Self.World.leads_to a b → wait_faults b ≡ wait_faults a };
 
-    ghost outer_apart: { (a b : Self) → Self.World.leads_to a b → Unchanged (outer a) (outer b) };
+    ghost lifecycle_apart: { (a b : Self) → Self.World.leads_to a b → Unchanged (lifecycle a) (lifecycle b) };
 
     /// Who tells the log tells the lifecycle log too.
-    ghost tells_both: { (a : Self) → IsSome (Self.World.log a) → IsSome (outer a) };
+    ghost tells_both: { (a : Self) → IsSome (Self.World.log a) → IsSome (lifecycle a) };
 }

@@ -34,7 +34,7 @@ impl Default for DeviceSpec {
 /// The devices of a server, 1 to 8, which are numbered from 0.
 pub type Config = ArrayVec<DeviceSpec, MOST_DEVICES>;
 
-/// Whether a device has a telephone line. One that is not there has none.
+/// Whether a device has a telephone line. A device that does not exist has none.
 pub fn has_line(config: &[DeviceSpec], device: u8) -> bool
     ensures { result ≡ spec_has_line config.now device }
 {

@@ -1,4 +1,4 @@
-// Silence, as devices capture it and hand it out.
+// Silence, as devices capture and emit it.
 ghost use Rattle.std.specs.Prelude.{◌≡◌};
 ghost use Rattle.af_world.specs.Outside.{silent_byte};
 

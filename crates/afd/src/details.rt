@@ -1,4 +1,4 @@
-// The lines after that of the end, where details are wanted.
+// The lines after that of the end, if details are wanted.
 use af_io::{Args, StdSink, StdSource};
 use afd_details::{
     KeptSource, Shown, tell_config_fault, tell_reason, tell_script_fault, tell_usage,

@@ -1,5 +1,5 @@
-//! The server's program: it makes the real objects, calls the one function that its first word names, and says how that ended, and
-//! where details are wanted, why.
+//! The server's program: it makes the real objects, calls the one function that its first word names, and says how that ended,
+//! and where details are wanted, why.
 #![tactic(auto)]
 
 mod details;
@@ -37,7 +37,7 @@ fn run_server(rt: &HostRuntime, words: &Args) -> ExitCode {
     let mut world = LoggedWorld::new(rt, &log);
     let mut source = KeptSource::new(rt.alloc(), StdSource::new(rt.reader()), details);
     let end = afd_live(rt.alloc(), words, &mut source, &mut world);
-    // where standard error takes nothing, the status still says how it ended
+    // if standard error takes nothing, the exit status still says how it ended
     let _ = report_live(rt, end);
     if details {
         tell_live(rt, words, end, &source, world.listen_refusal(), &log);
@@ -45,13 +45,13 @@ fn run_server(rt: &HostRuntime, words: &Args) -> ExitCode {
     ExitCode::from(afd_serve::status_of(end))
 }
 
-// Says how a script ended. Where standard error takes nothing, the status still does.
+// Says how a script ended. If standard error takes nothing, the exit status still says it.
 fn ended_script(rt: &HostRuntime, end: ScriptEnd) -> ExitCode {
     let _ = report_script(rt, end);
     ExitCode::from(afd_script::status_of(end))
 }
 
-// Says that a word is no text.
+// Says that an argument is no text.
 fn ended_not_text(rt: &HostRuntime) -> ExitCode {
     let ended = ended_script(rt, ScriptEnd::Usage);
     if wants_details(rt) {

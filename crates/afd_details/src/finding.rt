@@ -1,4 +1,4 @@
-// The first word of a line that may not stand where it stands, and what may.
+// The first word of a line that is wrong at its place, and what may stand there.
 use crate::Shown;
 use crate::slot::Slot;
 use af_config::{MOST_CARD_RESTARTS, MOST_RESTARTS};

@@ -5,7 +5,8 @@ use std::{fmt, str};
 /// How many characters of a text are shown.
 const MOST_SHOWN: usize = 100;
 
-/// The first 100 characters of a text. What does not print is shown as `\xNN`, byte by byte, so that no text can steer a terminal.
+/// The first 100 characters of a text. What does not print is shown as `\xNN`, byte by byte, so that no text can steer a
+/// terminal.
 #[derive(Clone, Copy)]
 pub struct Shown<'a> {
     text: &'a [u8],

@@ -1,4 +1,4 @@
-// The lines that follow that of an end.
+// The lines after that of an end.
 use crate::Shown;
 use crate::config_line::config_finding;
 use crate::finding::Finding;

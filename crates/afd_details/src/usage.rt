@@ -1,4 +1,4 @@
-// What is wrong with the words of the server's program.
+// What is wrong with the arguments of the server's program.
 use crate::Shown;
 use af_io::Args;
 use af_limits::LONGEST_ADDRESS;

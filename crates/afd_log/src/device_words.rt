@@ -75,7 +75,7 @@ fn card_name(card: CardKind) -> &'static str {
     }
 }
 
-/// Writes the words of a program, each after a space.
+/// Writes the command line of a program, each word after a space.
 pub(crate) fn write_words<W: Write>(words: &Words, f: &mut Formatter<W>) -> fmt::Result {
     for word in words {
         write!(f, " {}", Shown::new(word.as_bytes()))?;

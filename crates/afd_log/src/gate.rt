@@ -1,4 +1,4 @@
-// Whether standard error takes a line now, so that nobody waits for it.
+// Whether standard error takes a line now, so that a log never waits.
 use mio::unix::SourceFd;
 use mio::{Events, Interest, Poll, Token};
 use std::alloc::Global;
@@ -26,7 +26,7 @@ impl Gate {
         let poll = Poll::new(rt)?;
         let events = Events::with_capacity(alloc, 1)?;
         let mut error = SourceFd(&STANDARD_ERROR);
-        // the system watches no file, since one can always be written
+        // the system does not watch files, since they can always be written
         let is_file = poll
             .registry()
             .register(&mut error, ONLY, Interest::WRITABLE)
@@ -43,7 +43,7 @@ impl Gate {
         if self.is_file {
             return true;
         }
-        // an event tells of each change once: this asks how it stands
+        // an event tells each change once, so this asks for the state
         let mut error = SourceFd(&STANDARD_ERROR);
         let asked = self
             .poll

@@ -1,4 +1,4 @@
-// Why it cannot be listened at an address.
+// Why an address cannot be listened at.
 use af_io::Reason;
 use mio::net::TcpListener;
 use std::fmt;

@@ -36,7 +36,7 @@ pub struct Log<'a> {
 }
 
 impl<'a> Log<'a> {
-    /// A log without lines. All its memory is taken here, and where there is none for it, it is written all the same.
+    /// A log without lines. All its memory is taken here. If there is none, lines are written nevertheless.
     pub fn new(rt: &'a HostRuntime, is_wanted: bool) -> Log<'a> {
         let gate = if is_wanted {
             Gate::new(rt, rt.alloc()).ok()
@@ -205,7 +205,7 @@ impl<'a> Log<'a> {
             self.left_out.set(0);
             let before = self.left_out.get();
             self.put(format_args!("{count} lines left out"));
-            // they are still to be told of where this line was not taken
+            // if this line was not taken, they are still to be told
             if self.left_out.get() != before {
                 self.left_out.set(count);
             }

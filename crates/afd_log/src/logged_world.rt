@@ -27,8 +27,8 @@ type RealWorld<'a> = MioWorld<
     WatchedPrograms<'a>,
 >;
 
-/// The world of sockets, files and programs, to which each call is handed on. It tells in a log at which address it listens, what the
-/// devices are, what the programs of devices do, who connects, why a link is closed and why a device has died.
+/// The world of sockets, files and programs, to which each call is handed on. It tells in a log at which address it listens, what
+/// the devices are, what the programs of devices do, who connects, why a link is closed and why a device has died.
 #[derive(Drop)]
 pub struct LoggedWorld<'a> {
     world: RealWorld<'a>,
@@ -36,6 +36,8 @@ pub struct LoggedWorld<'a> {
     log: &'a Log<'a>,
     turned_away: u64,
     refusal: Option<ListenRefusal>,
+    // whether a device or a telephone line was to have a program
+    has_programs: bool,
     programs: ProgramLines,
 }
 
@@ -52,6 +54,7 @@ impl<'a> LoggedWorld<'a> {
             log,
             turned_away: 0,
             refusal: None,
+            has_programs: false,
             programs: ProgramLines::new(),
         }
     }
@@ -135,13 +138,13 @@ impl Live for LoggedWorld<'_> {
 
     ghost wait_faults = { λ logged. logged.world.wait_faults };
 
-    ghost outer = { λ _. None };
+    ghost lifecycle = { λ _. None };
 
     ghost listen_faults_apart = { λ _ _ leads. leads.listen_faults };
 
     ghost wait_faults_apart = { λ _ _ leads. leads.wait_faults };
 
-    ghost outer_apart = { λ _ _ _. tt };
+    ghost lifecycle_apart = { λ _ _ _. tt };
 
     ghost tells_both = { λ _ told. told };
 
@@ -165,10 +168,11 @@ impl Live for LoggedWorld<'_> {
             kind,
         });
         let ready = self.world.attach(alloc, device, spec, kind);
-        if ready == Ready::Failed
-            && let Kind::Card { words, .. } = kind
-        {
-            note_program(self.log, words);
+        if let Kind::Card { words, .. } = kind {
+            self.has_programs = true;
+            if ready == Ready::Failed {
+                note_program(self.log, words);
+            }
         }
         tell_programs(&self.world, self.log, &mut self.programs);
         ready
@@ -179,6 +183,7 @@ impl Live for LoggedWorld<'_> {
             number: device,
             program,
         });
+        self.has_programs = true;
         let ready = self.world.attach_line(alloc, device, program);
         if ready == Ready::Failed {
             note_program(self.log, program.words);
@@ -190,7 +195,9 @@ impl Live for LoggedWorld<'_> {
     fn wait(&mut self, more: bool) -> Waited {
         let waited = self.world.wait(more);
         tell_turned_away(&self.world, self.log, &mut self.turned_away);
-        tell_programs(&self.world, self.log, &mut self.programs);
+        if self.has_programs {
+            tell_programs(&self.world, self.log, &mut self.programs);
+        }
         waited
     }
 }

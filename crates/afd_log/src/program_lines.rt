@@ -1,4 +1,4 @@
-// What is told of the programs of devices and of telephone lines.
+// The lines of the log on the programs of devices and of telephone lines.
 use crate::Log;
 use crate::watched_programs::WatchedProgram;
 use af_card::Card;

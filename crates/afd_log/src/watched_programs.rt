@@ -1,4 +1,4 @@
-// The programs whose time is that of a device, over a runtime that notes what the system refuses.
+// The programs that devices go by, over a runtime that notes what the system refuses.
 use crate::{Log, WatchedRuntime};
 use af_program::{Programs, SocketProgram, Ways};
 use af_time::OutOfMemory;

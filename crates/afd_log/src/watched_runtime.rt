@@ -1,4 +1,4 @@
-// The runtime of a server, which notes what the system refuses, and tells which file it opens.
+// The runtime of a server, which notes what the system refuses, and which file it opens.
 use crate::Log;
 use crate::watched_file::WatchedFile;
 use af_io::Reason;

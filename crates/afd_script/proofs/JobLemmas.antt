@@ -1,4 +1,4 @@
--- What is said of a job, once it is known which one the words ask for.
+-- What is known of a job, once it is known which one the arguments ask for.
 use Rattle.std.proofs.Common.{◌≡◌, ◌⊎◌, inl, inr, ℕ, List, sym, subst}
 use Rattle.std.specs.declared.option.Option.{Option}
 use Rattle.std.specs.declared.option.Option.TheVariants.{None, Some}
@@ -23,7 +23,7 @@ module _ {S : Type 0} (left : S → Option (List ℕ)) (faults : S → ℕ) (ask
   pub good_script : asked ≡ Some job.Script → CanBeDone left faults asked before after → IsGoodScript left faults before after
   good_script e h = subst (λ j. CanBeDone left faults j before after) e h
 
--- an exercise comes to its end where the sink does not fail
+-- an exercise comes to its end if the sink does not fail
 pub exercise_done : (ended : ScriptEnd) → (ended ≡ end.Done) ⊎ ((ended ≡ end.SinkFault) ⊎ (ended ≡ end.OutOfMemory)) → (ended ≡ end.SinkFault → ⊥) → (ended ≡ end.Done) ⊎ (ended ≡ end.OutOfMemory)
 exercise_done ended (inl done) holds = inl done
 exercise_done ended (inr (inl failed)) holds = absurd (holds failed)

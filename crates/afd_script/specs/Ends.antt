@@ -1,4 +1,4 @@
--- How the script command ends: what was read, what it was, and what was written. Each list of bytes is observed or not.
+-- How the script command ends: what was read, what it was, and what was written. Each list of bytes is observable or not.
 use Rattle.std.specs.Prelude.{◌≡◌, ◌≢◌, ℕ, ⊤, Bool, true, false, List, length, Ok, Err}
 use Rattle.std.specs.declared.option.Option.{Option}
 use Rattle.std.specs.declared.option.Option.TheVariants.{None, Some}
@@ -12,13 +12,13 @@ use Rattle.af_script.specs.Script.{StatedScript, script_of}
 use Rattle.af_script.specs.Transcript.{transcript}
 use Rattle.af_script.specs.Summary.{summary}
 use Rattle.af_script.specs.Run.{RanTo}
-use Rattle.af_random.specs.Exercise.{generated}
+use Rattle.af_random.specs.Exercise.{generated_script}
 use Rattle.afd_script.specs.declared.job.ScriptJob.{ScriptJob}
 use Rattle.afd_script.specs.declared.job.ScriptJob.TheVariants as job
 use Rattle.afd_script.specs.declared.script.ScriptEnd.{ScriptEnd}
 use Rattle.afd_script.specs.declared.script.ScriptEnd.TheVariants as end
 
--- the text is a script, and this is its one log, of which the laws of whole runs hold
+-- the text is a script, and this is its one log; the laws of whole runs hold for it
 pub record IsLogOf (text : List ℕ) (log : Log) : Type 0 where
   pub script : StatedScript
   pub is_script : script_of text ≡ Ok script
@@ -38,31 +38,31 @@ pub record IsFaultyScript (line : ℕ) (left left' : Option (List ℕ)) : Type 0
   pub read : ConsumedWhole longest_script left left' text
   pub fault : script_of text ≡ Err line
 
--- What the source gave, by how it ended: TooLong exactly where more came than a script may have.
+-- What the source gave, by the end: TooLong exactly if more came than a script may have.
 pub record ScriptReadAs (ended : ScriptEnd) (left left' : Option (List ℕ)) : Type 0 where
   pub long : ended ≡ end.TooLong → ConsumedTooMuch longest_script left left'
   pub within : ended ≢ end.TooLong → ConsumedWithin longest_script left left'
   pub fault : (line : ℕ) → ended ≡ end.ScriptFault line → IsFaultyScript line left left'
 
 -- The script of a seed and n turns has this one log, and the summary of both was written, whole or a prefix of it. The laws of
--- whole runs hold of the log.
+-- whole runs hold for the log.
 pub record WroteSummary (put : Put) (seed turns : ℕ) (held held' : Option (List ℕ)) : Type 0 where
   pub log : Log
-  pub ran : RanTo (generated seed turns).config (generated seed turns).steps log
-  pub written : Written put held (summary (length (generated seed turns).steps) log) held'
+  pub ran : RanTo (generated_script seed turns).config (generated_script seed turns).steps log
+  pub written : Written put held (summary (length (generated_script seed turns).steps) log) held'
 
--- what the words asked for was done, and what was to be written was, whole or a prefix of it
+-- what the arguments asked for was done, and what was to be written was, whole or a prefix of it
 abbrev pub Did : Put → Option ScriptJob → (left left' held held' : Option (List ℕ)) → Type 0
 Did put None left left' held held' = ⊥
 Did put (Some job.Script) left left' held held' = WroteTranscript put left left' held held'
 Did put (Some (job.Exercise seed turns)) left left' held held' = WroteSummary put seed turns held held'
 
--- the source tells its bytes before and after, they are a script, and it did not fail
+-- the source is observable before and after, its bytes are a script, and it did not fail
 pub record IsGoodScript {S : Type 0} (left : S → Option (List ℕ)) (faults : S → ℕ) (before after : S) : Type 0 where
   pub text : IsGoodText script_of longest_script (left before) (left after)
   pub source : NoFault faults before after
 
--- what the words ask for can be done, if the sink does not fail: a script is to be read, and an exercise reads nothing
+-- what the arguments ask for can be done, if the sink does not fail: a script is to be read, and an exercise reads nothing
 abbrev pub CanBeDone : {S : Type 0} → (S → Option (List ℕ)) → (S → ℕ) → Option ScriptJob → S → S → Type 0
 CanBeDone left faults None before after = ⊥
 CanBeDone left faults (Some job.Script) before after = IsGoodScript left faults before after
@@ -88,7 +88,7 @@ writes (end.ScriptFault line) = false
 writes end.SinkFault = true
 writes end.OutOfMemory = false
 
--- What an end leaves alone: the source if the words ask for no script, and the sink if nothing was to be written.
+-- What an end leaves alone: the source if the arguments ask for no script, and the sink if nothing was to be written.
 pub record ScriptLeavesAlone {S K : Type 0} (asked : Option ScriptJob) (ended : ScriptEnd) (before after : S) (sink sink' : K) : Type 0 where
   pub unread : asked ≢ Some job.Script → after ≡ before
   pub unwritten : writes ended ≡ false → sink' ≡ sink

@@ -1,4 +1,4 @@
-// What the words of the command ask for.
+// What the arguments of the command ask for.
 ghost use Rattle.std.specs.Prelude.{◌≡◌, IfSome};
 ghost use Rattle.afd_script.specs.Words.{job_of, job_of_one, job_of_three, HasTurns};
 

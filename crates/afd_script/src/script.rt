@@ -1,5 +1,5 @@
-// The script command: a script comes in, and the transcript of its one log goes out; or a script is made, and the summary of its log
-// goes out.
+// The script command: a script comes in, and the transcript of its one log goes out; or a script is made, and the summary of its
+// log goes out.
 ghost use Rattle.std.specs.Prelude.{◌≡◌, ◌≢◌, ◌↔◌, ◌⊎◌, ◌≤◌, length, true, false, All, IfOk, IfErr};
 ghost use Rattle.std.specs.declared.option.Option.TheVariants.{None, Some};
 ghost use Rattle.af_limits.specs.Limits.{longest_script};
@@ -79,7 +79,7 @@ pub fn afd_script<S: Source, K: Sink>(
     ensures source { CountsFault (result ≡ ScriptEnd.ReadFault) (S.faults source.old) (S.faults source.new) }
     ensures sink { CountsFault (result ≡ ScriptEnd.SinkFault) (K.faults sink.old) (K.faults sink.new) }
 
-    // what can be done is done whole, if memory is there
+    // what can be done is done whole, if there is memory
     ensures complete { CanBeDone S.left S.faults (job_of words.now) source.old source.new → NoFault K.faults sink.old sink.new →
         (result ≡ ScriptEnd.Done) ⊎ (result ≡ ScriptEnd.OutOfMemory) }
 {
@@ -143,7 +143,7 @@ fn exercise<K: Sink>(alloc: Global, seed: u64, turns: u32, sink: &mut K) -> Scri
     }
 }
 
-// Runs the script that a text is. The tape tells its one log.
+// Runs the script that a text is. The tape shows its one log.
 fn run_text(alloc: Global, text: &[u8]) -> Result<Tape, ScriptFault>
     requires { length text.now ≤ longest_script }
     ensures ran { IfOk result (λ tape. TellsLogOf text.now tape.log) }
@@ -156,7 +156,7 @@ fn run_text(alloc: Global, text: &[u8]) -> Result<Tape, ScriptFault>
     Ok(tape)
 }
 
-// Runs a script. The tape tells its one log.
+// Runs a script. The tape shows its one log.
 fn run_script(alloc: Global, script: &Script) -> Result<Tape, OutOfMemory>
     requires rates { All (λ device. IsListedRate device.rate) script.now.config.items }
     requires channels { All (λ device. IsChannelCount device.channels) script.now.config.items }

@@ -14,7 +14,7 @@ use Rattle.af_config.specs.Configuration.{config_of}
 use Rattle.afd_serve.specs.declared.live.LiveEnd.{LiveEnd}
 use Rattle.afd_serve.specs.declared.live.LiveEnd.TheVariants as end
 use Rattle.afd_serve.specs.Words.{ServeJob, serve_job_of}
-use Rattle.afd_serve.specs.Serving.{started}
+use Rattle.afd_serve.specs.Serving.{start_entries}
 use Rattle.afd_serve.specs.Starting.{IsReadEnd, IsReadFrom, StartedUntil}
 use Rattle.afd_serve.specs.Rounds.{ServedUntil}
 use Rattle.afd_serve.specs.Ends.{EndsWell, FailedAt, IsFaultyConfig, IsTold, ServerRan, StartedInPart, Unheard, last_entry}
@@ -48,7 +48,7 @@ module _ (left left' : Option (List ℕ)) (good : IsGoodText config_of longest_c
       let same = consumed_all longest_config good.text f.text left' good.tells whole in
       ok_is_no_fault (config_of good.text) line good.means (ap config_of same ∙ f.fault)
 
-  -- so that the reading ends for want of memory alone
+  -- so the reading can only end by running out of memory
   pub good_read : (ended : LiveEnd) → IsReadEnd ended → (ended ≡ end.ReadFault → ⊥) → (ended ≡ end.TooLong → ConsumedTooMuch longest_config left left') → ((line : ℕ) → ended ≡ end.ConfigFault line → IsFaultyConfig line left left') → EndsWell ended
   good_read end.ReadFault is cause long fault = absurd (cause refl)
   good_read end.TooLong is cause long fault = absurd (good_is_short (long refl))
@@ -67,25 +67,25 @@ module _ (words : List (List ℕ)) (left left' : Option (List ℕ)) (job : Serve
   abbrev is_told : IsTold words left left'
   is_told = record { job = job; asks = sym asks; text = read.text; read = read.read; settings = settings; states = read.states }
 
-  module _ (outer outer' : Option (List Lifecycle)) where
-    pub unheard : (ended : LiveEnd) → StartedUntil ended job.address settings outer outer' → ended ≡ end.ListenFault → Unheard words left left' outer outer'
-    unheard ended s e = record { told = is_told; appended = subst (λ x. StartedUntil x job.address settings outer outer') e s }
+  module _ (lifecycle lifecycle' : Option (List Lifecycle)) where
+    pub unheard : (ended : LiveEnd) → StartedUntil ended job.address settings lifecycle lifecycle' → ended ≡ end.ListenFault → Unheard words left left' lifecycle lifecycle'
+    unheard ended s e = record { told = is_told; appended = subst (λ x. StartedUntil x job.address settings lifecycle lifecycle') e s }
 
-    pub failed_at : (ended : LiveEnd) → StartedUntil ended job.address settings outer outer' → (d : ℕ) → ended ≡ end.AttachFault d → FailedAt d words left left' outer outer'
+    pub failed_at : (ended : LiveEnd) → StartedUntil ended job.address settings lifecycle lifecycle' → (d : ℕ) → ended ≡ end.AttachFault d → FailedAt d words left left' lifecycle lifecycle'
     failed_at ended s d e =
-        let at = subst (λ x. StartedUntil x job.address settings outer outer') e s in
+        let at = subst (λ x. StartedUntil x job.address settings lifecycle lifecycle') e s in
         record { told = is_told; failed = at }
 
-    pub started_in_part : (ended : LiveEnd) → StartedUntil ended job.address settings outer outer' → ended ≡ end.OutOfMemory → StartedInPart words left left' outer outer'
+    pub started_in_part : (ended : LiveEnd) → StartedUntil ended job.address settings lifecycle lifecycle' → ended ≡ end.OutOfMemory → StartedInPart words left left' lifecycle lifecycle'
     started_in_part ended s e =
-        let part = subst (λ x. StartedUntil x job.address settings outer outer') e s in
+        let part = subst (λ x. StartedUntil x job.address settings lifecycle lifecycle') e s in
         record { told = is_told; front = part.front; rest = part.rest; whole = part.whole; appended = part.appended }
 
-  pub ran : (ended : LiveEnd) (log log1 log2 : Option Log) (outer outer1 outer2 : Option (List Lifecycle)) → Unchanged log log1 → Appended outer (started job.address settings) outer1 → ServedUntil settings.config ended job.waits log1 log2 outer1 outer2 →
-      ServerRan ended words left left' log log2 outer outer2
-  ran ended log log1 log2 outer outer1 outer2 quiet appended s = record {
+  pub ran : (ended : LiveEnd) (log log1 log2 : Option Log) (lifecycle lifecycle1 lifecycle2 : Option (List Lifecycle)) → Unchanged log log1 → Appended lifecycle (start_entries job.address settings) lifecycle1 → ServedUntil settings.config ended job.waits log1 log2 lifecycle1 lifecycle2 →
+      ServerRan ended words left left' log log2 lifecycle lifecycle2
+  ran ended log log1 log2 lifecycle lifecycle1 lifecycle2 quiet appended s = record {
     told = is_told;
     waits = s.asked;
     count = s.count;
-    served = served_behind settings.config (started job.address settings) (last_entry ended) s.asked log log1 log2 outer outer1 outer2 quiet appended s.served;
+    served = served_behind settings.config (start_entries job.address settings) (last_entry ended) s.asked log log1 log2 lifecycle lifecycle1 lifecycle2 quiet appended s.served;
   }

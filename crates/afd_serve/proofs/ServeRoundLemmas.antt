@@ -9,12 +9,12 @@ use Rattle.af_world.specs.declared.lifecycle.Lifecycle.TheVariants as noted
 use Rattle.af_world.specs.declared.script.DeviceSpec.{DeviceSpec}
 use Rattle.af_io.specs.Observed.{Appended, Unchanged}
 use Rattle.af_world.specs.Log.{Log}
-use Rattle.af_model.specs.State.{State, opening, links_of, outline, outline_with}
+use Rattle.af_model.specs.State.{State, opening_state, links_of, outline, outline_with}
 use Rattle.af_model.specs.Turn.{IsTurn, fits}
 use Rattle.af_model.specs.Run.{wakes}
 use Rattle.af_model.specs.More.{has_more}
 use Rattle.af_model.specs.NoLoss.{StateLosesNone}
-use Rattle.af_model.proofs.RunLemmas.{TurnsTo, joined, joined-more, turns_end_state, turns_more, turns_run}
+use Rattle.af_model.proofs.RunLemmas.{TurnsTo, log_of_parts, log_of_parts-more, turns_end_state, turns_more, turns_run}
 use Rattle.af_isolation.proofs.LawsLemmas.{keeps_laws}
 use Rattle.af_core.specs.Stands.{Kept, Stands, Turns, kept_lines, outline_of}
 use Rattle.af_core.proofs.TurnLemmas.{same_lines}
@@ -79,38 +79,38 @@ same_outline kept s stands =
 -- Rounds
 
 -- So many waits had their turns.
-pub record Runs (config : List DeviceSpec) (kept : Kept) (n : ℕ) (log log' : Option Log) (outer outer' : Option (List Lifecycle)) : Type 0 where
+pub record Runs (config : List DeviceSpec) (kept : Kept) (n : ℕ) (log log' : Option Log) (lifecycle lifecycle' : Option (List Lifecycle)) : Type 0 where
   pub waits : List WaitMade
   pub count : length waits ≡ n
   pub parts : List Log
   pub state : State
-  pub added : Appended log (joined parts) log'
-  pub told : Appended outer (map entry_of waits) outer'
-  pub serves : Serves (opening config) waits (joined parts) state
-  pub turns : TurnsTo (opening config) parts state
+  pub added : Appended log (log_of_parts parts) log'
+  pub told : Appended lifecycle (map entry_of waits) lifecycle'
+  pub serves : Serves (opening_state config) waits (log_of_parts parts) state
+  pub turns : TurnsTo (opening_state config) parts state
   pub stands : Stands kept state
   pub lossless : StateLosesNone state
 
 module _ (config : List DeviceSpec) where
-  pub runs_start : (kept : Kept) (log : Option Log) (outer : Option (List Lifecycle)) → Stands kept (opening config) → Runs config kept 0 log log outer outer
-  runs_start kept log outer stands = record {
+  pub runs_start : (kept : Kept) (log : Option Log) (lifecycle : Option (List Lifecycle)) → Stands kept (opening_state config) → Runs config kept 0 log log lifecycle lifecycle
+  runs_start kept log lifecycle stands = record {
     waits = [];
     count = refl;
     parts = [];
-    state = opening config;
+    state = opening_state config;
     added = appended_none log;
-    told = appended_none outer;
+    told = appended_none lifecycle;
     serves = (refl, refl);
     turns = refl;
     stands = stands;
     lossless = opening_loses_none config;
   }
 
-  -- a wait and its turn behind so many
-  pub runs_more : (kept kept' : Kept) (n : ℕ) (log log1 log2 log3 : Option Log) (outer outer1 outer2 outer3 : Option (List Lifecycle)) (more : Bool) (w : Wake) → Runs config kept n log log1 outer outer1 →
-      ((s : State) → Stands kept s → more ≡ has_more s) → w ≢ wake.Stop → Unchanged log1 log2 → Appended outer1 (noted.Waited more w ∷ []) outer2 →
-      Turns log2 log3 (if fits (outline_of kept) w then w else wake.Idle) kept kept' → Unchanged outer2 outer3 → Runs config kept' (n + 1) log log3 outer outer3
-  runs_more kept kept' n log log1 log2 log3 outer outer1 outer2 outer3 more w r asks goes_on quiet entry turns apart =
+  -- one more wait and its turn
+  pub runs_more : (kept kept' : Kept) (n : ℕ) (log log1 log2 log3 : Option Log) (lifecycle lifecycle1 lifecycle2 lifecycle3 : Option (List Lifecycle)) (more : Bool) (w : Wake) → Runs config kept n log log1 lifecycle lifecycle1 →
+      ((s : State) → Stands kept s → more ≡ has_more s) → w ≢ wake.Stop → Unchanged log1 log2 → Appended lifecycle1 (noted.Waited more w ∷ []) lifecycle2 →
+      Turns log2 log3 (if fits (outline_of kept) w then w else wake.Idle) kept kept' → Unchanged lifecycle2 lifecycle3 → Runs config kept' (n + 1) log log3 lifecycle lifecycle3
+  runs_more kept kept' n log log1 log2 log3 lifecycle lifecycle1 lifecycle2 lifecycle3 more w r asks goes_on quiet entry turns apart =
       let wait : WaitMade = record { more = more; wake = w } in
       let from = turns.each r.state r.stands in
       let taken : wake_taken_as r.state w ≡ (if fits (outline_of kept) w then w else wake.Idle) = ap (λ o. if fits o w then w else wake.Idle) (same_outline kept r.state r.stands) in
@@ -130,61 +130,61 @@ module _ (config : List DeviceSpec) where
         count = length-more r.waits wait ∙ omega (arith, count);
         parts = r.parts ++ turns.part ∷ [];
         state = from.next;
-        added = subst (λ l. Appended log l log3) (sym (joined-more r.parts turns.part)) (appended_on log log1 log3 (joined r.parts) turns.part r.added (stays_appended log1 log2 log3 turns.part quiet turns.told));
-        told = subst (λ l. Appended outer l outer3) (sym (map-more entry_of r.waits wait)) (appended_on outer outer1 outer3 (map entry_of r.waits) (entry_of wait ∷ []) r.told (appended_stays outer1 outer2 outer3 (entry_of wait ∷ []) entry apart));
-        serves = subst (λ l. Serves (opening config) (r.waits ++ wait ∷ []) l from.next) (sym (joined-more r.parts turns.part)) (serves_more (opening config) r.state from.next r.waits (joined r.parts) wait turns.part r.serves turn);
-        turns = turns_more (opening config) r.state from.next r.parts turns.part r.turns (record { is_turn = from.is_turn; one = one });
+        added = subst (λ l. Appended log l log3) (sym (log_of_parts-more r.parts turns.part)) (appended_on log log1 log3 (log_of_parts r.parts) turns.part r.added (stays_appended log1 log2 log3 turns.part quiet turns.told));
+        told = subst (λ l. Appended lifecycle l lifecycle3) (sym (map-more entry_of r.waits wait)) (appended_on lifecycle lifecycle1 lifecycle3 (map entry_of r.waits) (entry_of wait ∷ []) r.told (appended_stays lifecycle1 lifecycle2 lifecycle3 (entry_of wait ∷ []) entry apart));
+        serves = subst (λ l. Serves (opening_state config) (r.waits ++ wait ∷ []) l from.next) (sym (log_of_parts-more r.parts turns.part)) (serves_more (opening_state config) r.state from.next r.waits (log_of_parts r.parts) wait turns.part r.serves turn);
+        turns = turns_more (opening_state config) r.state from.next r.parts turns.part r.turns (record { is_turn = from.is_turn; one = one });
         stands = from.stands;
         lossless = from.lossless;
       }
 
-  -- the end of it all, behind a last entry or none
-  runs_end : (kept : Kept) (n most : ℕ) (end : LiveEnd) (log log1 log2 : Option Log) (outer outer1 outer2 : Option (List Lifecycle)) (r : Runs config kept n log log1 outer outer1) → comes_to_wait end ≡ true → IsCount end (length r.waits) most →
-      Unchanged log1 log2 → Appended outer1 (last_entry end r.state) outer2 → ServedUntil config end most log log2 outer outer2
-  runs_end kept n most end log log1 log2 outer outer1 outer2 r is_end count quiet last = record {
+  -- the end of it all, after a last entry or none
+  runs_end : (kept : Kept) (n most : ℕ) (end : LiveEnd) (log log1 log2 : Option Log) (lifecycle lifecycle1 lifecycle2 : Option (List Lifecycle)) (r : Runs config kept n log log1 lifecycle lifecycle1) → comes_to_wait end ≡ true → IsCount end (length r.waits) most →
+      Unchanged log1 log2 → Appended lifecycle1 (last_entry end r.state) lifecycle2 → ServedUntil config end most log log2 lifecycle lifecycle2
+  runs_end kept n most end log log1 log2 lifecycle lifecycle1 lifecycle2 r is_end count quiet last = record {
     is_end = is_end;
     asked = r.waits;
     count = count;
     served = record {
-      added = joined r.parts;
-      appended = appended_stays log log1 log2 (joined r.parts) r.added quiet;
+      added = log_of_parts r.parts;
+      appended = appended_stays log log1 log2 (log_of_parts r.parts) r.added quiet;
       end = r.state;
       serves = r.serves;
-      told = appended_on outer outer1 outer2 (map entry_of r.waits) (last_entry end r.state) r.told last;
+      told = appended_on lifecycle lifecycle1 lifecycle2 (map entry_of r.waits) (last_entry end r.state) r.told last;
       is_run = turns_run config r.state r.parts r.turns;
-      laws = keeps_laws config (joined r.parts) (subst (λ o. IfSome o StateLosesNone) (sym (turns_end_state config r.state r.parts r.turns)) r.lossless);
+      laws = keeps_laws config (log_of_parts r.parts) (subst (λ o. IfSome o StateLosesNone) (sym (turns_end_state config r.state r.parts r.turns)) r.lossless);
     };
   }
 
   -- a wait gave Stop
-  pub runs_done : (kept : Kept) (n most : ℕ) (log log1 log2 : Option Log) (outer outer1 outer2 : Option (List Lifecycle)) (more : Bool) (w : Wake) → Runs config kept n log log1 outer outer1 → n < most →
-      ((s : State) → Stands kept s → more ≡ has_more s) → w ≡ wake.Stop → Unchanged log1 log2 → Appended outer1 (noted.Waited more w ∷ []) outer2 → ServedUntil config end.Done most log log2 outer outer2
-  runs_done kept n most log log1 log2 outer outer1 outer2 more w r fewer asks stops quiet last =
+  pub runs_done : (kept : Kept) (n most : ℕ) (log log1 log2 : Option Log) (lifecycle lifecycle1 lifecycle2 : Option (List Lifecycle)) (more : Bool) (w : Wake) → Runs config kept n log log1 lifecycle lifecycle1 → n < most →
+      ((s : State) → Stands kept s → more ≡ has_more s) → w ≡ wake.Stop → Unchanged log1 log2 → Appended lifecycle1 (noted.Waited more w ∷ []) lifecycle2 → ServedUntil config end.Done most log log2 lifecycle lifecycle2
+  runs_done kept n most log log1 log2 lifecycle lifecycle1 lifecycle2 more w r fewer asks stops quiet last =
       let entry : Lifecycle = noted.Waited (has_more r.state) wake.Stop in
       let same : noted.Waited more w ≡ entry = ap (λ b. noted.Waited b w) (asks r.state r.stands) ∙ ap (λ x. noted.Waited (has_more r.state) x) stops in
-      runs_end kept n most end.Done log log1 log2 outer outer1 outer2 r refl (subst (λ m. m < most) (sym r.count) fewer) quiet
-      (subst (λ e. Appended outer1 (e ∷ []) outer2) same last)
+      runs_end kept n most end.Done log log1 log2 lifecycle lifecycle1 lifecycle2 r refl (subst (λ m. m < most) (sym r.count) fewer) quiet
+      (subst (λ e. Appended lifecycle1 (e ∷ []) lifecycle2) same last)
 
   -- a wait failed
-  pub runs_failed : (kept : Kept) (n most : ℕ) (log log1 log2 : Option Log) (outer outer1 outer2 : Option (List Lifecycle)) → Runs config kept n log log1 outer outer1 → n < most →
-      Unchanged log1 log2 → Appended outer1 [] outer2 → ServedUntil config end.WaitFault most log log2 outer outer2
-  runs_failed kept n most log log1 log2 outer outer1 outer2 r fewer quiet last =
-      runs_end kept n most end.WaitFault log log1 log2 outer outer1 outer2 r refl (subst (λ m. m < most) (sym r.count) fewer) quiet last
+  pub runs_failed : (kept : Kept) (n most : ℕ) (log log1 log2 : Option Log) (lifecycle lifecycle1 lifecycle2 : Option (List Lifecycle)) → Runs config kept n log log1 lifecycle lifecycle1 → n < most →
+      Unchanged log1 log2 → Appended lifecycle1 [] lifecycle2 → ServedUntil config end.WaitFault most log log2 lifecycle lifecycle2
+  runs_failed kept n most log log1 log2 lifecycle lifecycle1 lifecycle2 r fewer quiet last =
+      runs_end kept n most end.WaitFault log log1 log2 lifecycle lifecycle1 lifecycle2 r refl (subst (λ m. m < most) (sym r.count) fewer) quiet last
 
   -- all waits had their turns
-  pub runs_spent : (kept : Kept) (n most : ℕ) (log log1 : Option Log) (outer outer1 : Option (List Lifecycle)) → Runs config kept n log log1 outer outer1 → n ≡ most → ServedUntil config end.WaitsSpent most log log1 outer outer1
-  runs_spent kept n most log log1 outer outer1 r all =
-      runs_end kept n most end.WaitsSpent log log1 log1 outer outer1 outer1 r refl (r.count ∙ all) (stays_same log1) (appended_none outer1)
+  pub runs_spent : (kept : Kept) (n most : ℕ) (log log1 : Option Log) (lifecycle lifecycle1 : Option (List Lifecycle)) → Runs config kept n log log1 lifecycle lifecycle1 → n ≡ most → ServedUntil config end.WaitsSpent most log log1 lifecycle lifecycle1
+  runs_spent kept n most log log1 lifecycle lifecycle1 r all =
+      runs_end kept n most end.WaitsSpent log log1 log1 lifecycle lifecycle1 lifecycle1 r refl (r.count ∙ all) (stays_same log1) (appended_none lifecycle1)
 
--- the same behind a start
-pub served_behind : (config : List DeviceSpec) (front : List Lifecycle) (last : State → List Lifecycle) (waits : List WaitMade) (log log1 log2 : Option Log) (outer outer1 outer2 : Option (List Lifecycle)) →
-    Unchanged log log1 → Appended outer front outer1 → Served config [] last waits log1 log2 outer1 outer2 → Served config front last waits log log2 outer outer2
-served_behind config front last waits log log1 log2 outer outer1 outer2 quiet appended s = record {
+-- the same after a start
+pub served_behind : (config : List DeviceSpec) (front : List Lifecycle) (last : State → List Lifecycle) (waits : List WaitMade) (log log1 log2 : Option Log) (lifecycle lifecycle1 lifecycle2 : Option (List Lifecycle)) →
+    Unchanged log log1 → Appended lifecycle front lifecycle1 → Served config [] last waits log1 log2 lifecycle1 lifecycle2 → Served config front last waits log log2 lifecycle lifecycle2
+served_behind config front last waits log log1 log2 lifecycle lifecycle1 lifecycle2 quiet appended s = record {
   added = s.added;
   appended = stays_appended log log1 log2 s.added quiet s.appended;
   end = s.end;
   serves = s.serves;
-  told = appended_on outer outer1 outer2 front (map entry_of waits ++ last s.end) appended s.told;
+  told = appended_on lifecycle lifecycle1 lifecycle2 front (map entry_of waits ++ last s.end) appended s.told;
   is_run = s.is_run;
   laws = s.laws;
 }

@@ -1,4 +1,4 @@
--- How the server ends: what was read, what was asked of the world, and what that told.
+-- How the server ends: what was read, what was asked of the world, and what of that is observable.
 use Rattle.std.specs.Prelude.{◌≡◌, ◌≢◌, ℕ, ◌<◌, ◌≤◌, ◌⊎◌, ⊤, Bool, true, false, List, [], ◌∷◌, ◌++◌, length, take, Ok, Err}
 use Rattle.std.specs.declared.option.Option.{Option}
 use Rattle.std.specs.declared.option.Option.TheVariants.{None, Some}
@@ -17,7 +17,7 @@ use Rattle.af_model.specs.More.{has_more}
 use Rattle.afd_serve.specs.declared.live.LiveEnd.{LiveEnd}
 use Rattle.afd_serve.specs.declared.live.LiveEnd.TheVariants as end
 use Rattle.afd_serve.specs.Words.{ServeJob, serve_job_of}
-use Rattle.afd_serve.specs.Serving.{WaitMade, Served, started}
+use Rattle.afd_serve.specs.Serving.{WaitMade, Served, start_entries}
 use Rattle.afd_serve.specs.Starting.{AttachFailed}
 
 -- all that the source gave is no configuration, and this is the first line that may not stand where it stands
@@ -26,13 +26,13 @@ pub record IsFaultyConfig (line : ℕ) (left left' : Option (List ℕ)) : Type 0
   pub read : ConsumedWhole longest_config left left' text
   pub fault : config_of text ≡ Err line
 
--- What the source gave, by how it ended: TooLong exactly where more came than a configuration may have.
+-- What the source gave, by the end: TooLong exactly if more came than a configuration may have.
 pub record ConfigReadAs (ends : LiveEnd → Type 0) (left left' : Option (List ℕ)) : Type 0 where
   pub long : ends end.TooLong → ConsumedTooMuch longest_config left left'
   pub within : ¬ ends end.TooLong → ConsumedWithin longest_config left left'
   pub fault : (line : ℕ) → ends (end.ConfigFault line) → IsFaultyConfig line left left'
 
--- the words ask for a job, and all that the source gave is a configuration
+-- the arguments ask for a job, and all that the source gave is a configuration
 pub record IsTold (words : List (List ℕ)) (left left' : Option (List ℕ)) : Type 0 where
   pub job : ServeJob
   pub asks : serve_job_of words ≡ Some job
@@ -56,14 +56,14 @@ comes_to_wait end.WaitFault = true
 comes_to_wait end.WaitsSpent = true
 comes_to_wait _ = false
 
--- What an early end leaves alone: the source where the words ask for nothing, the world where there is no configuration, and the
--- log where no wait came.
+-- What an early end leaves alone: the source if the arguments ask for nothing, the world if there is no configuration, and the
+-- log if no wait came.
 pub record ServeLeavesAlone {S W : Type 0} (log : W → Option Log) (ended : LiveEnd) (before after : S) (world world' : W) : Type 0 where
   pub unread : ended ≡ end.Usage → after ≡ before
   pub uncalled : calls_nothing ended ≡ true → world' ≡ world
   pub unserved : comes_to_wait ended ≡ false → Unchanged (log world) (log world')
 
--- No count of a world's faults falls, and that of what failed has risen, by how it ended.
+-- No count of a world's faults falls. If a fault of the world ended the server, its count has risen.
 pub record CountsFaults {W : Type 0} (link_faults device_faults listen_faults wait_faults : W → ℕ) (ends : LiveEnd → Type 0) (before after : W) : Type 0 where
   pub links : link_faults before ≤ link_faults after
   pub devices : device_faults before ≤ device_faults after
@@ -71,7 +71,7 @@ pub record CountsFaults {W : Type 0} (link_faults device_faults listen_faults wa
   pub listen : CountsFault (ends end.ListenFault) (listen_faults before) (listen_faults after)
   pub wait : CountsFault (ends end.WaitFault) (wait_faults before) (wait_faults after)
 
--- how many waits had their turn, of so many at most: all where they are spent, and fewer where one gave Stop or failed
+-- how many waits had their turn, of so many at most: all if they are spent, and fewer if one gave Stop or failed
 abbrev pub IsCount : LiveEnd → ℕ → ℕ → Type 0
 IsCount end.Done n most = n < most
 IsCount end.WaitFault n most = n < most
@@ -83,41 +83,41 @@ abbrev pub last_entry : LiveEnd → State → List Lifecycle
 last_entry end.Done s = noted.Waited (has_more s) wake.Stop ∷ []
 last_entry _ s = []
 
--- A server that came to its first wait: it listened where the words say, attached each device that the source states, and
--- then waited and took turns, as often as this end says.
-pub record ServerRan (end : LiveEnd) (words : List (List ℕ)) (left left' : Option (List ℕ)) (log log' : Option Log) (outer outer' : Option (List Lifecycle)) : Type 0 where
+-- A server that came to its first wait. It listened at the stated address, attached each device that the source states, and then
+-- waited and took turns, as often as this end says.
+pub record ServerRan (end : LiveEnd) (words : List (List ℕ)) (left left' : Option (List ℕ)) (log log' : Option Log) (lifecycle lifecycle' : Option (List Lifecycle)) : Type 0 where
   pub told : IsTold words left left'
   pub waits : List WaitMade
   pub count : IsCount end (length waits) told.job.waits
-  pub served : Served told.settings.config (started told.job.address told.settings) (last_entry end) waits log log' outer outer'
+  pub served : Served told.settings.config (start_entries told.job.address told.settings) (last_entry end) waits log log' lifecycle lifecycle'
 
--- nothing was done: the listen where the words say failed
-pub record Unheard (words : List (List ℕ)) (left left' : Option (List ℕ)) (outer outer' : Option (List Lifecycle)) : Type 0 where
+-- nothing was done: the listen at the stated address failed
+pub record Unheard (words : List (List ℕ)) (left left' : Option (List ℕ)) (lifecycle lifecycle' : Option (List Lifecycle)) : Type 0 where
   pub told : IsTold words left left'
-  pub appended : Appended outer [] outer'
+  pub appended : Appended lifecycle [] lifecycle'
 
--- The attach of this device, or that of the program of its line, failed: after a listen and exactly the attaches that come before it, which
--- are those of the devices below it, or of all devices and of the programs of lines that are stated before.
-pub record FailedAt (d : ℕ) (words : List (List ℕ)) (left left' : Option (List ℕ)) (outer outer' : Option (List Lifecycle)) : Type 0 where
+-- The attach of this device, or that of the program of its line, failed. Before it came a listen and exactly the earlier
+-- attaches: those of the devices below this one, or of all devices and of the programs of lines that are stated before.
+pub record FailedAt (d : ℕ) (words : List (List ℕ)) (left left' : Option (List ℕ)) (lifecycle lifecycle' : Option (List Lifecycle)) : Type 0 where
   pub told : IsTold words left left'
-  pub failed : AttachFailed d (noted.Listened told.job.address ∷ []) told.settings outer outer'
+  pub failed : AttachFailed d (noted.Listened told.job.address ∷ []) told.settings lifecycle lifecycle'
 
 -- a prefix of a whole start was made
-pub record StartedInPart (words : List (List ℕ)) (left left' : Option (List ℕ)) (outer outer' : Option (List Lifecycle)) : Type 0 where
+pub record StartedInPart (words : List (List ℕ)) (left left' : Option (List ℕ)) (lifecycle lifecycle' : Option (List Lifecycle)) : Type 0 where
   pub told : IsTold words left left'
   pub front : List Lifecycle
   pub rest : List Lifecycle
-  pub whole : started told.job.address told.settings ≡ front ++ rest
-  pub appended : Appended outer front outer'
+  pub whole : start_entries told.job.address told.settings ≡ front ++ rest
+  pub appended : Appended lifecycle front lifecycle'
 
--- What was asked of the world where no wait came: nothing where the listen failed, the listen and the attaches before the one that failed,
--- and if memory ran out a part of the whole, unless the world was not called.
-pub record EndsBeforeWaits {W : Type 0} (outer : W → Option (List Lifecycle)) (ended : LiveEnd) (words : List (List ℕ)) (left left' : Option (List ℕ)) (world world' : W) : Type 0 where
-  pub unlistened : ended ≡ end.ListenFault → Unheard words left left' (outer world) (outer world')
-  pub attached : (d : ℕ) → ended ≡ end.AttachFault d → FailedAt d words left left' (outer world) (outer world')
-  pub memory : ended ≡ end.OutOfMemory → (world' ≡ world) ⊎ StartedInPart words left left' (outer world) (outer world')
+-- What was asked of the world if no wait came: nothing if the listen failed; the listen and the attaches before the one that
+-- failed; and if memory ran out, a part of the whole, unless the world was not called.
+pub record EndsBeforeWaits {W : Type 0} (lifecycle : W → Option (List Lifecycle)) (ended : LiveEnd) (words : List (List ℕ)) (left left' : Option (List ℕ)) (world world' : W) : Type 0 where
+  pub unlistened : ended ≡ end.ListenFault → Unheard words left left' (lifecycle world) (lifecycle world')
+  pub attached : (d : ℕ) → ended ≡ end.AttachFault d → FailedAt d words left left' (lifecycle world) (lifecycle world')
+  pub memory : ended ≡ end.OutOfMemory → (world' ≡ world) ⊎ StartedInPart words left left' (lifecycle world) (lifecycle world')
 
--- the words ask for a job, the source tells its bytes before and after, and they are a configuration
+-- the arguments ask for a job, the source is observable before and after, and its bytes are a configuration
 pub record IsGoodConfig (words : List (List ℕ)) (left left' : Option (List ℕ)) : Type 0 where
   pub asks : serve_job_of words ≢ None
   pub text : IsGoodText config_of longest_config left left'

@@ -12,7 +12,7 @@ use Rattle.af_config.specs.Stating.{Settings, LineProgram}
 use Rattle.af_config.specs.Configuration.{config_of}
 use Rattle.afd_serve.specs.declared.live.LiveEnd.{LiveEnd}
 use Rattle.afd_serve.specs.declared.live.LiveEnd.TheVariants as end
-use Rattle.afd_serve.specs.Serving.{all_attached, all_lines, started}
+use Rattle.afd_serve.specs.Serving.{all_attached, all_lines, start_entries}
 
 -- all that the source gave is this configuration
 pub record IsReadFrom (left left' : Option (List ℕ)) (settings : Settings) : Type 0 where
@@ -48,41 +48,41 @@ pub record IsBeforeLine (d : ℕ) (settings : Settings) (entries : List Lifecycl
   pub entries_are : entries ≡ all_attached settings ++ take number (all_lines settings)
 
 -- the attach of this device, or that of the program of its line, failed, after exactly those that come before it
-pub record AttachFailed (d : ℕ) (front : List Lifecycle) (settings : Settings) (outer outer' : Option (List Lifecycle)) : Type 0 where
+pub record AttachFailed (d : ℕ) (front : List Lifecycle) (settings : Settings) (lifecycle lifecycle' : Option (List Lifecycle)) : Type 0 where
   pub is_device : d < length settings.config
   pub before : List Lifecycle
   pub cause : IsBelow d settings before ⊎ IsBeforeLine d settings before
-  pub appended : Appended outer (front ++ before) outer'
+  pub appended : Appended lifecycle (front ++ before) lifecycle'
 
--- exactly the devices below one of which the attach failed were attached, or some where memory ran out
+-- exactly the devices below the one whose attach failed were attached, or some if memory ran out
 abbrev pub DevicesUntil : LiveEnd → Settings → Option (List Lifecycle) → Option (List Lifecycle) → Type 0
-DevicesUntil (end.AttachFault d) settings outer outer' = (d < length settings.config) × Appended outer (take d (all_attached settings)) outer'
-DevicesUntil end.OutOfMemory settings outer outer' = AppendedInPart (all_attached settings) outer outer'
-DevicesUntil _ settings outer outer' = ⊥
+DevicesUntil (end.AttachFault d) settings lifecycle lifecycle' = (d < length settings.config) × Appended lifecycle (take d (all_attached settings)) lifecycle'
+DevicesUntil end.OutOfMemory settings lifecycle lifecycle' = AppendedInPart (all_attached settings) lifecycle lifecycle'
+DevicesUntil _ settings lifecycle lifecycle' = ⊥
 
--- exactly the programs of lines before one that failed were put there, or some where memory ran out
-pub record LineFailed (d : ℕ) (settings : Settings) (outer outer' : Option (List Lifecycle)) : Type 0 where
+-- exactly the programs of lines before the one that failed were attached, or some if memory ran out
+pub record LineFailed (d : ℕ) (settings : Settings) (lifecycle lifecycle' : Option (List Lifecycle)) : Type 0 where
   pub is_device : d < length settings.config
   pub number : ℕ
   pub program : LineProgram
   pub stated : slice_get settings.phones number ≡ Some program
   pub of_device : program.device ≡ d
-  pub appended : Appended outer (take number (all_lines settings)) outer'
+  pub appended : Appended lifecycle (take number (all_lines settings)) lifecycle'
 
 abbrev pub LinesUntil : LiveEnd → Settings → Option (List Lifecycle) → Option (List Lifecycle) → Type 0
-LinesUntil (end.AttachFault d) settings outer outer' = LineFailed d settings outer outer'
-LinesUntil end.OutOfMemory settings outer outer' = AppendedInPart (all_lines settings) outer outer'
-LinesUntil _ settings outer outer' = ⊥
+LinesUntil (end.AttachFault d) settings lifecycle lifecycle' = LineFailed d settings lifecycle lifecycle'
+LinesUntil end.OutOfMemory settings lifecycle lifecycle' = AppendedInPart (all_lines settings) lifecycle lifecycle'
+LinesUntil _ settings lifecycle lifecycle' = ⊥
 
--- the same of devices, and then of the programs of lines
+-- the same for devices, and then for the programs of lines
 abbrev pub AttachedUntil : LiveEnd → Settings → Option (List Lifecycle) → Option (List Lifecycle) → Type 0
-AttachedUntil (end.AttachFault d) settings outer outer' = AttachFailed d [] settings outer outer'
-AttachedUntil end.OutOfMemory settings outer outer' = AppendedInPart (all_attached settings ++ all_lines settings) outer outer'
-AttachedUntil _ settings outer outer' = ⊥
+AttachedUntil (end.AttachFault d) settings lifecycle lifecycle' = AttachFailed d [] settings lifecycle lifecycle'
+AttachedUntil end.OutOfMemory settings lifecycle lifecycle' = AppendedInPart (all_attached settings ++ all_lines settings) lifecycle lifecycle'
+AttachedUntil _ settings lifecycle lifecycle' = ⊥
 
--- the same behind a listen, which may have failed
+-- the same after a listen, which may have failed
 abbrev pub StartedUntil : LiveEnd → List ℕ → Settings → Option (List Lifecycle) → Option (List Lifecycle) → Type 0
-StartedUntil end.ListenFault address settings outer outer' = Appended outer [] outer'
-StartedUntil (end.AttachFault d) address settings outer outer' = AttachFailed d (noted.Listened address ∷ []) settings outer outer'
-StartedUntil end.OutOfMemory address settings outer outer' = AppendedInPart (started address settings) outer outer'
-StartedUntil _ address settings outer outer' = ⊥
+StartedUntil end.ListenFault address settings lifecycle lifecycle' = Appended lifecycle [] lifecycle'
+StartedUntil (end.AttachFault d) address settings lifecycle lifecycle' = AttachFailed d (noted.Listened address ∷ []) settings lifecycle lifecycle'
+StartedUntil end.OutOfMemory address settings lifecycle lifecycle' = AppendedInPart (start_entries address settings) lifecycle lifecycle'
+StartedUntil _ address settings lifecycle lifecycle' = ⊥

@@ -51,9 +51,9 @@ pub fn status_of(end: LiveEnd) -> u8
     }
 }
 
-/// The server. With the words `serve ADDRESS WAITS` it reads the source to its end, as its configuration. It listens at the address,
-/// attaches the devices in order, and then waits, and takes a turn for each wake, until a wait gives Stop or so many waits had their
-/// turn. It takes memory before its first wait alone. It may wait, so what is promised of it holds if it returns.
+/// The server. With the words `serve ADDRESS WAITS` it reads the source to its end, as its configuration. It listens at the
+/// address, attaches the devices in order, and then waits, and takes a turn for each wake, until a wait gives Stop or so many
+/// waits had their turn. It takes memory before its first wait alone. It may wait, so what is promised of it holds if it returns.
 pub fn afd_live<S: Source, W: Live>(
     alloc: Global,
     words: &Args,
@@ -69,12 +69,12 @@ pub fn afd_live<S: Source, W: Live>(
     ensures world { CountsFaults W.World.link_faults W.World.device_faults W.listen_faults W.wait_faults
         (λ end. result ≡ end) world.old world.new }
 
-    // what was asked of the world before the first wait, if none came, and from the first wait on
-    ensures unserved { EndsBeforeWaits W.outer result words.now (S.left config.old) (S.left config.new) world.old world.new }
+    // what was asked of the world: before the first wait, if none came, and from the first wait on
+    ensures unserved { EndsBeforeWaits W.lifecycle result words.now (S.left config.old) (S.left config.new) world.old world.new }
     ensures served { comes_to_wait result ≡ true → ServerRan result words.now (S.left config.old) (S.left config.new)
-        (W.World.log world.old) (W.World.log world.new) (W.outer world.old) (W.outer world.new) }
+        (W.World.log world.old) (W.World.log world.new) (W.lifecycle world.old) (W.lifecycle world.new) }
 
-    // a good configuration is served, if memory is there and the devices are
+    // a good configuration is served, if there is memory and the devices can be attached
     ensures complete { IsGoodConfig words.now (S.left config.old) (S.left config.new) → NoFault S.faults config.old config.new →
         NoFault W.listen_faults world.old world.new → NoFault W.wait_faults world.old world.new → EndsWell result }
 {

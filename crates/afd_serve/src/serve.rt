@@ -2,7 +2,7 @@
 ghost use Rattle.std.specs.Prelude.{◌≡◌, ◌≤◌, List, IsTrue, if◌then◌else◌};
 ghost use Rattle.af_world.specs.declared.happening.Wake.TheVariants.{Idle};
 ghost use Rattle.af_world.specs.declared.script.DeviceSpec.{DeviceSpec};
-ghost use Rattle.af_model.specs.State.{opening};
+ghost use Rattle.af_model.specs.State.{opening_state};
 ghost use Rattle.af_model.specs.Turn.{fits};
 ghost use Rattle.af_core.specs.Stands.{Stands, Turns, outline_of};
 ghost use Rattle.afd_serve.specs.Rounds.{ServedUntil};
@@ -12,7 +12,7 @@ use crate::LiveEnd;
 use af_core::Core;
 use af_world::{Live, Waited, Wake, World};
 
-// What is taken of a wake: one that does not fit is taken as Idle.
+// The wake that the core gets: one that does not fit becomes Idle.
 fn taken(core: &Core, wake: Wake) -> Wake
     ensures value { result ≡ (if fits (outline_of core.now) wake then wake else Idle) }
     ensures fits { IsTrue (fits (outline_of core.now) result) }
@@ -20,7 +20,7 @@ fn taken(core: &Core, wake: Wake) -> Wake
     if core.fits(&wake) { wake } else { Wake::Idle }
 }
 
-// The turn of what is taken of a wake.
+// The turn of a wake.
 fn take_turn<W: World>(core: &mut Core, wake: Wake, world: &mut W)
     ensures turns { Turns (W.log world.old) (W.log world.new)
         (if fits (outline_of core.old) wake then wake else Idle) core.old core.new }
@@ -30,13 +30,14 @@ fn take_turn<W: World>(core: &mut Core, wake: Wake, world: &mut W)
     core.turn(wake, world);
 }
 
-/// Waits and takes turns until a wait gives Stop or fails, or n waits had theirs. There is at least one. It is kept out of the code of
-/// what is done once, so that the loop has all registers.
+/// Waits and takes turns until a wait gives Stop or fails, or n waits had theirs. There is at least one. It is kept out of the
+/// code of what is done once, so that the loop has all registers.
 #[inline(never)]
 pub(crate) fn serve<W: Live>(core: &mut Core, waits: u64, world: &mut W) -> LiveEnd
     requires { 1 ≤ waits }
-    ensures served { (config : List DeviceSpec) → Stands core.old (opening config) →
-        ServedUntil config result waits (W.World.log world.old) (W.World.log world.new) (W.outer world.old) (W.outer world.new) }
+    ensures served { (config : List DeviceSpec) → Stands core.old (opening_state config) →
+        ServedUntil config result waits (W.World.log world.old) (W.World.log world.new)
+        (W.lifecycle world.old) (W.lifecycle world.new) }
     ensures world { CountsFaults W.World.link_faults W.World.device_faults W.listen_faults W.wait_faults
         (λ end. result ≡ end) world.old world.new }
 {

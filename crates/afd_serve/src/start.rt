@@ -5,11 +5,11 @@ ghost use Rattle.af_limits.specs.Limits.{most_devices};
 ghost use Rattle.af_sample.specs.Channels.{IsChannelCount};
 ghost use Rattle.af_sample.specs.Rates.{IsListedRate};
 ghost use Rattle.af_io.specs.Observed.{CountsFault, Appended, Unchanged};
-ghost use Rattle.af_model.specs.State.{opening};
+ghost use Rattle.af_model.specs.State.{opening_state};
 ghost use Rattle.af_core.specs.Stands.{Stands};
 ghost use Rattle.afd_serve.specs.Ends.{CountsFaults, ConfigReadAs};
 ghost use Rattle.af_world.specs.Outside.{spec_has_line};
-ghost use Rattle.afd_serve.specs.Serving.{all_attached, all_lines, started};
+ghost use Rattle.afd_serve.specs.Serving.{all_attached, all_lines, start_entries};
 ghost use Rattle.afd_serve.specs.Starting.{AttachedUntil, DevicesUntil, IsReadEnd, IsReadFrom, LinesUntil, StartedUntil};
 
 use crate::LiveEnd;
@@ -44,12 +44,12 @@ pub(crate) fn read_setting<S: Source>(alloc: Global, source: &mut S) -> Result<S
     }
 }
 
-// Attaches each device by rising number.
+// Attaches each device, in the order of their numbers.
 fn attach_devices<W: Live>(alloc: Global, setting: &Setting, world: &mut W) -> Result<(), LiveEnd>
     requires { length setting.now.config ≤ most_devices }
     ensures log { Unchanged (W.World.log world.old) (W.World.log world.new) }
-    ensures all { IfOk result (λ _. Appended (W.outer world.old) (all_attached setting.now) (W.outer world.new)) }
-    ensures some { IfErr result (λ end. DevicesUntil end setting.now (W.outer world.old) (W.outer world.new)) }
+    ensures all { IfOk result (λ _. Appended (W.lifecycle world.old) (all_attached setting.now) (W.lifecycle world.new)) }
+    ensures some { IfErr result (λ end. DevicesUntil end setting.now (W.lifecycle world.old) (W.lifecycle world.new)) }
     ensures world { CountsFaults W.World.link_faults W.World.device_faults W.listen_faults W.wait_faults
         (λ end. result ≡ Err end) world.old world.new }
 {
@@ -65,12 +65,12 @@ fn attach_devices<W: Live>(alloc: Global, setting: &Setting, world: &mut W) -> R
     Ok(())
 }
 
-// Puts the program of each telephone line there, in the order in which they are stated.
+// Attaches the program of each telephone line, in the order in which they are stated.
 fn attach_lines<W: Live>(alloc: Global, setting: &Setting, world: &mut W) -> Result<(), LiveEnd>
     requires { All (λ program. IsTrue (spec_has_line setting.now.config program.device)) setting.now.phones }
     ensures log { Unchanged (W.World.log world.old) (W.World.log world.new) }
-    ensures all { IfOk result (λ _. Appended (W.outer world.old) (all_lines setting.now) (W.outer world.new)) }
-    ensures some { IfErr result (λ end. LinesUntil end setting.now (W.outer world.old) (W.outer world.new)) }
+    ensures all { IfOk result (λ _. Appended (W.lifecycle world.old) (all_lines setting.now) (W.lifecycle world.new)) }
+    ensures some { IfErr result (λ end. LinesUntil end setting.now (W.lifecycle world.old) (W.lifecycle world.new)) }
     ensures world { CountsFaults W.World.link_faults W.World.device_faults W.listen_faults W.wait_faults
         (λ end. result ≡ Err end) world.old world.new }
 {
@@ -99,8 +99,8 @@ fn attach_all<W: Live>(alloc: Global, setting: &Setting, world: &mut W) -> Resul
     requires few { length setting.now.config ≤ most_devices }
     requires lines { All (λ program. IsTrue (spec_has_line setting.now.config program.device)) setting.now.phones }
     ensures log { Unchanged (W.World.log world.old) (W.World.log world.new) }
-    ensures all { IfOk result (λ _. Appended (W.outer world.old) (all_attached setting.now ++ all_lines setting.now) (W.outer world.new)) }
-    ensures some { IfErr result (λ end. AttachedUntil end setting.now (W.outer world.old) (W.outer world.new)) }
+    ensures all { IfOk result (λ _. Appended (W.lifecycle world.old) (all_attached setting.now ++ all_lines setting.now) (W.lifecycle world.new)) }
+    ensures some { IfErr result (λ end. AttachedUntil end setting.now (W.lifecycle world.old) (W.lifecycle world.new)) }
     ensures world { CountsFaults W.World.link_faults W.World.device_faults W.listen_faults W.wait_faults
         (λ end. result ≡ Err end) world.old world.new }
 {
@@ -110,7 +110,8 @@ fn attach_all<W: Live>(alloc: Global, setting: &Setting, world: &mut W) -> Resul
     }
 }
 
-/// Listens at an address, makes the core of these devices, and attaches each of them by rising number, and the programs of their lines.
+/// Listens at an address, makes the core of these devices, and attaches each of them by rising number, and the programs of their
+/// lines.
 pub(crate) fn start<W: Live>(
     alloc: Global,
     address: &str,
@@ -121,10 +122,12 @@ pub(crate) fn start<W: Live>(
     requires rates { All (λ device. IsListedRate device.rate) setting.now.config }
     requires channels { All (λ device. IsChannelCount device.channels) setting.now.config }
     requires lines { All (λ program. IsTrue (spec_has_line setting.now.config program.device)) setting.now.phones }
-    ensures core { IfOk result (λ core. Stands core (opening setting.now.config)) }
+    ensures core { IfOk result (λ core. Stands core (opening_state setting.now.config)) }
     ensures log { Unchanged (W.World.log world.old) (W.World.log world.new) }
-    ensures whole { IfOk result (λ _. Appended (W.outer world.old) (started address.now setting.now) (W.outer world.new)) }
-    ensures part { IfErr result (λ end. StartedUntil end address.now setting.now (W.outer world.old) (W.outer world.new)) }
+    ensures whole { IfOk result (λ _. Appended (W.lifecycle world.old) (start_entries address.now setting.now)
+        (W.lifecycle world.new)) }
+    ensures part { IfErr result (λ end. StartedUntil end address.now setting.now
+        (W.lifecycle world.old) (W.lifecycle world.new)) }
     ensures world { CountsFaults W.World.link_faults W.World.device_faults W.listen_faults W.wait_faults
         (λ end. result ≡ Err end) world.old world.new }
 {

@@ -1,4 +1,4 @@
-// The words of the server's command.
+// The arguments of the server's command.
 ghost use Rattle.std.specs.Prelude.{◌≡◌, ◌≤◌, option_map, IfSome};
 ghost use Rattle.afd_serve.specs.Words.{is_address, job_of_command, serve_job_of, serve_job_of_three};
 

@@ -9,7 +9,7 @@ use af_wire::Order;
 use std::io;
 use std::process::ExitCode;
 
-// What the server says: the replies to the setup, CreateAC, GetTime, Play, Record and FreeAC.
+// The server's replies to the setup, CreateAC, GetTime, Play, Record and FreeAC.
 const REPLIES: [u8; 88] = [
     1, 0, 0, 0, 0, 0, 0, 5, 0, 1, 0, 0, 0, 0, 0, 1, 2, 1, 0, 0, 0, 0, 0x1F, 0x40, 0, 0, 0x7D, 0, // setup
     1, 3, 0, 1, 0, 0, 0, 0, // CreateAC
@@ -19,7 +19,7 @@ const REPLIES: [u8; 88] = [
     1, 5, 0, 5, 0, 0, 0, 0, // FreeAC
 ];
 
-// Plays two samples 100 ms ahead, and records the two of now: says when that was, and how many bytes came.
+// Plays two samples 100 ms ahead, and records the two of now. It says when that was, and how many bytes came.
 fn converse(
     conn: &mut Conn<MemLink>,
     recorded: &mut [u8; 4],
@@ -39,7 +39,7 @@ fn converse(
     Ok((now, count))
 }
 
-// Says what a conversation came to. The status is 0 only if all of it was had.
+// Says what a conversation came to. The status is 0 only if all of it succeeded.
 fn report(
     rt: &impl Print,
     told: Result<(DevTime, usize), ConnFault>,

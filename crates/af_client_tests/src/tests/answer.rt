@@ -16,8 +16,8 @@ enum Seen {
     Other,
 }
 
-// What a machine is given: its words, what its link replies, how many events stand behind that, which call of the link, which
-// starts of children and which writes of the sink fail, and the status of its first child. Then what comes of it.
+// What a machine is given: its arguments, what its link replies, how many events follow, which call of the link, which starts of
+// children and which writes of the sink fail, and the status of its first child. Then what comes of it.
 #[derive(Clone, Copy)]
 struct Row<'a> {
     words: &'a [&'a str],
@@ -38,7 +38,7 @@ const RUNG: &str =
     "01000000 00000005 00010000 00000001 02010100 00001f40 00007d00 01080001 00000000 \
     02010001 00000003 00000000 00000000 00000001 010b0002 00000000 010b0003 00000000";
 
-// The same without the last reply, and with a refusal of it for a dead line, or one to another request.
+// The same without the last reply; with a refusal in its place, since the line is dead; and with a reply to another request.
 const OFF: &str =
     "01000000 00000005 00010000 00000001 02010100 00001f40 00007d00 01080001 00000000 \
     02010001 00000003 00000000 00000000 00000001 010b0002 00000000";
@@ -52,7 +52,7 @@ const OF_ANOTHER: &str =
     "01000000 00000005 00010000 00000001 02010100 00001f40 00007d00 01080001 00000000 \
     02010001 00000003 00000000 00000000 00000001 010b0002 00000000 010b0004 00000000";
 
-// A reply where a ring is awaited.
+// A reply where a ring is expected.
 const REPLIED: &str =
     "01000000 00000005 00010000 00000001 02010100 00001f40 00007d00 01080001 00000000 \
     010b0002 00000000";
@@ -112,7 +112,7 @@ static TAKEN: [Row<'static>; 3] = [
     },
 ];
 
-// Other ends: of want of a line and of words, and behind each OffHook an OnHook is sent.
+// Other ends. After each OffHook an OnHook is sent.
 static ENDED: [Row<'static>; 7] = [
     Row {
         replies: NO_LINE,
@@ -171,9 +171,8 @@ static ENDED: [Row<'static>; 7] = [
     },
 ];
 
-// The calls of the link in a call that is taken, from the first to the last with one number: what was sent where one of them
-// fails, and whether the children have run. A request is one write, and a message two reads of its head and one for each 7
-// bytes of its body.
+// The calls of the link in a call that is taken, from a first to a last number: what was sent if one of them fails, and whether
+// the children have run. A request is one write. A message is two reads of its header, and one read for each 7 bytes of its body.
 static CUT: [(u64, u64, &str, bool); 6] = [
     (0, 0, "", false),
     (1, 6, "41464200 00010000", false),
@@ -218,7 +217,7 @@ fn had_run(rt: &impl Abort, spawner: &MemSpawner, wanted: &[Seen]) {
     }
 }
 
-// What a link gives: these replies, and so many events, each of current that flows.
+// What a link gives: these replies, and then so many events, each of a loop current that flows.
 fn gives(alloc: Global, replies: &str, events: u32) -> Result<Vec<u8>, Fail> {
     let mut bytes = bytes_of(alloc, replies)?;
     let event = bytes_of(alloc, "02040003 00000003 00000000 00000000 00000001")?;

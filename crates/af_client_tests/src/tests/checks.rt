@@ -7,7 +7,7 @@ use std::test::Fail;
 // The reply to the setup of a server with one device of 16-bit samples at 8000 frames a second.
 pub const SETUP_REPLY: &str = "01000000 00000005 00010000 00000001 02010000 00001f40 00007d00";
 
-// The same of a server whose device has two channels.
+// The same for a server whose device has two channels.
 pub const STEREO_REPLY: &str = "01000000 00000005 00010000 00000001 02020000 00001f40 00007d00";
 
 // The bytes that hexadecimal digits state. Blanks count for nothing.
@@ -40,7 +40,7 @@ pub fn same_bytes(rt: &impl Abort, what: &str, found: &[u8], wanted: &[u8]) {
     assert_eq!(rt; found, wanted, "{what}");
 }
 
-// What a test compares: only that it is so, since to write both values out is dear to prove.
+// Compares two values, and does not print them: that would be dear to prove.
 pub fn holds(rt: &impl Abort, what: &str, true_of_it: bool) {
     assert!(rt; true_of_it, "{what}");
 }

@@ -17,12 +17,12 @@ const DIGIT: Event = Event {
     value: 0x35,
 };
 
-// A connection whose link gives these bytes behind the reply to the setup.
+// A connection whose link gives these bytes after the reply to the setup.
 fn connected(alloc: Global, replies: &[u8]) -> Result<Conn<MemLink>, Fail> {
     connected_to(alloc, SETUP_REPLY, replies)
 }
 
-// The same behind this reply.
+// The same after this reply.
 fn connected_to(alloc: Global, setup: &str, replies: &[u8]) -> Result<Conn<MemLink>, Fail> {
     let mut far = bytes_of(alloc, setup)?;
     far.extend_from_slice(replies)?;
@@ -33,7 +33,7 @@ fn connected_to(alloc: Global, setup: &str, replies: &[u8]) -> Result<Conn<MemLi
     }
 }
 
-// What a connection was sent behind the setup is this.
+// This is what a connection was sent after the setup.
 fn was_sent(
     rt: &impl Abort,
     alloc: Global,
@@ -99,7 +99,7 @@ fn gain(decibels: i32) -> Gain {
     Gain::new(decibels).unwrap_or_default()
 }
 
-// Each request once; of settings and controls those that are stated alone are sent.
+// Each request once. Of settings and controls, only those that are stated are sent.
 fn ask_each(rt: &impl Abort, conn: &mut Conn<MemLink>) {
     let none = Gain::default();
     holds(
@@ -165,7 +165,7 @@ fn each_request_is_answered(rt: HostRuntime) -> Result<(), Fail> {
     )
 }
 
-// A time, an event and a refusal of a little-endian server.
+// A time, an event and a refusal from a little-endian server.
 fn ask_little(rt: &impl Abort, conn: &mut Conn<MemLink>) {
     holds(rt, "the time", conn.get_time(0) == Ok(DevTime(9)));
     holds(rt, "an event", conn.wait_event() == Ok(DIGIT));
@@ -192,7 +192,7 @@ fn a_connection_keeps_its_order(rt: HostRuntime) -> Result<(), Fail> {
     Ok(())
 }
 
-// A context on the device that is there, and one on a device that is not.
+// A context on a device that exists, and one on a device that does not.
 fn create_each(rt: &impl Abort, conn: &mut Conn<MemLink>) {
     let none = Gain::default();
     let refused = ConnFault::ServerError { code: 3, value: 1 };
@@ -224,7 +224,7 @@ fn a_context_has_the_channels_of_its_device(rt: HostRuntime) -> Result<(), Fail>
     )
 }
 
-// A refused request, and one behind it.
+// A refused request, and the one after it.
 fn ask_refused(rt: &impl Abort, conn: &mut Conn<MemLink>) {
     let refused = ConnFault::ServerError { code: 4, value: 5 };
     holds(rt, "refused", conn.free_ac(5) == Err(refused));
@@ -242,7 +242,7 @@ fn a_refused_connection_stays_usable(rt: HostRuntime) -> Result<(), Fail> {
     was_sent(&rt, rt.alloc(), conn, "05000002 00000005 02000001")
 }
 
-// A record that does not wait answers fewer bytes, one that waits all of them; fewer are a bad reply.
+// A record that does not block may answer fewer bytes. One that blocks answers all of them: fewer are a bad reply.
 fn record_each(rt: &impl Abort, conn: &mut Conn<MemLink>) {
     let mut into = [9u8; 4];
     holds(
@@ -286,7 +286,7 @@ fn a_record_that_waits_is_whole(rt: HostRuntime) -> Result<(), Fail> {
     )
 }
 
-// A link that ends, and a request behind that.
+// A link that ends, and a request after that.
 fn ask_spent(rt: &impl Abort, conn: &mut Conn<MemLink>) {
     holds(rt, "ended", conn.get_time(0) == Err(ConnFault::LinkEnded));
     let spent = ConnFault::Spent {
@@ -302,7 +302,7 @@ fn a_spent_connection_sends_nothing(rt: HostRuntime) -> Result<(), Fail> {
     was_sent(&rt, rt.alloc(), conn, "02000001")
 }
 
-// One event, and then a message that is none.
+// One event, and then a message that is no event.
 fn wait_each(rt: &impl Abort, conn: &mut Conn<MemLink>) {
     holds(rt, "an event", conn.wait_event() == Ok(DIGIT));
     let bad = ConnFault::BadReply {

@@ -1,5 +1,5 @@
 // A conversation in which each read and each write of the link fails once: the call that makes it answers LinkFault, and all
-// behind it Spent.
+// calls after it Spent.
 use crate::tests::checks::{SETUP_REPLY, bytes_of, holds};
 use af_io::MemLink;
 use af_lib::{Cause, Conn, ConnFault};
@@ -26,9 +26,9 @@ enum Step {
     Event,
 }
 
-// The steps behind the setup: what the link gives for each, and how many calls of the link it makes. A request is one write, and
-// a message two reads of its head and one for each 7 bytes of its body. An event stands before the reply to FreeAC: the first
-// wait takes it from the ring.
+// The steps after the setup: what the link gives for each, and how many calls of the link it makes. A request is one write. A
+// message is two reads of its header, and one read for each 7 bytes of its body. An event stands before the reply to FreeAC: the
+// first wait takes it from the ring.
 static STEPS: [(Step, &str, u64); 13] = [
     (Step::Create, "01030001 00000000", 3),
     (Step::Change, "01040002 00000000", 3),
@@ -83,7 +83,7 @@ fn fault_of(conn: &mut Conn<MemLink>, step: Step) -> Option<ConnFault> {
     }
 }
 
-// The fault that is wanted of a step that makes the calls from one number up to another, where one call fails.
+// The fault that is wanted of a step that makes the calls from one number up to another, if the call `fails` fails.
 fn wanted(fails: u64, from: u64, to: u64) -> Option<ConnFault> {
     if fails < from {
         Some(ConnFault::Spent {
@@ -137,7 +137,7 @@ fn converse(rt: &impl Abort, alloc: Global, far: &[u8], fails: u64) -> Result<()
     Ok(())
 }
 
-// The last time no call fails.
+// In the last run no call fails.
 #[test]
 fn each_read_and_each_write_fails_once(rt: HostRuntime) -> Result<(), Fail> {
     let far = replies(rt.alloc())?;

@@ -1,4 +1,4 @@
-// Words of the tools, and what they ask.
+// Arguments of the tools, and what they ask.
 use crate::tests::checks::{holds, words_of};
 use af_cli::{
     Call, OptionsFault, PassJob, PlayJob, RecordJob, RelayCall, SetJob, Task, TaskCall, call_of,
@@ -10,12 +10,12 @@ use std::alloc::Global;
 use std::process::Abort;
 use std::test::Fail;
 
-// These words ask one server for a task, in Big order.
+// These arguments ask one server for a task, in big-endian order.
 fn ask_task(rt: &impl Abort, alloc: Global, words: &[&str], wanted: Task) -> Result<(), Fail> {
     ask_in_order(rt, alloc, words, Order::Big, wanted)
 }
 
-// These words ask one server for a task in an order.
+// These arguments ask one server for a task, in this byte order.
 fn ask_in_order(
     rt: &impl Abort,
     alloc: Global,
@@ -42,7 +42,7 @@ fn ask_in_order(
     Ok(())
 }
 
-// These words ask for a relay between two servers, in Little order.
+// These arguments ask for a relay between two servers, in little-endian order.
 fn ask_relay(rt: &impl Abort, alloc: Global, words: &[&str], wanted: PassJob) -> Result<(), Fail> {
     let args = words_of(alloc, words)?;
     let Ok(
@@ -65,7 +65,7 @@ fn ask_relay(rt: &impl Abort, alloc: Global, words: &[&str], wanted: PassJob) ->
     Ok(())
 }
 
-// These words ask for nothing.
+// These arguments ask for nothing.
 fn ask_nothing(rt: &impl Abort, alloc: Global, words: &[&str]) -> Result<(), Fail> {
     let args = words_of(alloc, words)?;
     let Err(fault) = call_of(alloc, &args) else {

@@ -1,5 +1,5 @@
-// The tools over sources, sinks and links in memory, which give their bytes in pieces. What the tools send for which words is
-// shown by the worked runs in tests/tools.
+// The tools over sources, sinks and links in memory, which give their bytes in pieces. The worked runs in tests/tools show what
+// the tools send for which arguments.
 use crate::tests::checks::{SETUP_REPLY, STEREO_REPLY, bytes_of, holds, same_bytes, words_of};
 use af_io::{MemDial, MemLink, MemSink, MemSource};
 use af_tools::{ToolEnd, af_run};
@@ -7,7 +7,7 @@ use std::alloc::Global;
 use std::process::Abort;
 use std::test::Fail;
 
-// What the first or the second link is sent that a dial was given back.
+// What was sent on the first or the second link that a dial got back.
 fn sent_over(dial: &MemDial, place: usize) -> &[u8] {
     match dial.kept(place) {
         Some(link) => link.sent(),
@@ -15,7 +15,7 @@ fn sent_over(dial: &MemDial, place: usize) -> &[u8] {
     }
 }
 
-// The links that a dial was given back are sent this, one behind the other.
+// The links that a dial got back were sent this, one after the other.
 fn was_sent(rt: &impl Abort, what: &str, dial: &MemDial, wanted: &[u8]) {
     let first = sent_over(dial, 0);
     let second = sent_over(dial, 1);
@@ -37,7 +37,7 @@ const NOTHING: Failing<'static> = Failing {
     sink: &[],
 };
 
-// What a run is given: its words, what its source gives, what its two links reply, and what fails.
+// What a run is given: its arguments, what its source gives, what its two links reply, and what fails.
 #[derive(Clone, Copy)]
 struct Given<'a> {
     words: &'a [&'a str],

@@ -99,7 +99,7 @@ fn assert_run(rt: &impl Abort, alloc: Global, name: &str, run: &Run<'_>) -> Resu
     Ok(())
 }
 
-// A card that gives a frame and a half, then the rest and another, and takes all: as many frames go by as it gave.
+// A card gives a frame and a half, then the rest and another, and takes all: as many frames go by as it gave.
 const IN_STEP: [Call; 7] = [
     Call::Due(10, 1),
     Call::Capture(b"ab", Put::Done),
@@ -118,7 +118,7 @@ const FAST: [Call; 4] = [
     Call::Due(11, 0),
 ];
 
-// It has room for three bytes of six: the frame that was begun is finished, and the third is lost.
+// It has room for three of six bytes: the frame that was begun is finished, and the third is lost.
 const NO_ROOM: [Call; 6] = [
     Call::Due(10, 3),
     Call::Capture(b"abcdef", Put::Done),
@@ -138,7 +138,7 @@ const CLOSED: [Call; 6] = [
     Call::Emit(b"EF", Put::Done),
 ];
 
-// A microphone ends after half a frame, and comes back a second later: the half is in no frame, and meanwhile the clock ticks.
+// A microphone ends after half a frame, and comes back a second later. The half is dropped, and meanwhile the clock ticks.
 const DIES: [Call; 12] = [
     Call::Due(10, 1),
     Call::Capture(b"ab", Put::Done),
@@ -155,7 +155,7 @@ const DIES: [Call; 12] = [
     Call::Due(SECOND + 40, 0),
 ];
 
-// Where each look finds frames due by the clock, the start comes as their sound is emitted.
+// If each look finds frames due by the clock, the program is started as their sound is emitted.
 const BUSY: [Call; 9] = [
     Call::Due(10, 1),
     Call::Capture(b"ab", Put::Done),
@@ -177,7 +177,7 @@ const SPENT: [Call; 5] = [
     Call::Due(30, 1),
 ];
 
-// A loudspeaker is handed a piece, which is a frame here, and the next one is due once all of it was taken.
+// A loudspeaker is handed a piece, which is a frame here. The next one is due once it took all of that.
 const FULL: [Call; 8] = [
     Call::Due(1, 1),
     Call::Capture(b"\0\0", Put::Done),

@@ -93,7 +93,7 @@ fn assert_row(rt: &impl Abort, alloc: Global, row: &Row<'_>) -> Result<(), Fail>
     Ok(())
 }
 
-// The second sound is lost with the child that did not take it, and the third is given to another.
+// The second sound is lost with the child that did not take it, and the third goes to another.
 const LOST: [Seen; 9] = [
     Seen::Noted(b'A'),
     Seen::Began(BeganGot::Child(0)),

@@ -1,4 +1,4 @@
-// The program that stands for the exchange of a line: whole runs over a program in memory.
+// The program that is the exchange of a line: whole runs over a program in memory.
 ghost use Rattle.std.specs.Prelude.{◌≤◌};
 ghost use Rattle.arrayvec.specs.ArrayVec.{array_vec_len};
 
@@ -17,7 +17,7 @@ use std::test::Fail;
 enum Call {
     Next(u64, Option<LineChange>),
     Hook(u64, bool, Put),
-    // so many hook calls, the last of which answers this
+    // so many hook calls, and the answer of the last
     Hooks(u64, u32, Put),
 }
 
@@ -111,7 +111,7 @@ const PIECES: [Call; 7] = [
     Call::Next(6, None),
 ];
 
-// A line is at fault between two changes: the first is given, and the program is ended. A second later the next one is started.
+// A line is malformed between two changes: the first is given, and the program is ended. A second later it is started again.
 const FAULT: [Call; 7] = [
     Call::Next(1, RING),
     Call::Next(2, None),
@@ -130,7 +130,7 @@ const CUT: [Call; 4] = [
     Call::Next(5 * SECOND, None),
 ];
 
-// A comment of 64 bytes is one, and one of 65 is at fault.
+// A comment of 64 bytes is one, and one of 65 is malformed.
 const LONG: [Call; 3] = [
     Call::Next(1, RING),
     Call::Next(2, None),
@@ -163,14 +163,14 @@ const CLOSED: [Call; 5] = [
     Call::Next(SECOND + 4, None),
 ];
 
-// With no start left a hook call fails, once it takes nothing.
+// With no start left a hook call fails, once the program takes nothing.
 const SPENT: [Call; 3] = [
     Call::Hook(1, true, Put::Failed),
     Call::Next(2, None),
     Call::Hook(3, true, Put::Failed),
 ];
 
-// It has no room: 511 calls are kept beside the hook at its start, and the next one is too many.
+// It has no room: beside the hook of its start 511 calls are kept, and the next one is too many.
 const FULL: [Call; 3] = [
     Call::Hooks(1, 511, Put::Done),
     Call::Hooks(2, 1, Put::Failed),

@@ -140,7 +140,7 @@ fn a_program_in_memory_plays_its_plan(rt: HostRuntime) -> Result<(), Fail> {
         Call::Start(8, Launched::Runs),
         Call::Take(4, Gave::Bytes(1), b"g"),
         Call::Take(4, Gave::NotYet, b""),
-        // past what is stated
+        // after all that is stated
         Call::Take(4, Gave::NotYet, b""),
         Call::Give(b"uvw", Took::Bytes(3)),
     ];

@@ -1,4 +1,4 @@
-// Sources, sinks and links over readers, writers and sockets: what the traits of std say nothing of.
+// Sources, sinks and links over readers, writers and sockets: what the traits of std do not promise.
 use af_io::{Dial, Dialed, Got, Link, Put, Sink, Source, StdSink, StdSource, TcpDial};
 use std::io;
 use std::io::{ErrorKind, Read, Write};

@@ -1,4 +1,4 @@
-// A device of the real world whose time is that of a program, which is in memory.
+// A device of the real world that goes by a program. The program is in memory.
 ghost use Rattle.std.specs.Prelude.{◌≡◌, []};
 ghost use Rattle.af_codec.specs.Codec.{TellsThese};
 
@@ -35,7 +35,7 @@ const CARD: Asked = Asked {
     ready: Ready::Done,
 };
 
-// The numbers are in their ranges, and a number has one device.
+// Numbers have to be in range, and each number has one device.
 const ATTACHES: [Asked; 6] = [
     Asked {
         restarts: 1_000_001,
@@ -64,7 +64,7 @@ const ATTACHES: [Asked; 6] = [
     },
 ];
 
-// A program of the system that is not there, and one that takes all; and there is none where a world has no programs.
+// A program that the system does not have, and one that takes all; and none, if a world has no programs.
 const MISSING: Asked = Asked {
     card: CardKind::Speaker,
     word: "no-such-program",
@@ -115,7 +115,7 @@ fn is_answered<W: Live>(alloc: Global, world: &mut W, asked: &Asked) -> bool {
     world.attach(alloc, asked.device, &spec, kind) == asked.ready
 }
 
-// The next tick, of at most 50 waits.
+// The next tick, after at most 50 waits.
 fn tick<W: Live>(world: &mut W) -> Option<(u8, u32)> {
     for _ in 0..50u32 {
         if let Waited::Woke(Wake::Ticked(device, frames)) = world.wait(false) {

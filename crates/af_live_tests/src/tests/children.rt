@@ -1,4 +1,4 @@
-// Child programs of the system, of which no contract says what they got nor how they ended.
+// Child programs of the system. No contract says what they got or how they ended.
 ghost use Rattle.std.specs.Prelude.{◌≤◌};
 ghost use Rattle.arrayvec.specs.ArrayVec.{array_vec_len};
 
@@ -13,12 +13,12 @@ use std::process::{Abort, Processes};
 // A call of a spawner, and what it answers.
 #[derive(Drop)]
 enum Call<'a> {
-    // Of a program with no arguments.
+    // a program with no arguments
     Run(&'a str, Started),
-    // Of `sh`, `-c` and a script.
+    // `sh`, `-c` and a script
     Start(&'a str, Started),
     Give(u32, &'a [u8], Put),
-    // More than there is room for between two programs, and what the last give of it answers.
+    // more than there is room for between two programs, and what the last give answers
     GiveMuch(u32, Put),
     Finish(u32, Finished),
 }
@@ -128,7 +128,7 @@ fn children_with_deadlines_hold_nobody_up(rt: HostRuntime) {
         Call::Start("cat > /dev/null; exit 3", Started::Child(1)),
         Call::GiveMuch(1, Put::Done),
         Call::Finish(1, Finished::Ended(3)),
-        // one that takes nothing is given nothing more, and one that does not end is killed
+        // a child that takes nothing is given nothing more, and one that does not end is killed
         Call::Start("exec sleep 20", Started::Child(2)),
         Call::GiveMuch(2, Put::Failed),
         Call::Give(2, b"a", Put::Failed),

@@ -1,4 +1,4 @@
-// A device of the real world that stands over a codec, whose child programs are in memory.
+// A device of the real world with a codec, whose child programs are in memory.
 ghost use Rattle.std.specs.Prelude.{◌≡◌, []};
 ghost use Rattle.af_codec.specs.Codec.{TellsThese};
 
@@ -22,7 +22,7 @@ fn words_of(texts: &[&str]) -> Words {
     words
 }
 
-// A device over a codec of these words is attached, or is not.
+// A device whose codec has this command line is attached, or is not.
 fn attached<W: Live>(
     alloc: Global,
     world: &mut W,
@@ -49,7 +49,7 @@ fn attached<W: Live>(
     )
 }
 
-// The first orders in their ranges hold, and no second ones.
+// The first orders that are in range hold, and no second ones.
 fn assert_attaches<W: Live>(rt: &impl Abort, alloc: Global, world: &mut W) {
     let long = "12345678901234567890123456789012345678901234567890123456789012345";
     assert!(rt; attached(alloc, world, 0, 101, &["cat"]) == Ready::Failed);

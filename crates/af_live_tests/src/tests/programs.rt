@@ -1,4 +1,4 @@
-// Programs of the system over sockets, of which no contract says what they got nor how they ended.
+// Programs of the system over sockets. No contract says what they got or how they ended.
 ghost use Rattle.std.specs.Prelude.{◌≤◌};
 ghost use Rattle.arrayvec.specs.ArrayVec.{array_vec_len};
 
@@ -15,32 +15,32 @@ use std::test::Fail;
 use std::thread;
 use std::time::{Clock, Duration};
 
-// A call of a program, or several until one answers as is wanted, and that answer.
+// A call of a program, with its answer. Some calls are repeated until that answer comes.
 #[derive(Drop)]
 enum Call {
-    // Of a program with no arguments.
+    // a program with no arguments
     Run(&'static str, Launched),
-    // Of `sh`, `-c` and a script.
+    // `sh`, `-c` and a script
     Start(&'static str, Launched),
     Give(&'static [u8], Took),
-    // Pieces, until one is answered so.
+    // gives pieces, until one is answered so
     GiveUntil(Took),
     Take(Gave),
-    // Takes, until all of these bytes came.
+    // takes, until all of these bytes came
     TakeAll(&'static [u8]),
-    // Takes, until one is answered so.
+    // takes, until one is answered so
     TakeUntil(Gave),
-    // At a millisecond.
+    // at a millisecond
     End(u64),
-    // So many are started, and ended at once, which they ignore.
+    // starts so many, and ends them at once, which they ignore
     EndMany(u32),
-    // At a millisecond, and how the program has ended.
+    // at a millisecond, and how the program has ended
     Tend(u64, Option<i32>),
-    // The same, until it has.
+    // the same, until it has
     TendUntil(u64, Option<i32>),
-    // Whether a start had a reason to fail.
+    // whether a start had a reason to fail
     HasReason(bool),
-    // Whether there are sockets to the input and from the output.
+    // whether there are sockets to the input and from the output
     HasSockets(bool, bool),
 }
 
@@ -230,7 +230,7 @@ fn a_program_gives_and_takes_and_is_ended(rt: HostRuntime) -> Result<(), Fail> {
     ];
     assert_calls(&rt, rt.alloc(), Ways::Both, &both)?;
     let given = [
-        // one that takes nothing gets no more than there is room for, and is killed in the end
+        // a program that takes nothing gets no more than there is room for, and is killed in the end
         Call::Run("cat", Launched::Runs),
         Call::HasSockets(true, false),
         Call::Take(Gave::Ended),
@@ -242,7 +242,7 @@ fn a_program_gives_and_takes_and_is_ended(rt: HostRuntime) -> Result<(), Fail> {
         Call::Tend(1199, None),
         Call::Tend(1199, None),
         Call::TendUntil(1200, Some(137)),
-        // one that ends takes no more
+        // a program that ends takes no more
         Call::Start("head -c 3 > /dev/null; exit 3", Launched::Runs),
         Call::GiveUntil(Took::Ended),
         Call::End(0),
@@ -258,7 +258,7 @@ fn a_program_gives_and_takes_and_is_ended(rt: HostRuntime) -> Result<(), Fail> {
         Call::HasReason(false),
         Call::End(0),
         Call::TendUntil(0, Some(137)),
-        // no more than eight that were ended are left
+        // at most eight that were ended are left
         Call::EndMany(8),
         Call::Run("true", Launched::Failed),
         Call::TendUntil(200, Some(137)),
@@ -267,7 +267,8 @@ fn a_program_gives_and_takes_and_is_ended(rt: HostRuntime) -> Result<(), Fail> {
     assert_calls(&rt, rt.alloc(), Ways::Gives, &gives)
 }
 
-// A tick of a device, whose sound is emitted as it was captured. What is left of the sound that is awaited, if this was its beginning.
+// A tick of a device, whose sound is emitted as it was captured. The answer is what is left of the expected sound, if this was
+// its beginning.
 fn after_tick<'a, P: Program + Drop>(
     card: &mut Card<P>,
     frames: usize,
@@ -288,7 +289,7 @@ fn after_tick<'a, P: Program + Drop>(
     }
 }
 
-// A device over a program of the system has captured a sound in the end.
+// In the end, a device over a program of the system has captured a sound.
 fn assert_captured<R: Processes + Net + Clock + Abort>(
     rt: &R,
     alloc: Global,

@@ -12,24 +12,24 @@ use std::process::Abort;
 use std::rt::Files;
 use std::test::Fail;
 
-// A call of a world that is of its links, and what it gives.
+// A call of a world on its links, and what it gives.
 #[derive(Drop)]
 enum Call {
     Listen(&'static str, Ready),
-    // The next wait that is not Idle, of at most 500 with nothing to do. Of a tick the device alone is told.
+    // the next wait that is not Idle, after at most 500 that had nothing to do; a tick is compared only by its device
     Wait(Waited),
     Poll(Waited),
-    // With the first bytes that stand in the room then.
+    // with the first bytes that the room has then
     Read(u8, LinkGot, &'static [u8; 6]),
     Write(u8, &'static [u8], LinkTook),
     Close(u8),
 }
 
-// A call of a world that is of a device, and what it gives.
+// A call of a world on a device, and what it gives.
 #[derive(Drop)]
 enum Asked {
     Attach(u8, SampleType, Kind<'static>, Ready),
-    // Of five bytes.
+    // of five bytes
     Capture(u8, Put, &'static [u8; 5]),
     Emit(u8, &'static [u8], Put),
     Hook(u8, Put),
@@ -201,7 +201,7 @@ fn assert_act<W: Live, R: Net + Abort>(
     Ok(())
 }
 
-// A world, and a client that connects to this address, do this, and this comes of it.
+// A world, and a client that connects to this address, do this, with these results.
 fn assert_acts<W: Live, R: Net + Abort>(
     rt: &R,
     alloc: Global,
@@ -270,7 +270,7 @@ const LINK: [Act; 31] = [
     Act::World(Call::Wait(Waited::Woke(Wake::Readable(0)))),
     Act::World(Call::Read(0, LinkGot::Ended, b"------")),
     Act::World(Call::Wait(Waited::Woke(Wake::Writable(0)))),
-    // its link is open still: the next client has the next number, and the one behind a close the least that is free
+    // its link is still open, so the next client has the next number, and after a close the next one has the least free number
     Act::Connect,
     Act::World(Call::Wait(Waited::Woke(Wake::Opened(1)))),
     Act::World(Call::Wait(Waited::Woke(Wake::Writable(1)))),

@@ -1,4 +1,4 @@
-// Configurations are read and their faults numbered, and devices are paced, each against what was worked out by hand.
+// Configurations are read and their faults numbered, and devices are paced. What is expected was worked out by hand.
 use af_live::{ConfigFault, Pace, read_config};
 use af_outside::{CardKind, DeviceSpec, Kind};
 use af_sample::SampleType;
@@ -6,7 +6,7 @@ use std::alloc::Global;
 use std::process::Abort;
 use std::test::Fail;
 
-// The line of a text's fault, or 0 where it is a configuration.
+// The line of a text's fault, or 0 for a configuration without one.
 fn faulty_line(alloc: Global, text: &[u8]) -> Result<u32, Fail> {
     if text.len() > 65536 {
         return Err(Fail::from("the text is too long"));
@@ -18,7 +18,7 @@ fn faulty_line(alloc: Global, text: &[u8]) -> Result<u32, Fail> {
     }
 }
 
-// Each text is at fault in this line.
+// Each text has its first fault in this line.
 fn assert_faults(rt: &impl Abort, alloc: Global, cases: &[(&[u8], u32)]) -> Result<(), Fail> {
     for (text, line) in cases {
         let found = faulty_line(alloc, text)?;
@@ -27,7 +27,7 @@ fn assert_faults(rt: &impl Abort, alloc: Global, cases: &[(&[u8], u32)]) -> Resu
     Ok(())
 }
 
-// The names of the files behind a device.
+// The names of the files of a device.
 fn names(kind: Kind<'_>) -> Option<(&str, &str)> {
     match kind {
         Kind::Silent => None,
@@ -59,7 +59,7 @@ fn assert_states(
     Ok(())
 }
 
-// At these readings of the clock n frames of each rate are due.
+// At these readings of the clock so many frames of each rate are due.
 fn assert_due(rt: &impl Abort, cases: &[(u32, &[(u64, u32)])]) {
     for (rate, readings) in cases {
         let mut pace = Pace::new(*rate);
@@ -112,8 +112,8 @@ fn configurations_are_read(rt: HostRuntime) -> Result<(), Fail> {
     assert_states(&rt, rt.alloc(), text.as_bytes(), &devices)
 }
 
-// A device with a program: whether it has a line, its kind of card, or None for a codec, how often the program may be started again,
-// and its words.
+// A device with a program: whether it has a line, its kind of card, or None for a codec, how often the program may be started
+// again, and its command line.
 type Program<'a> = (bool, Option<CardKind>, u32, &'a [&'a str]);
 
 // A device has this program.
@@ -261,7 +261,7 @@ fn the_first_faulty_line_is_numbered(rt: HostRuntime) -> Result<(), Fail> {
             (b"device lin16 8001 0 silent", 1),
             (b"device lin16 8000 0 files a b c", 1),
             (b"device lin16 8000 0 line line silent\n", 1),
-            // two channels that are stated twice, behind the line, behind what stands behind the device, before its start, or alone
+            // two channels that are stated twice, after the line, after the backend, before the start, or alone
             (b"device lin16 8000 0 stereo stereo silent\n", 1),
             (b"device lin16 8000 0 line stereo silent\n", 1),
             (b"device lin16 8000 0 silent stereo\n", 1),
@@ -284,8 +284,8 @@ fn the_first_faulty_line_is_numbered(rt: HostRuntime) -> Result<(), Fail> {
                 b"device lin16 8000 0 codec 1 cat\ndevice lin16 8000 0 silent\ndevice lin16 8000 0 line codec 1 cat",
                 3,
             ),
-            // a card with no restarts, no words, a ninth word, too many restarts, a word of 65 bytes, its line in the wrong place, or
-            // another name; and a second codec after cards
+            // a card with no restarts, no words, a ninth word, too many restarts, a word of 65 bytes, its line in the wrong
+            // place, or another name; and a second codec after cards
             (b"device lin16 8000 0 card", 1),
             (b"device lin16 8000 0 card cat", 1),
             (b"device lin16 8000 0 speaker 1", 1),
@@ -315,7 +315,7 @@ fn the_first_faulty_line_is_numbered(rt: HostRuntime) -> Result<(), Fail> {
     )
 }
 
-// The program of a telephone line: its device, how often it may be started again, and its words.
+// The program of a telephone line: its device, how often it may be started again, and its command line.
 type Phone<'a> = (u8, u32, &'a [&'a str]);
 
 // A text states these programs of telephone lines, in this order, and no others.
@@ -351,7 +351,7 @@ fn a_line_has_a_program(rt: HostRuntime) -> Result<(), Fail> {
             b"device lin16 8000 0 line silent\nphone 0 0 ring",
             &[(0, 0, &["ring"])],
         ),
-        // in the order of the lines, with what is passed over between them
+        // in the order of the lines, with lines between them that are skipped
         (
             b"device alaw 8000 0 silent\ndevice lin16 48000 7 stereo line files a b\n# lines\ndevice mu255 8000 0 line silent\n\n  phone  02 1000000   python3 gr\xc3\xbc\xc3\x9fe.py\n#\n \nphone 1 0001000000 a b c d e f g h\n",
             &[
@@ -406,7 +406,7 @@ fn a_faulty_phone_line_is_numbered(rt: HostRuntime) -> Result<(), Fail> {
                 b"# a\n\nphone 0 1 ring\ndevice alaw 8000 0 line silent\n",
                 3,
             ),
-            // of a device that is not there
+            // of a device that does not exist
             (b"device alaw 8000 0 line silent\nphone 1 1 ring", 2),
             (b"device alaw 8000 0 line silent\nphone 8 1 ring", 2),
             (b"device alaw 8000 0 line silent\nphone 256 1 ring", 2),
@@ -466,7 +466,7 @@ fn frames_are_due_by_the_clock(rt: HostRuntime) {
     assert_due(
         &rt,
         &[
-            // a second has 8000 frames, of which 4096 are due at once
+            // a second has 8000 frames, and 4096 of them are due at once
             (
                 8000,
                 &[

@@ -10,7 +10,7 @@ use std::test::Fail;
 #[derive(Clone, Copy)]
 enum Drawn<'a> {
     Open(u8),
-    // n bytes on a link, of which these are the first
+    // n bytes on a link, beginning with these
     Send(u8, usize, &'a [u8]),
     // n frames in which this pattern is captured
     Tick(u32, &'a [u8]),

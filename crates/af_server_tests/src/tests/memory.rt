@@ -1,4 +1,4 @@
-// The outside in memory: what each call answers, and which calls fail.
+// The outside in memory: the answers of its calls, and which calls fail.
 use crate::tests::checks::{holds, same_bytes};
 use af_io::{
     Args, Dial, Dialed, Got, Link, MemDial, MemLink, MemSink, MemSource, Put, Sink, Source,
@@ -46,7 +46,7 @@ fn write_sink<K: Sink>(rt: &impl Abort, sink: &mut K, answers: &[(&[u8], Put)]) 
     }
 }
 
-// Dials, makes calls of the link that is given, and gives it back. Whether there was one.
+// Dials, makes calls of the link, and gives it back. The answer is whether there was a link.
 fn call_dialled<D: Dial>(rt: &impl Abort, dial: &mut D, calls: &[Call<'_>]) -> bool {
     let Dialed::Far(mut far) = dial.dial("h:1") else {
         return false;
@@ -81,7 +81,7 @@ fn a_source_and_a_sink_fail_in_mid_stream(rt: HostRuntime) {
     same_bytes(&rt, "the sink", sink.held(), &[1, 2, 3, 4]);
 }
 
-// A source that gives these bytes, of which the reads with these numbers fail, is read as a text of at most 7 bytes.
+// A source that gives these bytes, and whose listed reads fail, is read as a text of at most 7 bytes.
 fn reads_text(
     rt: &impl Abort,
     alloc: Global,
@@ -116,7 +116,7 @@ fn two_links(alloc: Global) -> Result<MemDial, Fail> {
     Ok(MemDial::new(Some(first), Some(second)))
 }
 
-// The link at this place was given back, had been sent these bytes, and has failed so often.
+// The dial got the link at this place back. It had been sent these bytes, and failed so often.
 fn kept(rt: &impl Abort, dial: &MemDial, place: usize, sent: &[u8], faults: u64) {
     match dial.kept(place) {
         Some(link) => {

@@ -26,7 +26,7 @@ fn head_of(step: &Step) -> (&'static str, u8) {
     }
 }
 
-// Writes what else a step states.
+// Writes the other values of a step.
 fn write_rest(text: &mut String, step: &Step) -> Result<(), AllocError> {
     match step {
         Step::Send(_, bytes) => writeln!(text, " {:?}", bytes.as_slice()),
@@ -67,7 +67,7 @@ fn spec(ty: SampleType, rate: u32, start: u32, channels: u8, line: bool) -> Devi
     }
 }
 
-// Each type stands twice, and each rate is there.
+// Each type is there twice, and each rate at least once.
 const SCRIPT: &str = "# eight devices\n\
                       \n  device   mu255 08000 4294967295 \n\
                       device alaw 11025 1\n\

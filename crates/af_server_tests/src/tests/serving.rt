@@ -1,4 +1,4 @@
-// The server over a tape: how it ends, what it asks of its world, and what has a turn, on examples worked by hand.
+// The server over a tape: how it ends, what it asks of its world, and which wakes have a turn. The examples are worked by hand.
 use crate::tests::checks::holds;
 use af_io::{Args, MemSink, MemSource};
 use af_outside::{DeviceSpec, Happening, Lifecycle, LifecycleFaults, Tape, ToldKind, Wake};
@@ -37,7 +37,7 @@ fn args(alloc: Global, words: &[&str]) -> Result<Args, Fail> {
     Ok(args)
 }
 
-// How the server ends over a configuration that comes in pieces of 7 bytes and of which chosen reads fail, and a tape.
+// How the server ends over a configuration, which comes in pieces of 7 bytes and whose listed reads fail, and a tape.
 fn run_to_end(
     alloc: Global,
     words: &Args,
@@ -49,7 +49,7 @@ fn run_to_end(
     afd_live(alloc, words, &mut source, tape)
 }
 
-// With these words, a configuration of which chosen reads fail, and calls that fail, the server ends so, with this status.
+// The arguments of a server, a configuration whose listed reads fail, and calls that fail; then its end and its status.
 #[derive(Clone, Copy)]
 struct Ending<'a> {
     what: &'a str,
@@ -247,9 +247,9 @@ fn other_words_are_usage(rt: HostRuntime) -> Result<(), Fail> {
     Ok(())
 }
 
-// A call of the world that is to be: a listen at an address; an attach of a device, with its rate, whether it has a line, and its
-// two files, if any; a program for the line of a device, with its restarts, and how many words it has; a wait that was asked with whether
-// there was more to do, and the wake that it gave.
+// A call of the world that is expected: a listen at an address; an attach of a device, with its rate, whether it has a line, and
+// its two files, if any; a program for the line of a device, with its restarts, and how many words its command line has; a wait,
+// with whether there was more to do, and the wake that it gave.
 enum Called<'a> {
     Listen(&'a str),
     Attach(u8, u32, bool, Option<(&'a str, &'a str)>),
@@ -319,7 +319,7 @@ fn assert_printed(rt: &impl Abort, what: &str, log: &[Happening], wanted: &str) 
     holds(rt, what, sink.held() == wanted.as_bytes());
 }
 
-// What is done and said where a server with a configuration plays a script.
+// What a server with a configuration calls, and writes, as it plays a script.
 struct Served<'a> {
     what: &'a str,
     words: &'a [&'a str],
@@ -339,7 +339,7 @@ fn assert_served(rt: &impl Abort, alloc: Global, case: &Served<'_>) -> Result<()
     let mut tape = Tape::new(alloc, &script.config, steps, case.faults)?;
     let end = run_to_end(alloc, &words, case.config, &[], &mut tape);
     holds(rt, case.what, end == case.end);
-    assert_calls(rt, case.what, tape.outer(), case.calls);
+    assert_calls(rt, case.what, tape.lifecycle(), case.calls);
     assert_turns(rt, case.what, tape.log(), case.turns);
     assert_printed(rt, case.what, tape.log(), case.printed);
     Ok(())

@@ -1,4 +1,4 @@
-// A tape as a world that gives its own wakes: what its calls answer, and what it tells of listens, attaches and waits.
+// A tape as a world that gives its own wakes: the answers of its calls, and its entries for listens, attaches and waits.
 use crate::tests::checks::{holds, same_text};
 use af_io::{Bytes, Put};
 use af_outside::{
@@ -18,7 +18,7 @@ use std::test::Fail;
 enum Call {
     Listen(Ready),
     Attach(u8, u32, Ready),
-    // a program is to stand for the exchange of the line of a device
+    // a program is to be the exchange of a device's line
     AttachLine(u8, Ready),
     // asked with whether there is more to do
     Wait(bool, Waited),
@@ -26,7 +26,7 @@ enum Call {
     // three bytes are offered to a link
     Write(u8, LinkTook),
     Close(Why),
-    // what is captured of a device, if that is done
+    // what a device captures, if that is done
     Capture(u8, &'static [u8], Put),
     Emit(Put),
     // the hook of device 2 is to be off
@@ -97,10 +97,10 @@ fn device_from(start: u32) -> DeviceSpec {
     }
 }
 
-// A line of text for each listen, attach and wait that is told.
-fn lines_of(alloc: Global, outer: &[Lifecycle]) -> Result<String, AllocError> {
+// A line of text for each entry of a lifecycle log.
+fn lines_of(alloc: Global, lifecycle: &[Lifecycle]) -> Result<String, AllocError> {
     let mut text = String::new(alloc);
-    for entry in outer {
+    for entry in lifecycle {
         match entry {
             Lifecycle::Listened(address) => writeln!(text, "listened {:?}", address.as_slice())?,
             Lifecycle::Attached {
@@ -142,17 +142,17 @@ fn all_steps(alloc: Global) -> Result<Vec<Step>, Fail> {
 
 const CALLS: [Call; 41] = [
     Call::Listen(Ready::Done),
-    // the attaches of device 1 are to fail, device 3 is not there, and device 2 has another start
+    // the attaches of device 1 fail, device 3 does not exist, and device 2 has another start
     Call::Attach(0, 7, Ready::Done),
     Call::Attach(1, 8, Ready::Failed),
     Call::Attach(2, 9, Ready::Done),
     Call::Attach(3, 9, Ready::Failed),
     Call::Attach(2, 7, Ready::Failed),
-    // device 2 has a line, device 0 has none, and device 3 is not there
+    // device 2 has a line, device 0 has none, and device 3 does not exist
     Call::AttachLine(2, Ready::Done),
     Call::AttachLine(0, Ready::Failed),
     Call::AttachLine(3, Ready::Failed),
-    // wait 1 is to fail, and takes no step
+    // wait 1 fails, and takes no step
     Call::Wait(false, Waited::Woke(Wake::Opened(3))),
     Call::Wait(true, Waited::Failed),
     Call::Wait(true, Waited::Woke(Wake::Readable(3))),
@@ -171,15 +171,15 @@ const CALLS: [Call; 41] = [
     Call::Read(LinkGot::Ended),
     Call::Write(3, LinkTook::Failed),
     Call::Write(3, LinkTook::Took(2)),
-    // a link that is not there takes all
+    // a link that does not exist takes all
     Call::Write(40, LinkTook::Took(3)),
     Call::Capture(0, &[5, 6], Put::Failed),
-    // what a tick states is captured, also again, if it is as many bytes as are asked for, and else silence
+    // what a tick states is captured, also a second time, if it is as many bytes as are asked for, and else silence
     Call::Capture(0, &[5, 6], Put::Done),
     Call::Capture(0, &[0], Put::Done),
     Call::Capture(0, &[5, 6], Put::Done),
     Call::Capture(1, &[0, 0], Put::Done),
-    // so it is of a device that is not there
+    // so does a device that does not exist
     Call::Capture(5, &[0, 0], Put::Done),
     Call::Emit(Put::Failed),
     Call::Emit(Put::Done),
@@ -187,7 +187,7 @@ const CALLS: [Call; 41] = [
     Call::Hook(Put::Done),
     Call::Close(Why::Ended),
     Call::Wait(false, Waited::Woke(Wake::Idle)),
-    // behind the last step each wait gives Stop
+    // after the last step each wait gives Stop
     Call::Wait(true, Waited::Woke(Wake::Stop)),
     Call::Wait(false, Waited::Woke(Wake::Stop)),
 ];
@@ -211,7 +211,8 @@ const TOLD: &str = "listened [104]\n\
                     waited true Stop\n\
                     waited false Stop\n";
 
-// Makes these calls of a tape that plays all steps with these faults. It tells its log, and these lines of its outer list.
+// Makes these calls of a tape that plays all steps with these faults. Its log is observable, and these are the lines of its
+// lifecycle log.
 fn plays(
     rt: &impl Abort,
     alloc: Global,
@@ -229,8 +230,8 @@ fn plays(
     assert!(rt; tape.tells());
     same_text(
         rt,
-        "the outer list",
-        lines_of(alloc, tape.outer())?.as_str(),
+        "the lifecycle log",
+        lines_of(alloc, tape.lifecycle())?.as_str(),
         told,
     );
     Ok(())

@@ -1,4 +1,4 @@
-// A log is printed line by line and as its summary, against what was written by hand.
+// A log is printed line by line and as its summary. What is expected was written by hand.
 use af_io::{Bytes, MemSink, Put};
 use af_outside::{Happening, ReadGot, Wake, Why};
 use af_script::{print_log, print_summary};
@@ -6,7 +6,7 @@ use std::alloc::Global;
 use std::process::Abort;
 use std::test::Fail;
 
-// A happening whose bytes, if it has some, stand beside it.
+// A happening, and the bytes that it has, if any.
 #[derive(Clone, Copy)]
 enum Row<'a> {
     Woke(Wake),
@@ -80,7 +80,7 @@ fn log_of(alloc: Global, rows: &[Row<'_>]) -> Result<Vec<Happening>, Fail> {
     Ok(log)
 }
 
-// One of each kind, and of each way that it can go.
+// One of each kind, and each way that it can go.
 const ROWS: [Row<'static>; 22] = [
     Row::Woke(Wake::Ticked(0, 2)),
     Row::Captured(0, &[9, 9]),
@@ -123,13 +123,13 @@ const LINES: &str = "emit 0 00ff7fa0\n\
                      emit 7 00ff7fa0\n\
                      link 0 05\n";
 
-// What was printed went as it is to go, and is what is wanted.
+// What was printed, and whether it was printed whole, are as expected.
 fn printed(rt: &impl Abort, what: &str, went: bool, found: &[u8], wanted: &[u8]) {
     assert!(rt; went, "{what}");
     assert_eq!(rt; found, wanted, "{what}");
 }
 
-// The log is printed so to a sink of which the writes with these numbers fail.
+// The log is printed so to a sink whose listed writes fail.
 fn prints(rt: &impl Abort, log: &[Happening], fails: &[u64], put: Put, held: &[u8]) {
     let mut room = [0u8; 400];
     let mut sink = MemSink::new(&mut room, fails);

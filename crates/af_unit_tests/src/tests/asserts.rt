@@ -1,4 +1,4 @@
-// What the tests compare, a helper for each type: a comparison that stands in a test is proved anew there.
+// What the tests compare, with a helper for each type: a comparison that stands in a test is proved again there.
 use std::process::Abort;
 
 pub fn assert_number(rt: &impl Abort, what: &str, found: i128, wanted: i128) {

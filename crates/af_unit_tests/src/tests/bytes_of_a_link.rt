@@ -20,7 +20,7 @@ enum Step<'a> {
     Clear,
 }
 
-// Takes the steps over a new session. Each has to fit into what is there.
+// Takes the steps over a new session. Each has to fit.
 fn assert_steps(rt: &impl Abort, alloc: Global, steps: &[Step<'_>]) -> Result<(), OutOfMemory> {
     let mut session = Session::new(alloc)?;
     for step in steps {
@@ -49,7 +49,7 @@ fn stepped(rt: &impl Abort, session: &mut Session, step: &Step<'_>) -> bool {
     true
 }
 
-// One byte fewer than may wait to go out, and than may be unread.
+// One byte less than may wait to be sent, and than may be unread.
 static MUCH_TO_GO: [u8; 65535] = [0; 65535];
 
 static MUCH_UNREAD: [u8; 32767] = [0; 32767];
@@ -63,7 +63,7 @@ fn bytes_in_and_out_keep_apart(rt: HostRuntime) -> Result<(), Fail> {
             Step::In(&[1, 2]),
             Step::Used(1),
             Step::Holds(&[2], &[]),
-            // as many bytes as may wait to go out, and more where some went
+            // as many bytes as may wait to be sent, and more after some went
             Step::Out(&MUCH_TO_GO),
             Step::Out(&[7]),
             Step::Went(65535),
@@ -71,7 +71,7 @@ fn bytes_in_and_out_keep_apart(rt: HostRuntime) -> Result<(), Fail> {
             Step::Holds(&[2], &[7, 8, 9]),
             Step::Went(2),
             Step::Holds(&[2], &[9]),
-            // as many bytes as may be unread, and more where some are used
+            // as many bytes as may be unread, and more after some are used
             Step::In(&MUCH_UNREAD),
             Step::Used(32767),
             Step::In(&[3, 4]),

@@ -1,4 +1,4 @@
-// What a client's requests on contexts are answered, step by step.
+// A client's requests on contexts and their answers, step by step.
 use af_context::*;
 use af_sample::{Gain, SampleType};
 use std::process::Abort;
@@ -12,7 +12,7 @@ enum Ask {
     Clear,
 }
 
-// Each step with its answer, over contexts of which there are none at first.
+// Each step with its answer. At first there is no context.
 fn assert_steps(
     rt: &impl Abort,
     steps: &[(Ask, Result<(), ContextFault>)],

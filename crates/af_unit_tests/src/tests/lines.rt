@@ -4,13 +4,13 @@ use af_request::Phone;
 use af_wire::EventKind;
 use std::process::Abort;
 
-// What is done, or asked with its answer.
+// A call with its answer, if it has one.
 #[derive(Drop)]
 enum Step {
     Change(LineChange, (EventKind, u32)),
     Want(bool),
     Needs(Option<bool>),
-    // a try to give the hook was done, or failed
+    // a hook call was done, or failed
     Hooked(bool),
     Shows(Phone),
 }
@@ -72,7 +72,7 @@ fn a_call_is_taken_and_ends(rt: HostRuntime) {
                 Step::Want(false),
                 Step::Needs(Some(false)),
             ],
-            // a failed hook leaves a dead line that still changes; a code that is no digit's changes nothing
+            // a failed hook call leaves a dead line, which still changes; a code that is no digit's changes nothing
             &[
                 Step::Want(true),
                 Step::Hooked(false),

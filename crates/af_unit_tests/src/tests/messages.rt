@@ -11,7 +11,7 @@ fn fronts_of_setups(rt: HostRuntime) {
         &[
             (b"AFB\0\0\x01\0\0", SetupFront::Setup(Order::Big)),
             (&Order::Big.setup(), SetupFront::Setup(Order::Big)),
-            // a minor version of any number, and a frame behind it
+            // a minor version of any number, and a frame after it
             (
                 b"AFB\0\0\x01\0\x07\x01\0\0\x01",
                 SetupFront::Setup(Order::Big),
@@ -21,7 +21,7 @@ fn fronts_of_setups(rt: HostRuntime) {
             (b"AFB\0\0\x02\0\0", bad_setup(Order::Big, 2)),
             (b"AFB\0\x01\0\0\0", bad_setup(Order::Big, 256)),
             (b"GET / HT", bad_setup(Order::Big, 0x4745_5420)),
-            // in the other order: its version is read in it, and a bad one answered in it
+            // in the other order: its version is read in that order, and a bad one answered in it
             (b"AFl\0\x01\0\0\0", SetupFront::Setup(Order::Little)),
             (&Order::Little.setup(), SetupFront::Setup(Order::Little)),
             (b"AFl\0\x02\0\0\0", bad_setup(Order::Little, 2)),

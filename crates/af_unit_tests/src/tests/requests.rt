@@ -1,4 +1,4 @@
-// Each request and each reply with its bytes written out by hand, both ways, and what is refused.
+// Each request and each reply with its bytes written out by hand, both ways, and bytes that are refused.
 ghost use Rattle.std.specs.Prelude.{◌≡◌, true};
 ghost use Rattle.af_request.specs.Asked.{request_meaning as asked};
 ghost use Rattle.af_request.specs.Answer.{reply_meaning as answered};
@@ -313,7 +313,7 @@ fn two_devices() -> Devices {
     devices
 }
 
-// Each reply to request 258 is written as a head with this count of words and this body, and read from the body.
+// Each reply to request 258 is written as a header with this count of words and this body, and read from the body.
 fn assert_replies(rt: &impl Abort, order: Order, cases: &[(u8, Reply<'_>, u8, &[u8])]) {
     for (opcode, reply, words, body) in cases {
         assert!(rt; records_within(reply), "a record is too long");
@@ -330,7 +330,7 @@ fn assert_replies(rt: &impl Abort, order: Order, cases: &[(u8, Reply<'_>, u8, &[
     }
 }
 
-// The head of a reply to request 258.
+// The header of a reply to request 258.
 fn head(order: Order, opcode: u8, words: u8) -> [u8; 8] {
     match order {
         Order::Big => [1, opcode, 1, 2, 0, 0, 0, words],

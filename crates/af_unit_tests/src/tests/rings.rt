@@ -28,7 +28,7 @@ fn runs_go_on_across_the_wrap(rt: HostRuntime) -> Result<(), Fail> {
 // A play: its start, its samples, and whether it preempts.
 type Play = (u32, &'static [i16], bool);
 
-// What these plays make of the next samples of one channel from a time on, and that nothing comes back when the ring has gone round.
+// What these plays make of the next samples of one channel from a time on. After the ring has gone round, it is silent.
 fn assert_heard(
     rt: &impl Abort,
     alloc: Global,
@@ -99,7 +99,7 @@ fn plays_are_heard_once(rt: HostRuntime) -> Result<(), Fail> {
     let alloc = rt.alloc();
     let wraps: [Play; 1] = [(4294967295, &[1, 2], false)];
     assert_heard(&rt, alloc, 4294967295, &wraps, &[1, 2, 0])?;
-    // what is late of a play is dropped
+    // the late samples of a play are dropped
     assert_heard(&rt, alloc, 0, &wraps, &[2, 0])?;
     assert_heard(&rt, alloc, 1, &wraps, &[0])?;
     // three plays are summed one by one, each sum saturated
@@ -109,7 +109,7 @@ fn plays_are_heard_once(rt: HostRuntime) -> Result<(), Fail> {
         (5, &[-20000], false),
     ];
     assert_heard(&rt, alloc, 5, &loud, &[12767, 0])?;
-    // a play that preempts takes the place of what was there, and a later one is mixed in
+    // a play that preempts replaces what was there, and a later one is mixed in
     let preempts: [Play; 3] = [(5, &[5, 6], false), (5, &[7], true), (5, &[1, 1], false)];
     assert_heard(&rt, alloc, 5, &preempts, &[8, 7])?;
     Ok(())
@@ -118,7 +118,7 @@ fn plays_are_heard_once(rt: HostRuntime) -> Result<(), Fail> {
 #[test]
 fn plays_of_two_channels_are_heard_in_each(rt: HostRuntime) -> Result<(), Fail> {
     let alloc = rt.alloc();
-    // over the wrap of the time, and with what is late dropped by whole frames
+    // over the wrap of the time; late samples are dropped by whole frames
     let wraps: [Play; 1] = [(4294967295, &[1, 2, 3, 4, 5, 6], false)];
     assert_heard_in_two(
         &rt,
@@ -138,7 +138,7 @@ fn plays_of_two_channels_are_heard_in_each(rt: HostRuntime) -> Result<(), Fail> 
         &around,
         &[[0, 0], [5, 6], [7, 8], [0, 0]],
     )?;
-    // where the number of a cell wraps, which is half of the way of the time
+    // across the wrap of a cell's number, which is half-way round the time
     let halfway: [Play; 1] = [(2147483647, &[1, 2, 3, 4], false)];
     assert_heard_in_two(&rt, alloc, 2147483647, &halfway, &[[1, 2], [3, 4], [0, 0]])?;
     // a frame whose other sample is 0 changes one channel
@@ -148,7 +148,7 @@ fn plays_of_two_channels_are_heard_in_each(rt: HostRuntime) -> Result<(), Fail> 
         (7, &[0, 20], false),
     ];
     assert_heard_in_two(&rt, alloc, 5, &sides, &[[0, 0], [11, 2], [3, 24], [0, 0]])?;
-    // a play that preempts takes the place of both channels, with a 0 as well, and a later one is mixed in
+    // a play that preempts replaces both channels, also by a 0, and a later one is mixed in
     let preempts: [Play; 3] = [
         (5, &[5, 6, 7, 8], false),
         (5, &[9, 0], true),
@@ -180,7 +180,7 @@ fn assert_recorded(
 #[test]
 fn what_was_captured_is_read(rt: HostRuntime) -> Result<(), Fail> {
     let alloc = rt.alloc();
-    // silence before what was captured and behind it
+    // silence before what was captured, and after it
     assert_recorded(&rt, alloc, 0, &[5], 4294967295, [0, 5, 0])?;
     assert_recorded(&rt, alloc, 4294967295, &[1, 2], 4294967295, [1, 2, 0])?;
     Ok(())

@@ -1,5 +1,5 @@
-// Samples: the bytes of both laws against another implementation, and linear bytes, gains, sums, rates and types against what was
-// worked out by hand.
+// Samples: the bytes of both laws against another implementation, and linear bytes, gains, sums, rates and types against results
+// that were worked out by hand.
 ghost use Rattle.std.specs.Prelude.{◌≡◌, ◌*◌, length};
 ghost use Rattle.af_sample.specs.SampleTypes.{width_of};
 
@@ -145,7 +145,7 @@ fn codes_of_both_laws_by_hand(rt: HostRuntime) {
     );
 }
 
-// How many samples a run has in which there are two full vectors and a rest.
+// The samples of a run of two full vectors and a rest.
 const LONG: usize = 37;
 
 // Each sample with n decibels, or that so many are no gain.
@@ -219,7 +219,7 @@ fn gains_are_truncated_and_sums_saturated(rt: HostRuntime) {
     );
 }
 
-// Runs of every length up to 100: full vectors of them and what is left are the same at each place.
+// Runs of every length up to 100: full vectors and the rest give the same at each place.
 #[test]
 fn runs_of_each_length_are_mixed_at_each_place(rt: HostRuntime) {
     for n in 0..=100usize {

@@ -1,4 +1,4 @@
-// Heads of sound files whose bytes are written out by hand: whole, cut, and with one bad byte.
+// Headers of sound files whose bytes are written out by hand: whole, cut, and with one bad byte.
 use crate::tests::asserts::assert_bytes;
 use af_sound::*;
 use std::process::Abort;
@@ -29,7 +29,7 @@ fn heads_are_read_byte_by_byte(rt: HostRuntime) {
     assert_whole(&rt, SoundForm::Wave, WAVE, WAVE_HEAD);
 }
 
-// a head is told by its last byte, and before that more is wanted
+// A header is reported at its last byte. Before that the reader wants more.
 fn assert_whole(rt: &impl Abort, form: SoundForm, bytes: &[u8], head: SoundHead) {
     for cut in 0..bytes.len() {
         assert_read(rt, form, &bytes[..cut], None, (cut, HeadStep::More));
@@ -51,7 +51,7 @@ fn assert_read(
     );
 }
 
-// How many bytes were taken, of which one may be changed, and what was said to the last of them.
+// How many bytes were taken, if one of them may be changed, and the answer to the last of them.
 fn read_head(form: SoundForm, bytes: &[u8], changed: Option<(usize, u8)>) -> (usize, HeadStep) {
     let mut reader = HeadReader::new(form);
     for (i, byte) in bytes.iter().enumerate() {

@@ -1,10 +1,10 @@
-// Lines, words and numbers of texts, against what was worked out by hand.
+// Lines, words and numbers of texts, against results that were worked out by hand.
 use crate::tests::asserts::{assert_bytes, assert_number, long_or_none, number_or_none};
 use af_sample::SampleType;
 use af_text::*;
 use std::process::Abort;
 
-// Each text is this line, and this text behind it.
+// Each text is this line, and this text after it.
 fn assert_lines(rt: &impl Abort, cases: &[(&[u8], &[u8], &[u8])]) {
     for (text, line, behind) in cases {
         if !text.is_empty() {
@@ -15,7 +15,7 @@ fn assert_lines(rt: &impl Abort, cases: &[(&[u8], &[u8], &[u8])]) {
     }
 }
 
-// What was found is this pair, or nothing where the first is empty.
+// What was found is this pair, or nothing if the first is empty.
 fn assert_pair(rt: &impl Abort, what: &str, found: Option<(&[u8], &[u8])>, wanted: (&[u8], &[u8])) {
     match found {
         Some((first, second)) => {
@@ -28,8 +28,8 @@ fn assert_pair(rt: &impl Abort, what: &str, found: Option<(&[u8], &[u8])>, wante
 
 type Pair = (&'static [u8], &'static [u8]);
 
-// Each line with its first word and the line behind it, its words where they are two, its word where it is one, and whether it is passed
-// over.
+// Each line with its first word and the line after it, its words if they are two, its word if it is one, and whether it is
+// skipped.
 fn assert_words(rt: &impl Abort, cases: &[(&[u8], Pair, Pair, &[u8], bool)]) {
     for (line, next, two, one, passed) in cases {
         assert_pair(rt, "a word and the line behind it", next_word(line), *next);
@@ -80,7 +80,7 @@ fn a_text_is_lines_of_words(rt: HostRuntime) {
     );
 }
 
-// Each word as a number, as one of 1..4096, as a long one of 1..10000, and as any long one; -1 where it is none.
+// Each word as a number, as one of 1..4096, as a long one of 1..10000, and as any long one; -1 if it is none.
 fn assert_numbers(rt: &impl Abort, cases: &[(&[u8], i128, i128, i128, i128)]) {
     for (word, any, small, bounded, long) in cases {
         assert_number(rt, "a number", long_or_none(number(word)), *any);

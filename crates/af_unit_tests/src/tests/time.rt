@@ -3,7 +3,7 @@ use crate::tests::asserts::{assert_number, number_or_none};
 use af_time::{DevTime, frames_of_ms};
 use std::process::Abort;
 
-// Each time minus the other is this number: it is so much after the other, and before it where the number is negative.
+// Each time minus the other is this number: the first is so much after the other, or before it if the number is negative.
 fn assert_differences(rt: &impl Abort, cases: &[(u32, u32, i32)]) {
     for (word, other, difference) in cases {
         let (time, other) = (DevTime(*word), DevTime(*other));

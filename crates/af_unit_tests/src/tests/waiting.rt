@@ -1,22 +1,22 @@
-// Requests that wait, and are due, step by step.
+// Deferred requests, and when they are due, step by step.
 use af_wait::Waiting;
 use std::process::Abort;
 
 // What is done, or asked with its answer.
 enum Step {
-    // a link begins to wait for n frames of a device
+    // a link has a request deferred for n frames of a device
     Add(u8, u8, u32),
     Drop(u8),
     // n frames of a device pass
     Pass(u8, u32),
-    // the link that is due next for a device leaves
+    // the link whose request is due next for a device leaves
     Next(u8, Option<u8>),
     First(u8, Option<u8>),
     Waits(u8, bool),
     Len(usize),
 }
 
-// Runs lists of steps, each over a list of its own in which nothing waits at first.
+// Runs lists of steps, each over a list of its own that is empty at first.
 fn assert_runs(rt: &impl Abort, runs: &[&[Step]]) {
     for steps in runs {
         let mut waiting = Waiting::new();
@@ -66,7 +66,7 @@ fn what_is_due_completes_in_the_order_of_beginning(rt: HostRuntime) {
                 Step::Pass(1, 4096),
                 Step::Next(1, Some(9)),
             ],
-            // what waits can be asked
+            // what is deferred can be asked
             &[
                 Step::Add(5, 0, 2),
                 Step::Add(2, 0, 1),
@@ -81,7 +81,7 @@ fn what_is_due_completes_in_the_order_of_beginning(rt: HostRuntime) {
                 Step::Pass(0, 1),
                 Step::First(0, Some(5)),
             ],
-            // a dropped link waits no more
+            // a dropped link has no deferred request any more
             &[
                 Step::Add(1, 3, 4096),
                 Step::Add(0, 3, 4096),
@@ -90,7 +90,7 @@ fn what_is_due_completes_in_the_order_of_beginning(rt: HostRuntime) {
                 Step::Next(3, Some(0)),
                 Step::Next(3, None),
             ],
-            // a record far ahead waits on
+            // a record far ahead stays deferred
             &[
                 Step::Add(31, 7, (1 << 31) + 1),
                 Step::Pass(7, 1 << 31),

@@ -1,9 +1,9 @@
 use Rattle.std.proofs.Common.{rules, arith, ◌≡◌, ◌≤◌, ◌+◌, ◌∙◌, true, false, refl, sym, subst}
 use Rattle.std.specs.Prelude.{Err}
-use Rattle.af_tool.specs.Ends.{client_of}
+use Rattle.af_toolkit.specs.Ends.{client_of}
 use Rattle.af_answer.specs.declared.tally.Tally.{Tally}
 use Rattle.af_answer.specs.Children.{is_starved}
-use Rattle.af_answer.proofs.AttendLemmas.{attend_begin, attend_done, attend_on, attend_stops, call_starved, call_stopped}
+use Rattle.af_answer.proofs.CallLemmas.{attend_begin, attend_done, attend_on, attend_stops, call_starved, call_stopped}
 use Rattle.af_answer.proofs.attend.take_calls.Goals as goal
 
 pub loop-left-init : goal.loop-left-init
@@ -25,24 +25,24 @@ returns-in_err-await_call-clause-goes g c input told =
     let f = c.loop-left.invariant.going input told in
     let acts = g.S.Spawner.acts c.loop-left.spawner in
     let same : c.from_residual.result ≡ Err c.in_err-await_call.field-0.0 = search rules in
-    rw same (attend_stops _ _ _ _ _ _ acts f (omega arith) _ (c.in_err-await_call.ensures.goes acts f.input f.is_told))
+    rw same (attend_stops _ _ _ f (omega arith) (c.in_err-await_call.ensures.goes acts f.input f.is_told))
 
 pub returns-in_err-end-clause-goes : goal.returns-in_err-end-clause-goes
 returns-in_err-end-clause-goes g c input told =
     let f = c.loop-left.invariant.going input told in
     let acts = g.S.Spawner.acts c.loop-left.spawner in
     let same : c.from_residual-in_err-end.result ≡ Err c.in_err-end.field-0.0 = search rules in
-    rw same (call_stopped _ _ _ _ _ _ acts f (omega arith) (c.in_ok-await_call.ensures.goes acts f.input f.is_told) _ _ _ _ _ (λ i t. c.in_err-end.ensures.goes i t))
+    rw same (call_stopped _ _ _ f (omega arith) (c.in_ok-await_call.ensures.goes acts f.input f.is_told) (λ i t. c.in_err-end.ensures.goes i t))
 
 pub returns-then-is_starved-clause-goes : goal.returns-then-is_starved-clause-goes
 returns-then-is_starved-clause-goes g c input told =
     let f = c.loop-left.invariant.going input told in
     let acts = g.S.Spawner.acts c.loop-left.spawner in
     let starved : is_starved c.in_ok-end.end ≡ true = search rules in
-    call_starved _ _ _ _ _ _ acts f (omega arith) (c.in_ok-await_call.ensures.goes acts f.input f.is_told) _ _ _ _ _ starved (λ i t. c.in_ok-end.ensures.goes i t)
+    call_starved _ _ _ f (omega arith) (c.in_ok-await_call.ensures.goes acts f.input f.is_told) _ starved (λ i t. c.in_ok-end.ensures.goes i t)
 
 pub returns-clause-goes : goal.returns-clause-goes
-returns-clause-goes g c input told = attend_done _ (c.loop-left.invariant.going input told) (omega arith)
+returns-clause-goes g c input told = attend_done _ _ _ (c.loop-left.invariant.going input told) (omega arith)
 
 pub loop-left-preserved : goal.loop-left-preserved
 loop-left-preserved g c =
@@ -61,5 +61,5 @@ loop-left-preserved g c =
       going = λ input told.
           let f = i.going input told in
           let acts = g.S.Spawner.acts c.loop-left.spawner in
-          attend_on _ _ _ _ _ _ acts f (omega arith) (rung.goes acts f.input f.is_told) _ _ _ _ c.in_ok-end.end _ _ fed c.count.ensures.tally refl (λ i t. taken.goes i t);
+          attend_on _ _ _ f (omega arith) (rung.goes acts f.input f.is_told) c.in_ok-end.end _ _ fed c.count.ensures.tally refl (λ i t. taken.goes i t);
     }

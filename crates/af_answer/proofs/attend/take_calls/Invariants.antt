@@ -1,6 +1,6 @@
 use Rattle.std.proofs.Common.{◌≡◌, ◌≤◌, ◌+◌, ℕ, List, IsSome}
 use Rattle.std.specs.declared.option.Option.TheVariants.{None, Some}
-use Rattle.af_tool.specs.Ends.{client_of}
+use Rattle.af_toolkit.specs.Ends.{client_of}
 use Rattle.af_answer.specs.Acts.{no_calls}
 use Rattle.af_answer.specs.AnswerTrace.{attends}
 use Rattle.af_answer.proofs.AnswerPartLemmas.{SoFar}

@@ -1,10 +1,10 @@
 use Rattle.std.proofs.Common.{rules, arith, ◌≡◌, ◌∙◌, refl}
-use Rattle.std.specs.Prelude.{Ok, Err}
+use Rattle.std.specs.Prelude.{Err}
 use Rattle.af_answer.specs.AnswerTrace.{connection_end}
-use Rattle.af_tool.specs.Ends.{client_of}
+use Rattle.af_toolkit.specs.Ends.{client_of}
 use Rattle.af_answer.proofs.AnswerPartLemmas.{far_begin}
 use Rattle.af_answer.proofs.AnswerStepLemmas.{awaited_goes, event_stays}
-use Rattle.af_answer.proofs.RingLemmas.{wait_done, wait_floods, wait_on, wait_stops}
+use Rattle.af_answer.proofs.CallLemmas.{wait_done, wait_floods, wait_on, wait_stops}
 use Rattle.af_answer.proofs.rings.await_call.Goals as goal
 
 pub loop-allowed-init : goal.loop-allowed-init
@@ -14,31 +14,31 @@ loop-allowed-init g c = record {
   tells = λ told. told;
   count = omega arith;
   few = omega arith;
-  waiting = λ acts input told. far_begin _ _ input _ (client_of c.args.conn.now) _ acts told (λ runs next. refl);
+  waiting = λ acts input told. far_begin input (client_of c.args.conn.now) told (λ runs next. refl);
 }
 
 pub returns-in_err-event-clause-goes : goal.returns-in_err-event-clause-goes
 returns-in_err-event-clause-goes g c acts input told =
     let f = c.loop-allowed.invariant.waiting acts input told in
     let same : c.from_residual.result ≡ Err (connection_end c.in_err-event.field-0.0) = search rules in
-    rw same (wait_stops _ _ _ _ _ _ acts f _ (omega arith)
-    (awaited_goes g.L.Link.left g.L.Link.sent g.L.Link.faults c.loop-allowed.conn c.wait_event.new.self f.input acts (Err c.in_err-event.field-0.0) c.in_err-event.ensures c.loop-allowed.invariant.usable f.is_told))
+    rw same (wait_stops _ _ _ f (omega arith)
+    (awaited_goes f.input acts c.in_err-event.ensures c.loop-allowed.invariant.usable f.is_told))
 
 pub returns-then-rings-job-clause-goes : goal.returns-then-rings-job-clause-goes
 returns-then-rings-job-clause-goes g c acts input told =
     let f = c.loop-allowed.invariant.waiting acts input told in
-    wait_done _ _ _ _ _ _ acts f c.in_ok-event.event _ (omega arith) c.rings_after-rings.ensures.rings c.if-rings-job.true
-    (awaited_goes g.L.Link.left g.L.Link.sent g.L.Link.faults c.loop-allowed.conn c.wait_event.new.self f.input acts (Ok c.in_ok-event.event) c.in_ok-event.ensures c.loop-allowed.invariant.usable f.is_told)
+    wait_done _ _ _ f (omega arith) c.rings_after-rings.ensures.rings
+    (awaited_goes f.input acts c.in_ok-event.ensures c.loop-allowed.invariant.usable f.is_told) c.if-rings-job.true
 
 pub returns-clause-goes : goal.returns-clause-goes
 returns-clause-goes g c acts input told =
-    wait_floods _ _ acts (c.loop-allowed.invariant.waiting acts input told) (omega arith)
+    wait_floods _ _ _ (c.loop-allowed.invariant.waiting acts input told) (omega arith)
 
 pub loop-allowed-preserved : goal.loop-allowed-preserved
 loop-allowed-preserved g c =
     let i = c.loop-allowed.invariant in
     let e = c.in_ok-event.ensures in
-    let stays = event_stays g.L.Link.left g.L.Link.sent g.L.Link.faults c.loop-allowed.conn c.wait_event.new.self c.in_ok-event.event e i.usable in
+    let stays = event_stays e i.usable in
     record {
       usable = stays.0;
       devices = stays.1 ∙ i.devices;
@@ -47,6 +47,6 @@ loop-allowed-preserved g c =
       few = omega (arith, c.rings_after-rings.ensures.few, i.few);
       waiting = λ acts input told.
           let f = i.waiting acts input told in
-          wait_on _ _ _ _ _ _ acts f c.in_ok-event.event _ _ (omega arith) c.rings_after-rings.ensures.rings c.if-rings-job.false refl
-          (awaited_goes g.L.Link.left g.L.Link.sent g.L.Link.faults c.loop-allowed.conn c.wait_event.new.self f.input acts (Ok c.in_ok-event.event) e i.usable f.is_told);
+          wait_on _ _ _ f (omega arith) c.rings_after-rings.ensures.rings
+          (awaited_goes f.input acts e i.usable f.is_told) _ c.if-rings-job.false refl;
     }

@@ -2,7 +2,7 @@ use Rattle.std.proofs.Common.{◌≡◌, ◌≤◌, ◌<◌, ◌^◌, ◌+◌, �
 use Rattle.std.specs.declared.option.Option.{Option}
 use Rattle.std.specs.declared.option.Option.TheVariants.{None, Some}
 use Rattle.af_process.specs.Acts.{Told}
-use Rattle.af_tool.specs.Ends.{client_of}
+use Rattle.af_toolkit.specs.Ends.{client_of}
 use Rattle.af_answer.specs.AnswerTrace.{awaits_call, most_for_a_call}
 use Rattle.af_answer.proofs.AnswerPartLemmas.{SoFar}
 use Rattle.af_answer.proofs.rings.await_call.Given as goal

@@ -8,7 +8,7 @@ pub returns-in-Ok-clause-ran : goal.returns-in-Ok-clause-ran
 returns-in-Ok-clause-ran g c input told =
     let e = c.in-Ok.ensures in
     let same : c.into_link.result ≡ c.answer-end.new.conn.link = c.into_link.ensures in
-    rw same (inr (set_up_ran g.L.Link.left g.L.Link.sent g.L.Link.faults c.args.job.now input c.args.far c.in-Ok.conn c.answer-end.result _ _ _ _ _ e.0 e.1 e.3 told (λ i t. c.answer-end.ensures.ran i t)))
+    rw same (inr (set_up_ran c.args.job.now c.in-Ok.conn e.0 e.1 e.3 told (λ i t. c.answer-end.ensures.ran i t)))
 
 pub returns-in-Err-clause-ran : goal.returns-in-Err-clause-ran
 returns-in-Err-clause-ran g c input told =
@@ -18,5 +18,5 @@ returns-in-Err-clause-ran g c input told =
           inl (record { memory = way; sends = ap g.L.Link.sent none.1; children = refl; sink = refl })
       | inr setup ↦
           let way : c.from.result ≡ connection_end c.in-Err.fault = c.from.ensures in
-          rw way (inr (not_set_up_ran g.L.Link.left g.L.Link.sent g.L.Link.faults c.args.job.now input c.args.far c.in-Err.far setup.0 c.in-Err.fault _ _ setup.1 told))
+          rw way (inr (not_set_up_ran c.args.job.now setup.1 told))
     ]

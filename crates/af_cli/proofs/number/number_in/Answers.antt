@@ -7,7 +7,7 @@ use Rattle.std.specs.Str.Parse.{digits_value, digits_value_after}
 use Rattle.af_cli.specs.Numbers.{number_in}
 use Rattle.af_cli.proofs.number.number_in.Goals as goal
 
--- more digits make no smaller number
+-- more digits never make a smaller number
 after_grows : (n : ℕ) (digits : List ℕ) → n ≤ digits_value_after 10 n digits
 after_grows n [] = omega arith
 after_grows n (c ∷ digits) = let more = after_grows (n * 10 + digit_value c) digits in omega arith

@@ -6,15 +6,15 @@ use Rattle.af_state.specs.Deferrals.{has_waiting, OnlyQueues}
 use Rattle.af_state.specs.SharedState.{StandsForSharedState}
 use Rattle.af_core.proofs.advance.advance.Given as goal
 
-abbrev pub invariant-loop-environment : goal.invariant-loop-environment
-invariant-loop-environment l = record {
+abbrev pub invariant-loop-shared : goal.invariant-loop-shared
+invariant-loop-shared l = record {
   number : l.number < most_links;
   answered : (l.link ≡ l.initial.link) ⊎ (length l.link.rest < length l.initial.link.rest);
-  room : IsTrue (has_waiting l.environment.waits l.number) → length l.link.pending ≤ event_limit;
-  only_queues : OnlyQueues l.number l.initial.environment.waits l.environment.waits;
-  step : (a : EnvironmentState) → StandsForSharedState l.initial.environment a →
-      (now : EnvironmentState) × StandsForSharedState l.environment now × (advance l.number (open_link now l.link) ≡ advance l.number (open_link a l.initial.link));
+  room : IsTrue (has_waiting l.shared.waits l.number) → length l.link.pending ≤ event_limit;
+  only_queues : OnlyQueues l.number l.initial.shared.waits l.shared.waits;
+  step : (a : EnvironmentState) → StandsForSharedState l.initial.shared a →
+      (now : EnvironmentState) × StandsForSharedState l.shared now × (advance l.number (open_link now l.link) ≡ advance l.number (open_link a l.initial.link));
 }
 
-abbrev pub decreases-loop-environment : goal.decreases-loop-environment
-decreases-loop-environment l = length l.link.rest
+abbrev pub decreases-loop-shared : goal.decreases-loop-shared
+decreases-loop-shared l = length l.link.rest

@@ -6,7 +6,7 @@ use Rattle.af_core.proofs.events.tell.Given as goal
 
 abbrev pub invariant-loop-number : goal.invariant-loop-number
 invariant-loop-number l = record {
-  kept : AreOrderly l.environment.waits l.slots;
-  devices : l.environment.devices ≡ l.initial.environment.devices;
-  step : (s : State) → StandsFor (kept_of l.initial.environment l.initial.slots) s → TellsOn (kept_of l.environment l.slots) l.event (length l.initial.slots - l.number) l.number s;
+  kept : AreOrderly l.shared.waits l.slots;
+  devices : l.shared.devices ≡ l.initial.shared.devices;
+  step : (s : State) → StandsFor (kept_of l.initial.shared l.initial.slots) s → TellsOn (kept_of l.shared l.slots) l.event (length l.initial.slots - l.number) l.number s;
 }

@@ -11,7 +11,7 @@ pub give_wanted-requires-clause-wanted : goal.give_wanted-requires-clause-wanted
 give_wanted-requires-clause-wanted g c = λ y is.
     let d = c.args.number in
     let x = c.index.result.now in
-    let here = device_kept d x c.environment.view_is c.requires.there c.index.ensures in
+    let here = device_kept d x c.shared.view_is c.requires.there c.index.ensures in
     let same : x ≡ y = let both : Some x ≡ Some y = sym here ∙ is in cc in
     ap (λ (k : KeptDevice). option_and_then hook_due k.line) (sym same) ∙ sym c.hook_wanted.ensures ∙ c.in-Some.is
 
@@ -19,5 +19,5 @@ pub returns-in_default-clause-simulates : goal.returns-in_default-clause-simulat
 returns-in_default-clause-simulates g c =
     let d = c.args.number in
     let x = c.index.result.now in
-    let here = device_kept d x c.environment.view_is c.requires.there c.index.ensures in
-    hooks_nothing _ (kept_of c.args.environment.now c.args.slots.now) d x here (sym c.hook_wanted.ensures ∙ c.in_default.is)
+    let here = device_kept d x c.shared.view_is c.requires.there c.index.ensures in
+    hooks_nothing _ (kept_of c.args.shared.now c.args.slots.now) d x here (sym c.hook_wanted.ensures ∙ c.in_default.is)

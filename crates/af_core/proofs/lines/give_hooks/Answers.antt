@@ -14,7 +14,7 @@ loop-number-init g c = record {
 
 pub loop-number-preserved : goal.loop-number-preserved
 loop-number-preserved g c =
-    let size = ap (λ (e : KeptSharedState). length e.devices) c.environment.view_is in record {
+    let size = ap (λ (e : KeptSharedState). length e.devices) c.shared.view_is in record {
       kept = c.give_hook.ensures.kept;
       count = c.give_hook.ensures.count ∙ c.loop-number.invariant.count;
       same = search rules;
@@ -23,4 +23,4 @@ loop-number-preserved g c =
     }
 
 pub returns-clause-simulates : goal.returns-clause-simulates
-returns-clause-simulates g c = let size = ap (λ (e : KeptSharedState). length e.devices) c.environment.view_is in all_hooked _ _ (length c.args.environment.now.devices - c.loop-number.number) c.loop-number.number _ _ (omega (arith, size)) c.loop-number.invariant.simulates
+returns-clause-simulates g c = let size = ap (λ (e : KeptSharedState). length e.devices) c.shared.view_is in all_hooked _ _ (length c.args.shared.now.devices - c.loop-number.number) c.loop-number.number _ _ (omega (arith, size)) c.loop-number.invariant.simulates

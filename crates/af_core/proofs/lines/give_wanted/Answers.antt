@@ -1,7 +1,7 @@
 use Rattle.std.proofs.Common.{◌∙◌, ap, cond, true, false, length, length-set, option_map, slice_set, sym, subst}
 use Rattle.af_wire.specs.declared.event.EventKind.TheVariants as kind
-use Rattle.af_phone.specs.Lines.{hooked}
-use Rattle.af_model.specs.Events.{hook_given, hook_refused, line_becomes}
+use Rattle.af_phone.specs.Lines.{line_after_hook}
+use Rattle.af_model.specs.Events.{after_hook, after_hook_failure, line_becomes}
 use Rattle.af_state.specs.SharedState.{KeptSharedState}
 use Rattle.af_core.specs.Stands.{AreOrderly, Kept, StandsFor, kept_of}
 use Rattle.af_core.proofs.SharedStateLemmas.{device_inside, device_kept}
@@ -13,14 +13,14 @@ pub returns-then-done-clause-simulates : goal.returns-then-done-clause-simulates
 returns-then-done-clause-simulates g c =
     let d = c.args.number in
     let x = c.index.result.now in
-    let here = device_kept d x c.environment.view_is c.requires.there c.index.ensures in
-    let kept : Kept = kept_of c.args.environment.now c.args.slots.now in
-    let new : Kept = kept_of c.become_line.new.environment c.become_line.new.slots in
+    let here = device_kept d x c.shared.view_is c.requires.there c.index.ensures in
+    let kept : Kept = kept_of c.args.shared.now c.args.slots.now in
+    let new : Kept = kept_of c.become_line.new.shared c.become_line.new.slots in
     hooks_one _ _ kept new d x c.args.off c.hook-done.result c.requires.there here (c.requires.wanted x here) c.hook-done.ensures.log
     (λ s device h there.
-    let line = c.hooked-line.ensures ∙ ap (λ b. option_map (hooked b) c.line.result) c.if-done.true ∙ ap (option_map (hooked true)) (c.line.ensures ∙ line_is kept d x s device here there h) in
-    subst (λ b. StandsFor new (cond b (hook_given c.args.off d device s) (hook_refused d s))) (sym c.if-done.true)
-    (subst (λ value. StandsFor new (line_becomes (hooked true) kind.Hook value d device s)) c.flag_value.ensures (c.become_line.ensures.step s device h there (hooked true) line)))
+    let line = c.hooked-line.ensures ∙ ap (λ b. option_map (line_after_hook b) c.line.result) c.if-done.true ∙ ap (option_map (line_after_hook true)) (c.line.ensures ∙ line_is kept d x s device here there h) in
+    subst (λ b. StandsFor new (cond b (after_hook c.args.off d device s) (after_hook_failure d s))) (sym c.if-done.true)
+    (subst (λ value. StandsFor new (line_becomes (line_after_hook true) kind.Hook value d device s)) c.flag_value.ensures (c.become_line.ensures.step s device h there (line_after_hook true) line)))
 
 pub returns-then-done-clause-kept : goal.returns-then-done-clause-kept
 returns-then-done-clause-kept g c = simulates_keep _ _ (returns-then-done-clause-simulates g c) c.requires.kept c.become_line.ensures.kept
@@ -29,21 +29,21 @@ pub returns-else-done-clause-simulates : goal.returns-else-done-clause-simulates
 returns-else-done-clause-simulates g c =
     let d = c.args.number in
     let x = c.index.result.now in
-    let here = device_kept d x c.environment.view_is c.requires.there c.index.ensures in
-    let kept : Kept = kept_of c.args.environment.now c.args.slots.now in
-    let ds = c.environment.inside.devices.items in
+    let here = device_kept d x c.shared.view_is c.requires.there c.index.ensures in
+    let kept : Kept = kept_of c.args.shared.now c.args.slots.now in
+    let ds = c.shared.inside.devices.items in
     let z = c.index_mut.result.now in
-    let there_z = device_inside d z c.environment.view_is c.requires.there c.index_mut.ensures.value in
-    let inside : Kept = kept_of (record { devices = ds; waits = c.environment.inside.waits }) c.args.slots.now in
+    let there_z = device_inside d z c.shared.view_is c.requires.there c.index_mut.ensures.value in
+    let inside : Kept = kept_of (record { devices = ds; waits = c.shared.inside.waits }) c.args.slots.now in
     hooks_one _ _ kept (record inside { devices = slice_set ds d c.set_line.new.self }) d x c.args.off c.hook-done.result c.requires.there here (c.requires.wanted x here) c.hook-done.ensures.log
     (λ s device h there.
-    let line = c.hooked-line.ensures ∙ ap (λ b. option_map (hooked b) c.line.result) c.if-done.false ∙ ap (option_map (hooked false)) (c.line.ensures ∙ line_is kept d x s device here there h) in
-    subst (λ b. StandsFor (record inside { devices = slice_set ds d c.set_line.new.self }) (cond b (hook_given c.args.off d device s) (hook_refused d s))) (sym c.if-done.false)
-    (lines_set inside d z _ _ (hooked false) s device there_z c.set_line.ensures there line (subst (λ (e : KeptSharedState). StandsFor (kept_of e c.args.slots.now) s) (sym c.environment.view_is) h)))
+    let line = c.hooked-line.ensures ∙ ap (λ b. option_map (line_after_hook b) c.line.result) c.if-done.false ∙ ap (option_map (line_after_hook false)) (c.line.ensures ∙ line_is kept d x s device here there h) in
+    subst (λ b. StandsFor (record inside { devices = slice_set ds d c.set_line.new.self }) (cond b (after_hook c.args.off d device s) (after_hook_failure d s))) (sym c.if-done.false)
+    (lines_set inside d z _ _ (line_after_hook false) s device there_z c.set_line.ensures there line (subst (λ (e : KeptSharedState). StandsFor (kept_of e c.args.slots.now) s) (sym c.shared.view_is) h)))
 
 pub returns-else-done-clause-kept : goal.returns-else-done-clause-kept
 returns-else-done-clause-kept g c =
-    simulates_keep _ _ (returns-else-done-clause-simulates g c) c.requires.kept (subst (λ (e : KeptSharedState). AreOrderly e.waits c.args.slots.now) (sym c.environment.view_is) c.requires.kept.orderly)
+    simulates_keep _ _ (returns-else-done-clause-simulates g c) c.requires.kept (subst (λ (e : KeptSharedState). AreOrderly e.waits c.args.slots.now) (sym c.shared.view_is) c.requires.kept.orderly)
 
 pub returns-else-done-clause-count : goal.returns-else-done-clause-count
-returns-else-done-clause-count g c = length-set c.environment.inside.devices.items c.args.number c.set_line.new.self ∙ ap (λ (e : KeptSharedState). length e.devices) c.environment.view_is
+returns-else-done-clause-count g c = length-set c.shared.inside.devices.items c.args.number c.set_line.new.self ∙ ap (λ (e : KeptSharedState). length e.devices) c.shared.view_is

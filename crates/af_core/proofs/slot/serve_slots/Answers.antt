@@ -28,12 +28,12 @@ loop-number-preserved g c =
       leads = g.met.W.World.leads_on _ _ _ c.loop-number.invariant.leads c.serve.ensures.leads;
       kept = record {
         links = length-set c.loop-number.slots k c.serve.new.self ∙ kept.links;
-        settled = settled_set c.loop-number.environment.waits _ c.loop-number.slots k _ kept.settled c.serve.ensures.leaves_others.others c.serve.ensures.settled;
+        settled = settled_set c.loop-number.shared.waits _ c.loop-number.slots k _ kept.settled c.serve.ensures.leaves_others.others c.serve.ensures.settled;
         later = c.serve.ensures.leaves_others.later kept.later;
       };
       from = omega (arith, from);
       none_open = none_open_set _ k c.loop-number.slots _ (omega (arith, within)) c.loop-number.invariant.none_open;
-      wants = within_set _ _ k c.loop-number.environment.waits _ c.loop-number.slots _ from (omega arith) c.serve.ensures.leaves_others.others c.loop-number.invariant.wants;
+      wants = within_set _ _ k c.loop-number.shared.waits _ c.loop-number.slots _ from (omega arith) c.serve.ensures.leaves_others.others c.loop-number.invariant.wants;
       simulates = next_served _ _ _ _ _ k _ _ _ _ _ _ (omega arith) (link_here c.loop-number.slots k _ (omega arith)) c.loop-number.invariant.simulates c.serve.ensures.simulates;
     }
 
@@ -45,4 +45,4 @@ pub returns-clause-kept : goal.returns-clause-kept
 returns-clause-kept g c = simulates_keep _ _ (returns-clause-simulates g c) c.requires.kept c.loop-number.invariant.kept
 
 pub serve-requires-clause-settled : goal.serve-requires-clause-settled
-serve-requires-clause-settled g c = settled_here c.loop-number.environment.waits c.loop-number.slots c.loop-number.number c.loop-number.number _ _ c.loop-number.invariant.kept.settled refl refl (omega arith)
+serve-requires-clause-settled g c = settled_here c.loop-number.shared.waits c.loop-number.slots c.loop-number.number c.loop-number.number _ _ c.loop-number.invariant.kept.settled refl refl (omega arith)

@@ -6,10 +6,10 @@ use Rattle.af_core.proofs.slot.serve_slots.Given as goal
 
 abbrev pub invariant-loop-number : goal.invariant-loop-number
 invariant-loop-number g l = record {
-  kept : AreOrderly l.environment.waits l.slots;
+  kept : AreOrderly l.shared.waits l.slots;
   none_open : NoneOpenFrom l.bounds.open_below l.slots;
   from : l.bounds.wants_from ≤ l.number;
-  wants : WantsWithin l.bounds.wants_from l.bounds.wants_below l.environment.waits l.slots;
+  wants : WantsWithin l.bounds.wants_from l.bounds.wants_below l.shared.waits l.slots;
   leads : g.W.World.leads_to l.initial.world l.world;
-  simulates : Simulates (g.W.World.log l.initial.world) (g.W.World.log l.world) (StandsFor (kept_of l.initial.environment l.initial.slots)) (StandsFor (kept_of l.environment l.slots)) (serve_from (length l.initial.slots) 0) (serve_from (length l.initial.slots - l.number) l.number);
+  simulates : Simulates (g.W.World.log l.initial.world) (g.W.World.log l.world) (StandsFor (kept_of l.initial.shared l.initial.slots)) (StandsFor (kept_of l.shared l.slots)) (serve_from (length l.initial.slots) 0) (serve_from (length l.initial.slots - l.number) l.number);
 }

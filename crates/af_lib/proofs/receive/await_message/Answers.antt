@@ -19,7 +19,7 @@ sound taken taken' P is f = subst P is (f (λ e. cc))
 retag : {f f' : ConnFault} → (let r : Result Taken ConnFault = Err f in r ≡ Err f') → (let r : Result ℕ ConnFault = Err f in r ≡ Err f')
 retag e = cc
 
--- a fault of one message is one of a connection that can still be used
+-- a fault of one message is one after which the connection can still be used
 still_fresh : (f : ConnFault) → (let r : Result Taken ConnFault = Err f in IsOfMessage r) → (let r : Result ℕ ConnFault = Err f in IsFresh r)
 still_fresh fault.LinkFault is = tt
 still_fresh fault.LinkEnded is = tt
@@ -70,7 +70,7 @@ pub returns-clause-awaits : goal.returns-clause-awaits
 returns-clause-awaits g c _ =
     await_flood c.args.order (g.L.Link.left c.args.link.now) (g.L.Link.left c.loop-allowed.link) most_events c.loop-allowed.allowed c.args.ring.now c.loop-allowed.ring c.loop-allowed.invariant.0 (omega arith)
 
--- the same fault of a call with another answer, the other way
+-- the same fault of a call with another answer, in reverse
 untag : {f f' : ConnFault} → (let r : Result ℕ ConnFault = Err f in r ≡ Err f') → (let r : Result Taken ConnFault = Err f in r ≡ Err f')
 untag e = cc
 

@@ -5,7 +5,7 @@ use Rattle.af_perform.proofs.play.convert_play.Goals as goal
 
 pub read_sound-requires-clause-whole : goal.read_sound-requires-clause-whole
 read_sound-requires-clause-whole c =
-    let here = kept_there c.args.environment.now.devices c.args.asked.now.context.device c.requires.there in
+    let here = kept_there c.args.shared.now.devices c.args.asked.now.context.device c.requires.there in
     (c.requires.whole here.0 here.1).samples
 
 pub accept_or_defer-requires-clause-whole : goal.accept_or_defer-requires-clause-whole

@@ -1,10 +1,10 @@
 use Rattle.std.proofs.Common.{rules, arith, ◌≡◌, ◌-◌, [], refl, ◌∙◌}
 use Rattle.std.specs.Prelude.{Err}
-use Rattle.af_tool.specs.Ends.{client_of}
+use Rattle.af_toolkit.specs.Ends.{client_of}
 use Rattle.af_relay.specs.Pass.{passes, passes_block}
 use Rattle.af_io.proofs.AppendedLemmas.{appended_none}
-use Rattle.af_relay.proofs.RelayPartLemmas.{both_stop, both_value, goes_both_same}
-use Rattle.af_relay.proofs.PassedBlockLemmas.{left_to_pass, passes_next, passes_none, reached_both, reaches_both_on}
+use Rattle.af_relay.proofs.RelayPartLemmas.{both_stop, both_value, goes_both_same, reached_both, reaches_both_on}
+use Rattle.af_relay.proofs.PassedBlockLemmas.{left_to_pass, passes_next, passes_none}
 use Rattle.af_relay.proofs.pass.pass_blocks.Goals as goal
 
 pub loop-left-init : goal.loop-left-init

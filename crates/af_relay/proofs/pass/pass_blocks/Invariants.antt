@@ -1,7 +1,8 @@
 use Rattle.std.proofs.Common.{◌≡◌, ◌≤◌, ◌+◌, ℕ, List, length, IsSome}
 use Rattle.std.specs.declared.option.Option.TheVariants.{None, Some}
-use Rattle.af_tool.specs.Ends.{client_of}
-use Rattle.af_relay.proofs.PassedBlockLemmas.{ReachesBoth, left_to_pass}
+use Rattle.af_toolkit.specs.Ends.{client_of}
+use Rattle.af_relay.proofs.PassedBlockLemmas.{left_to_pass}
+use Rattle.af_relay.proofs.RelayPartLemmas.{ReachesBoth}
 use Rattle.af_relay.proofs.pass.pass_blocks.Given as goal
 
 abbrev pub invariant-loop-left : goal.invariant-loop-left

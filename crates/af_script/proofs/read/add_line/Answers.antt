@@ -20,7 +20,7 @@ some_device : (config : List DeviceSpec) → (length config == 0) ≡ false → 
 some_device [] e = cc e
 some_device (d ∷ config) e = refl
 
--- the steps with one more, of these devices
+-- the steps with one more, for these devices
 pushed : (config : List DeviceSpec) (steps : List Step) (o : Option Step) → option_map (with_step (stated config steps)) o ≡ option_map (stated config) (option_map (λ step. steps ++ step ∷ []) o)
 pushed config steps None = refl
 pushed config steps (Some step) = refl

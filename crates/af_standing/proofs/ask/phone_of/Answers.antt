@@ -3,12 +3,12 @@ use Rattle.std.specs.Prelude.{Ok, Err}
 use Rattle.std.specs.declared.option.Option.TheVariants.{None}
 use Rattle.af_request.specs.Asked.{query_phone}
 use Rattle.af_lib.specs.Calls.{as_phone}
-use Rattle.af_tool.specs.Trace.{fault_end}
-use Rattle.af_tool.specs.Ends.{client_of}
-use Rattle.af_tool.proofs.TracePartLemmas.{asked_goes}
-use Rattle.af_standing.specs.Standing.{asks_line}
-use Rattle.af_tool.proofs.PartProgressLemmas.{goes_value}
-use Rattle.af_standing.proofs.StandingLemmas.{line_refused, line_told}
+use Rattle.af_toolkit.specs.Trace.{fault_end}
+use Rattle.af_toolkit.specs.Ends.{client_of}
+use Rattle.af_toolkit.proofs.TracePartLemmas.{asked_goes}
+use Rattle.af_standing.specs.ControlsReport.{asks_line}
+use Rattle.af_toolkit.proofs.PartProgressLemmas.{goes_value}
+use Rattle.af_standing.proofs.ControlsReportLemmas.{line_refused, line_told}
 use Rattle.af_standing.proofs.ask.phone_of.Goals as goal
 
 pub returns-in_err-query_phone-clause-goes : goal.returns-in_err-query_phone-clause-goes

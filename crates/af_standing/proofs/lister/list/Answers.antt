@@ -1,7 +1,7 @@
 use Rattle.std.proofs.Common.{refl}
-use Rattle.af_tool.specs.Trace.{done, ends}
-use Rattle.af_tool.specs.Ends.{client_of}
-use Rattle.af_tool.proofs.FollowedLemmas.{followed_done, followed_on, followed_stop}
+use Rattle.af_toolkit.specs.Trace.{done, ends}
+use Rattle.af_toolkit.specs.Ends.{client_of}
+use Rattle.af_toolkit.proofs.FollowedLemmas.{followed_done, followed_on, followed_stop}
 use Rattle.af_standing.specs.List.{list_trace, tells_all}
 use Rattle.af_standing.proofs.ListLemmas.{list_ran}
 use Rattle.af_standing.proofs.lister.list.Goals as goal

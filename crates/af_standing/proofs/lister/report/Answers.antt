@@ -1,5 +1,5 @@
 use Rattle.std.proofs.Common.{List, ℕ, subst}
-use Rattle.af_tool.specs.Ends.{Writes}
+use Rattle.af_toolkit.specs.Ends.{Writes}
 use Rattle.af_standing.proofs.lister.report.Goals as goal
 
 pub returns-clause-written : goal.returns-clause-written

@@ -1,6 +1,6 @@
 use Rattle.std.proofs.Common.{rules, arith, ◌≡◌, ◌<◌, length, refl, ap, ◌∙◌}
 use Rattle.std.specs.Prelude.{Err}
-use Rattle.af_tool.specs.Ends.{client_of}
+use Rattle.af_toolkit.specs.Ends.{client_of}
 use Rattle.af_standing.proofs.ListLemmas.{device_next, telling_begin, telling_done, telling_on, telling_stop}
 use Rattle.af_standing.proofs.lister.tell_devices.Goals as goal
 

@@ -5,8 +5,8 @@ use Rattle.std.specs.declared.option.Option.TheVariants.{Some}
 use Rattle.af_sound.specs.declared.head.Coding.{Coding}
 use Rattle.af_request.specs.Asked.{play_run}
 use Rattle.af_lib.specs.Calls.{as_time}
-use Rattle.af_tool.specs.Trace.{asks}
-use Rattle.af_tool.specs.Ends.{client_of, ObservedPart}
+use Rattle.af_toolkit.specs.Trace.{asks}
+use Rattle.af_toolkit.specs.Ends.{client_of, ObservedPart}
 use Rattle.af_tools.specs.Sounds.{as_served}
 use Rattle.af_tools.proofs.play.play_block.Goals as goal
 

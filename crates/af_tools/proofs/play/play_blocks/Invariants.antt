@@ -2,13 +2,16 @@ use Rattle.std.proofs.Common.{◌≡◌, ◌<◌, ◌≤◌, ◌⊎◌, ◌+◌,
 use Rattle.std.specs.declared.option.Option.{Option}
 use Rattle.std.specs.declared.option.Option.TheVariants.{None, Some}
 use Rattle.af_io.specs.Flow.{IsSpent}
-use Rattle.af_tool.specs.Ends.{client_of}
+use Rattle.af_toolkit.specs.Ends.{client_of}
 use Rattle.af_tools.specs.Fill.{left_before}
-use Rattle.af_tools.specs.Sounds.{stated_behind, stated_part, FitsStated}
-use Rattle.af_tools.proofs.PlayBlockLemmas.{ConsumedAll, IsPlaying}
+use Rattle.af_tools.specs.Play.{plays_sound}
+use Rattle.af_tools.specs.Sounds.{stated_behind, FitsStated}
+use Rattle.af_tools.proofs.PlayBlockLemmas.{ConsumedAll}
+use Rattle.af_tools.proofs.PlayStepLemmas.{IsFilled}
+use Rattle.af_tools.proofs.SourceFrameLemmas.{BlockFits}
 use Rattle.af_tools.proofs.play.play_blocks.Given as goal
 
--- A block was read, and those before it were played: the source is taken as it was before the block.
+-- A block was read, and those before it were played.
 abbrev pub invariant-loop-block : goal.invariant-loop-block
 invariant-loop-block g l = record {
   usable : l.conn.cause ≡ None;
@@ -25,10 +28,11 @@ invariant-loop-block g l = record {
   few : l.frames ≤ l.given;
   fits : FitsStated l.sound.length l.given;
   rest : l.left ≡ stated_behind l.sound.length l.given;
-  given : ConsumedAll l.given (left_before (take l.first l.fn.room) (g.S.Source.left l.initial.source)) (left_before (take l.filled l.block) (g.S.Source.left l.source));
+  given : ConsumedAll (l.given + l.filled) (left_before (take l.first l.fn.room) (g.S.Source.left l.initial.source)) (g.S.Source.left l.source);
+  block_fits : BlockFits l.filled l.size l.width (l.sound.head + l.given);
   playing : (input bytes : List ℕ) (held : Option (List ℕ)) → g.L.Link.left l.initial.conn.link ≡ Some input → g.S.Source.left l.initial.source ≡ Some bytes → IsSome (g.S.Source.left l.source) →
-      IsPlaying l.sound.coding l.sound.head l.width l.start.0 l.size l.frames (l.sound.head + l.given) l.left (stated_part l.sound.length (take l.first l.fn.room ++ bytes)) (client_of l.initial.conn input)
-      (left_before (take l.filled l.block) (g.S.Source.left l.source)) (g.L.Link.left l.conn.link) (client_of l.conn) (g.L.Link.sent l.initial.conn.link) (g.L.Link.sent l.conn.link) held;
+      IsFilled (plays_sound l.sound l.fn.playback.block l.start.0 (take l.first l.fn.room ++ bytes) (client_of l.initial.conn input)) l.sound.coding l.width l.start.0 l.size l.frames (l.sound.head + l.given) l.filled l.left l.block
+      (g.S.Source.left l.source) (g.L.Link.left l.conn.link) (client_of l.conn) (g.L.Link.sent l.initial.conn.link) (g.L.Link.sent l.conn.link) held;
 }
 
 abbrev pub decreases-loop-block : goal.decreases-loop-block

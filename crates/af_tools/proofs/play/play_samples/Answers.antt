@@ -2,8 +2,8 @@ use Rattle.std.proofs.Common.{◌≡◌, false, rules}
 use Rattle.std.specs.Prelude.{Ok, Err}
 use Rattle.af_request.specs.Asked.{play_run}
 use Rattle.af_lib.specs.Calls.{as_time}
-use Rattle.af_tool.specs.Trace.{fault_end}
-use Rattle.af_tool.proofs.TracePartLemmas.{asked_goes}
+use Rattle.af_toolkit.specs.Trace.{fault_end}
+use Rattle.af_toolkit.proofs.TracePartLemmas.{asked_goes}
 use Rattle.af_tools.proofs.play.play_samples.Goals as goal
 
 pub returns-in_err-play_run-clause-goes : goal.returns-in_err-play_run-clause-goes

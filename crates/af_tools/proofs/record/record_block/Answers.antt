@@ -5,20 +5,20 @@ use Rattle.af_io.specs.Observed.{Appended}
 use Rattle.af_io.specs.Flow.{AppendedPrefix}
 use Rattle.af_request.specs.Asked.{record_run}
 use Rattle.af_lib.specs.Calls.{as_recorded, Recorded}
-use Rattle.af_tool.specs.declared.end.ToolEnd.TheVariants as end
-use Rattle.af_tool.specs.Trace.{ClientState, asks, fault_end, writing}
+use Rattle.af_toolkit.specs.declared.end.ToolEnd.TheVariants as end
+use Rattle.af_toolkit.specs.Trace.{ClientState, asks, fault_end, writes_first}
 use Rattle.af_tools.specs.declared.record.RecordedSound.{RecordedSound}
 use Rattle.af_tools.specs.Files.{as_filed}
 use Rattle.af_tools.specs.Record.{peak, takes_block}
-use Rattle.af_tool.specs.Ends.{ObservedPart, TracePart, client_of}
-use Rattle.af_tool.proofs.TracePartLemmas.{asked_goes, goes_on, goes_stop}
+use Rattle.af_toolkit.specs.Ends.{ObservedPart, TracePart, client_of}
+use Rattle.af_toolkit.proofs.TracePartLemmas.{asked_goes, goes_on, goes_stop}
 use Rattle.af_tools.proofs.RecordBlockLemmas.{written_coding}
-use Rattle.af_tool.proofs.WritingLemmas.{goes_unwritten, goes_written}
+use Rattle.af_toolkit.proofs.WritingLemmas.{goes_unwritten, goes_written}
 use Rattle.af_tools.proofs.record.record_block.Goals as goal
 
 -- a block is written
 abbrev writes_block : RecordedSound → (r : Recorded) → ClientState → TracePart ℕ
-writes_block sound r w = λ next. writing (as_filed sound.coding r.samples) (next (peak sound.ty r.samples) w)
+writes_block sound r w = λ next. writes_first (as_filed sound.coding r.samples) (next (peak sound.ty r.samples) w)
 
 pub returns-in_err-record_run-clause-goes : goal.returns-in_err-record_run-clause-goes
 returns-in_err-record_run-clause-goes g c input told =

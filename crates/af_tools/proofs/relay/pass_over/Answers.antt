@@ -1,12 +1,12 @@
 use Rattle.std.proofs.Common.{◌≡◌, false, true, ap, sym, ◌∙◌, subst, inl, inr}
-use Rattle.af_tool.specs.declared.end.ToolEnd.TheVariants as end
-use Rattle.af_tool.specs.Trace.{ClientState, fault_end}
-use Rattle.af_tool.specs.Ends.{client_of}
+use Rattle.af_toolkit.specs.declared.end.ToolEnd.TheVariants as end
+use Rattle.af_toolkit.specs.Trace.{ClientState, fault_end}
+use Rattle.af_toolkit.specs.Ends.{client_of}
 use Rattle.af_relay.specs.RelayParts.{ObservedRelayTrace}
 use Rattle.af_relay.specs.Pair.{is_of_pass}
-use Rattle.af_relay.specs.Pass.{apass_trace, sending_to}
-use Rattle.af_tools.specs.Dialled.{connects_by}
-use Rattle.af_tool.proofs.TracePartLemmas.{client_begun}
+use Rattle.af_relay.specs.Pass.{apass_trace, sends_first_to}
+use Rattle.af_tools.specs.Run.{connects_by}
+use Rattle.af_toolkit.proofs.TracePartLemmas.{client_begun}
 use Rattle.af_tools.proofs.DialLemmas.{over_answered, over_none, over_refused, setup_memory}
 use Rattle.af_tools.proofs.relay.pass_over.Goals as goal
 
@@ -27,7 +27,7 @@ returns-in-Err-clause-followed g c v w told_from told_to =
     elim (c.in-Err.ensures) [
       | inl none ↦
           let way : c.from.result ≡ end.OutOfMemory = c.from.ensures ∙ ap fault_end none.0 in
-          rw (way, none.1) (over_none (connects_by c.args.order sending_to w (λ devices u. apass_trace c.args.job.now c.args.conn.now.devices devices (client_of c.args.conn.now v) u)) _ _ _)
+          rw (way, none.1) (over_none (connects_by c.args.order sends_first_to w (λ devices u. apass_trace c.args.job.now c.args.conn.now.devices devices (client_of c.args.conn.now v) u)) _ _ _)
       | inr setup ↦
           let way : c.from.result ≡ fault_end c.in-Err.fault = c.from.ensures in
           rw way (over_refused c.args.order g.M.Link.left g.M.Link.sent g.M.Link.faults w (λ devices u. apass_trace c.args.job.now c.args.conn.now.devices devices (client_of c.args.conn.now v) u) c.args.far c.in-Err.far setup.0 c.in-Err.fault _ _ setup.1 told_to (setup_memory c.in-Err.fault setup.1.fresh))

@@ -3,14 +3,14 @@ use Rattle.std.specs.declared.option.Option.{Option}
 use Rattle.clap.specs.Words.{Text}
 use Rattle.af_io.specs.Observed.{Appended}
 use Rattle.af_io.specs.Dial.{AppendedBack, IsFirstOf, ToldLink}
-use Rattle.af_tool.specs.declared.end.ToolEnd.TheVariants as end
-use Rattle.af_tool.specs.Trace.{ClientState, fault_end}
+use Rattle.af_toolkit.specs.declared.end.ToolEnd.TheVariants as end
+use Rattle.af_toolkit.specs.Trace.{ClientState, fault_end}
 use Rattle.af_tools.specs.Run.{RelayRanTo}
 use Rattle.af_cli.specs.Words.{relay}
 use Rattle.af_io.proofs.AppendedLemmas.{appended_on}
-use Rattle.af_tool.proofs.ToolEndLemmas.{fault_undone}
-use Rattle.af_tool.proofs.TracePartLemmas.{client_begun}
-use Rattle.af_tools.proofs.DialLemmas.{ran_none, ran_over_links, ran_refused_links, ran_unset_links}
+use Rattle.af_toolkit.proofs.ToolEndLemmas.{fault_undone}
+use Rattle.af_toolkit.proofs.TracePartLemmas.{client_begun}
+use Rattle.af_tools.proofs.DialLemmas.{ran_none, ran_over_both, ran_refused, ran_unset}
 use Rattle.af_tools.proofs.relay.run_relay.Goals as goal
 
 pub returns-in-Ok-clause-ran : goal.returns-in-Ok-clause-ran
@@ -19,8 +19,9 @@ returns-in-Ok-clause-ran g c links bytes told =
     let s = c.in-Ok.ensures in
     let conn = c.in-Ok.conn in
     let gives = subst (λ (l : Option (List ToldLink)). IsFirstOf g.D.Far.Link.left g.D.Far.Link.sent c.in-Far.far l (g.D.Dial.links c.dial.new.self)) told e.gives in
-    ran_over_links c.args.call.now.order g.D.Far.Link.left g.D.Far.Link.sent g.D.Far.Link.faults c.in-Far.far conn.link conn.ring conn.devices c.args.call.now.from.now c.args.call.now.to.now c.args.call.now.job bytes c.run_to.result links _ _ _ _ _ _ _ gives s.3 e.back
-    (λ rest a l t. subst (λ (w : ClientState). RelayRanTo c.args.call.now.order c.args.call.now.job conn.devices w c.run_to.result rest (g.D.Dial.links c.run_to.new.dial) (g.D.Far.Link.sent conn.link) (g.K.Sink.held c.args.sink.now) (g.K.Sink.held c.run_to.new.sink) (g.D.Dial.back c.dial.new.self) (g.D.Dial.back c.run_to.new.dial)) (client_begun c.args.call.now.order conn a s.0 s.1)
+    let call = c.args.call.now in
+    ran_over_both call.order call.from.now call.to.now call.job bytes g.D.Far.Link.left g.D.Far.Link.sent g.D.Far.Link.faults c.in-Far.far conn.link conn.ring conn.devices c.run_to.result links gives s.3 e.back
+    (λ rest a l t. subst (λ (w : ClientState). RelayRanTo call.order call.job conn.devices w c.run_to.result rest (g.D.Dial.links c.run_to.new.dial) (g.D.Far.Link.sent conn.link) (g.K.Sink.held c.args.sink.now) (g.K.Sink.held c.run_to.new.sink) (g.D.Dial.back c.dial.new.self) (g.D.Dial.back c.run_to.new.dial)) (client_begun call.order conn a s.0 s.1)
     (c.run_to.ensures.ran a rest t l))
 
 pub returns-in-Ok-clause-asked : goal.returns-in-Ok-clause-asked
@@ -33,14 +34,15 @@ pub returns-in-Err-clause-ran : goal.returns-in-Err-clause-ran
 returns-in-Err-clause-ran g c links bytes told =
     let e = c.in-Far.ensures in
     let gives = subst (λ (l : Option (List ToldLink)). IsFirstOf g.D.Far.Link.left g.D.Far.Link.sent c.in-Far.far l (g.D.Dial.links c.dial.new.self)) told e.gives in
+    let call = c.args.call.now in
     elim (c.in-Err.ensures) [
       | inl none ↦
           let way : c.from.result ≡ end.OutOfMemory = c.from.ensures ∙ ap fault_end none.0 in
           let entry = subst (λ (x : Option (List ℕ)). AppendedBack (g.D.Dial.back c.dial.new.self) x (g.D.Dial.back c.hang_up.new.self)) (ap g.D.Far.Link.sent none.1) c.hang_up.ensures.back in
-          rw way (ran_unset_links c.args.call.now.order g.D.Far.Link.left g.D.Far.Link.sent c.in-Far.far c.args.call.now.from.now c.args.call.now.to.now c.args.call.now.job bytes links _ _ _ _ _ _ gives e.back entry c.hang_up.ensures.gives)
+          rw way (ran_unset call.order call.from.now call.to.now call.job bytes g.D.Far.Link.left g.D.Far.Link.sent c.in-Far.far links gives e.back entry c.hang_up.ensures.gives)
       | inr setup ↦
           let way : c.from.result ≡ fault_end c.in-Err.fault = c.from.ensures in
-          rw way (ran_refused_links c.args.call.now.order g.D.Far.Link.left g.D.Far.Link.sent g.D.Far.Link.faults c.in-Far.far c.in-Err.far setup.0 c.in-Err.fault c.args.call.now.from.now c.args.call.now.to.now c.args.call.now.job bytes links _ _ _ _ _ _ gives setup.1 e.back c.hang_up.ensures.back c.hang_up.ensures.gives)
+          rw way (ran_refused call.order call.from.now call.to.now call.job bytes g.D.Far.Link.left g.D.Far.Link.sent g.D.Far.Link.faults c.in-Far.far c.in-Err.far setup.0 c.in-Err.fault links gives setup.1 e.back c.hang_up.ensures.back c.hang_up.ensures.gives)
     ]
 
 pub returns-in-Err-clause-asked : goal.returns-in-Err-clause-asked

@@ -1,9 +1,9 @@
 use Rattle.std.proofs.Common.{List, ℕ, refl, ap, ◌∙◌, subst}
 use Rattle.std.specs.declared.option.Option.{Option}
 use Rattle.af_io.specs.Dial.{AppendedBack, IsFirstOf, ToldLink}
-use Rattle.af_tool.specs.declared.end.ToolEnd.TheVariants as end
-use Rattle.af_tool.specs.Ends.{client_of}
-use Rattle.af_tools.proofs.DialLemmas.{to_none, to_over_links}
+use Rattle.af_toolkit.specs.declared.end.ToolEnd.TheVariants as end
+use Rattle.af_toolkit.specs.Ends.{client_of}
+use Rattle.af_tools.proofs.DialLemmas.{to_none, to_over}
 use Rattle.af_tools.proofs.relay.run_to.Goals as goal
 
 pub returns-in-Far-clause-ran : goal.returns-in-Far-clause-ran
@@ -12,7 +12,7 @@ returns-in-Far-clause-ran g c v links told_from told =
     let conn = c.args.conn in
     let gives = subst (λ (l : Option (List ToldLink)). IsFirstOf g.D.Far.Link.left g.D.Far.Link.sent c.in-Far.far l (g.D.Dial.links c.dial.new.self)) told e.gives in
     let first = subst (λ (x : Option (List ℕ)). AppendedBack (g.D.Dial.back c.dial.new.self) x (g.D.Dial.back c.hang_up.new.self)) (ap g.D.Far.Link.sent c.into_link.ensures) c.hang_up.ensures.back in
-    to_over_links c.args.call.now.order g.D.Far.Link.left g.D.Far.Link.sent c.in-Far.far c.args.call.now.job conn.devices (client_of conn v) c.pass_over-end.result.0 links _ gives
+    to_over c.args.call.now.order c.args.call.now.job conn.devices (client_of conn v) g.D.Far.Link.left g.D.Far.Link.sent c.in-Far.far c.pass_over-end.result.0 links _ gives
     (λ input t. c.pass_over-end.ensures.followed v input told_from t) e.back first c.hang_up-in-Far.ensures.back (c.hang_up-in-Far.ensures.gives ∙ c.hang_up.ensures.gives)
 
 pub returns-in-Failed-clause-ran : goal.returns-in-Failed-clause-ran

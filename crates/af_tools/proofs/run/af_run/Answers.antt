@@ -1,10 +1,9 @@
 use Rattle.std.proofs.Common.{refl, subst, sym, ap, ◌∙◌}
 use Rattle.std.specs.declared.option.Option.{Option}
-use Rattle.af_tool.specs.declared.end.ToolEnd.TheVariants as end
+use Rattle.af_toolkit.specs.declared.end.ToolEnd.TheVariants as end
 use Rattle.af_cli.specs.Words.{Job}
 use Rattle.af_cli.specs.Call.{job_of_call}
-use Rattle.af_tools.specs.Reading.{UsesSource}
-use Rattle.af_tools.specs.Run.{JobDone, form_of, job_reads, reads_of}
+use Rattle.af_tools.specs.Run.{EndsForCause, JobDone, form_of, job_reads, reads_of}
 use Rattle.af_tools.proofs.OutcomeLemmas.{did, ranged_call}
 use Rattle.af_tools.proofs.DialLemmas.{ran_none, same_job}
 use Rattle.af_tools.proofs.run.af_run.Goals as goal
@@ -20,9 +19,9 @@ returns-in-Ok-clause-told g c j called used links bytes told tells =
     same
     (did (job_of_call c.in-Ok.call) bytes c.run_call.result links _ _ _ _ _ (c.run_call.ensures.ran links bytes told (λ reads. tells (ap job_reads (sym same) ∙ reads))) (λ way. ranged_call c.in-Ok.call c.in-Ok.ensures.call))
 
-pub returns-in-Ok-clause-source : goal.returns-in-Ok-clause-source
-returns-in-Ok-clause-source g c =
-    subst (λ (o : Option Job). UsesSource g.S.Source.left g.S.Source.faults (reads_of o) (form_of o) c.run_call.result c.args.source.now c.run_call.new.source) (sym c.in-Ok.ensures.ok) c.run_call.ensures.source
+pub returns-in-Ok-clause-causes : goal.returns-in-Ok-clause-causes
+returns-in-Ok-clause-causes g c =
+    subst (λ (o : Option Job). EndsForCause g.S.Source.left g.S.Source.faults g.K.Sink.faults g.D.Dial.faults g.D.Dial.hurt (reads_of o) (form_of o) c.run_call.result c.args.source.now c.run_call.new.source c.args.sink.now c.run_call.new.sink c.args.dial.now c.run_call.new.dial) (sym c.in-Ok.ensures.ok) c.run_call.ensures.causes
 
 pub returns-in-Ok-clause-unread : goal.returns-in-Ok-clause-unread
 returns-in-Ok-clause-unread g c j called server order t is = c.run_call.ensures.unread server order t (same_job _ _ _ c.in-Ok.ensures.ok called ∙ is)

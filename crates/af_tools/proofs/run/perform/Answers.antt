@@ -1,6 +1,6 @@
 use Rattle.std.proofs.Common.{rules, ◌≡◌, ap, true, false, refl}
-use Rattle.af_tool.specs.declared.end.ToolEnd.{ToolEnd}
-use Rattle.af_tool.specs.declared.end.ToolEnd.TheVariants as end
+use Rattle.af_toolkit.specs.declared.end.ToolEnd.{ToolEnd}
+use Rattle.af_toolkit.specs.declared.end.ToolEnd.TheVariants as end
 use Rattle.af_cli.specs.declared.job.Task.TheVariants as task
 use Rattle.af_standing.specs.List.{is_of_list}
 use Rattle.af_tools.specs.Run.{reads_source}
@@ -25,23 +25,8 @@ returns-in-Set-clause-followed g c input bytes told tells =
 
 -- an end of list is one of a tool that reads no source
 list_end : (how : ToolEnd) → is_of_list how ≡ true → is_of_tool false how ≡ true
-list_end end.Done is = is
-list_end end.Usage is = is
-list_end end.DialFault is = is
-list_end end.LinkFault is = is
-list_end end.LinkEnded is = is
 list_end (end.NoDevice devices) is = refl
-list_end (end.RateMismatch from to) is = is
-list_end (end.ChannelMismatch from to) is = is
-list_end (end.BadSound fault) is = is
-list_end end.SoundCut is = is
-list_end (end.Refused code value) is = is
-list_end (end.BadReply header first) is = is
-list_end end.EventFlood is = is
-list_end end.ReadFault is = is
-list_end end.TooLong is = is
-list_end end.SinkFault is = is
-list_end end.OutOfMemory is = is
+list_end how is = is
 
 pub returns-in-List-clause-followed : goal.returns-in-List-clause-followed
 returns-in-List-clause-followed g c input bytes told tells =

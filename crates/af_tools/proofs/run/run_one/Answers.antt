@@ -1,11 +1,9 @@
 use Rattle.std.proofs.Common.{List, inl, inr, refl, ◌∙◌, subst}
 use Rattle.std.specs.declared.option.Option.{Option}
 use Rattle.af_io.specs.Dial.{IsFirstOf, ToldLink}
-use Rattle.af_tool.specs.declared.end.ToolEnd.TheVariants as end
+use Rattle.af_toolkit.specs.declared.end.ToolEnd.TheVariants as end
 use Rattle.af_cli.specs.Words.{one}
-use Rattle.af_tools.specs.Run.{task_trace}
 use Rattle.af_tools.proofs.DialLemmas.{ran_none, ran_one}
-use Rattle.af_tools.proofs.OneServerLemmas.{ran_over}
 use Rattle.af_tools.proofs.UnreadLemmas.{dial_gives}
 use Rattle.af_tools.proofs.run.run_one.Goals as goal
 
@@ -13,9 +11,9 @@ pub returns-in-Far-clause-ran : goal.returns-in-Far-clause-ran
 returns-in-Far-clause-ran g c links bytes told tells =
     let e = c.in-Far.ensures in
     let first = subst (λ (l : Option (List ToldLink)). IsFirstOf g.D.Far.Link.left g.D.Far.Link.sent c.in-Far.far l (g.D.Dial.links c.dial.new.self)) told e.gives in
-    ran_one c.args.call.now.order c.args.call.now.server.now c.args.call.now.task bytes c.perform_over-end.result.0 links _ _ _ _ _
-    (ran_over c.args.call.now.order (λ devices w. task_trace c.args.call.now.task devices bytes w) c.perform_over-end.result.0 (g.D.Dial.links c.dial.new.self) (g.D.Dial.links c.hang_up.new.self) _ _ _ _ _ _ _
-    g.D.Far.Link.left g.D.Far.Link.sent c.in-Far.far links first refl (λ input t. c.perform_over-end.ensures.followed input bytes t tells) e.back c.hang_up.ensures.back c.hang_up.ensures.gives (λ none. (c.perform_over-end.ensures.memory none).0))
+    let call = c.args.call.now in
+    ran_one call.order call.server.now call.task bytes c.perform_over-end.result.0 g.D.Far.Link.left g.D.Far.Link.sent c.in-Far.far links first
+    (λ input t. c.perform_over-end.ensures.followed input bytes t tells) e.back c.hang_up.ensures.back c.hang_up.ensures.gives (λ none. (c.perform_over-end.ensures.memory none).0)
 
 pub returns-in-Failed-clause-ran : goal.returns-in-Failed-clause-ran
 returns-in-Failed-clause-ran g c links bytes told tells =

@@ -1,8 +1,8 @@
 use Rattle.std.proofs.Common.{rules, ◌≡◌, true, false, sym, ◌∙◌}
 use Rattle.std.specs.Prelude.{Ok, Err}
 use Rattle.af_lib.specs.Calls.{as_done}
-use Rattle.af_tool.specs.Trace.{fault_end}
-use Rattle.af_tool.proofs.TracePartLemmas.{asked_goes}
+use Rattle.af_toolkit.specs.Trace.{fault_end}
+use Rattle.af_toolkit.proofs.TracePartLemmas.{asked_goes}
 use Rattle.af_tools.specs.Set.{control_request, states_controls}
 use Rattle.af_tools.proofs.SetRequestLemmas.{goes_nowhere, goes_where}
 use Rattle.af_tools.proofs.set.set_controls.Goals as goal

@@ -4,11 +4,11 @@ use Rattle.std.specs.declared.option.Option.TheVariants.{None, Some}
 use Rattle.af_request.specs.Asked.{hook_switch}
 use Rattle.af_request.specs.Fields.{flag_byte}
 use Rattle.af_lib.specs.Calls.{as_done}
-use Rattle.af_tool.specs.Trace.{fault_end}
-use Rattle.af_tool.specs.Ends.{client_of}
-use Rattle.af_tool.proofs.TracePartLemmas.{asked_goes}
+use Rattle.af_toolkit.specs.Trace.{fault_end}
+use Rattle.af_toolkit.specs.Ends.{client_of}
+use Rattle.af_toolkit.proofs.TracePartLemmas.{asked_goes}
 use Rattle.af_tools.specs.Set.{hooks}
-use Rattle.af_tool.proofs.PartProgressLemmas.{goes_value}
+use Rattle.af_toolkit.proofs.PartProgressLemmas.{goes_value}
 use Rattle.af_tools.proofs.set.set_hook.Goals as goal
 
 pub returns-in_err-hook-clause-goes : goal.returns-in_err-hook-clause-goes

@@ -12,20 +12,20 @@ pub returns-in-Failed-clause-served : goal.returns-in-Failed-clause-served
 returns-in-Failed-clause-served g c =
     let runs = c.loop-number.invariant.runs in
     let fewer = c.loop-number-test.true in
-    λ config stands. runs_failed config _ _ _ _ _ _ _ _ _ (runs config stands) fewer c.wait.ensures.log c.in-Failed.ensures.outer
+    λ config stands. runs_failed config _ _ _ _ _ _ _ _ _ (runs config stands) fewer c.wait.ensures.log c.in-Failed.ensures.lifecycle
 
 pub returns-in-Stop-clause-served : goal.returns-in-Stop-clause-served
 returns-in-Stop-clause-served g c =
     let runs = c.loop-number.invariant.runs in
     let fewer = c.loop-number-test.true in
-    λ config stands. runs_done config _ _ _ _ _ _ _ _ _ _ _ (runs config stands) fewer c.more-more.ensures.shows c.in-Stop.is c.wait.ensures.log c.in-Woke.ensures.outer
+    λ config stands. runs_done config _ _ _ _ _ _ _ _ _ _ _ (runs config stands) fewer c.more-more.ensures.shows c.in-Stop.is c.wait.ensures.log c.in-Woke.ensures.lifecycle
 
 pub loop-number-preserved : goal.loop-number-preserved
 loop-number-preserved g c =
     let runs = c.loop-number.invariant.runs in
     let leads = c.take_turn.ensures.leads in
     record {
-      runs = λ config stands. runs_more config _ _ _ _ _ _ _ _ _ _ _ _ _ (runs config stands) c.more-more.ensures.shows c.in_default.not-Stop c.wait.ensures.log c.in-Woke.ensures.outer c.take_turn.ensures.turns (g.met.W.Live.outer_apart _ _ leads);
+      runs = λ config stands. runs_more config _ _ _ _ _ _ _ _ _ _ _ _ _ (runs config stands) c.more-more.ensures.shows c.in_default.not-Stop c.wait.ensures.log c.in-Woke.ensures.lifecycle c.take_turn.ensures.turns (g.met.W.Live.lifecycle_apart _ _ leads);
       world =
           let before = c.loop-number.invariant.world in
           let wait = c.wait.ensures in

@@ -5,7 +5,7 @@ use Rattle.afd_serve.proofs.start.attach_devices.Goals as goal
 
 pub returns-in-OutOfMemory-clause-some : goal.returns-in-OutOfMemory-clause-some
 returns-in-OutOfMemory-clause-some g c =
-    attached_in_part c.args.setting.now _ _ c.loop-number.number (appended_by_none _ _ _ _ c.loop-number.invariant.below c.in-OutOfMemory.ensures.outer)
+    attached_in_part c.args.setting.now _ _ c.loop-number.number (appended_by_none _ _ _ _ c.loop-number.invariant.below c.in-OutOfMemory.ensures.lifecycle)
 
 pub loop-number-preserved : goal.loop-number-preserved
 loop-number-preserved g c =
@@ -13,7 +13,7 @@ loop-number-preserved g c =
     let same = c.as_slice-config.ensures.value ∙ c.config.ensures.config in
     record {
       log = stays_stays _ _ _ c.loop-number.invariant.log c.attach.ensures.log;
-      below = attached_more c.args.setting.now _ _ c.loop-number.number below _ _ _ (stated_at _ _ c.loop-number.number _ same c.loop-number-test.true) c.kind.ensures c.in-Done.ensures.outer;
+      below = attached_more c.args.setting.now _ _ c.loop-number.number below _ _ _ (stated_at _ _ c.loop-number.number _ same c.loop-number-test.true) c.kind.ensures c.in-Done.ensures.lifecycle;
       world = search rules;
     }
 

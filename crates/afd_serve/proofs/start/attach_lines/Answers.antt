@@ -10,17 +10,17 @@ use Rattle.afd_serve.proofs.start.attach_lines.Goals as goal
 pub returns-in-Failed-clause-some : goal.returns-in-Failed-clause-some
 returns-in-Failed-clause-some g c =
     let stated = program_read _ _ c.loop-number.number _ c.index-programs-number.is c.line_programs-programs.ensures c.loop-number-test.true in
-    line_failed c.args.setting.now _ _ _ c.loop-number.number _ c.requires stated c.loop-number.invariant.below c.in-Failed.ensures.outer
+    line_failed c.args.setting.now _ _ _ c.loop-number.number _ c.requires stated c.loop-number.invariant.below c.in-Failed.ensures.lifecycle
 
 pub returns-in-OutOfMemory-clause-some : goal.returns-in-OutOfMemory-clause-some
 returns-in-OutOfMemory-clause-some g c =
-    lines_in_part c.args.setting.now _ _ c.loop-number.number (appended_by_none _ _ _ _ c.loop-number.invariant.below c.in-OutOfMemory.ensures.outer)
+    lines_in_part c.args.setting.now _ _ c.loop-number.number (appended_by_none _ _ _ _ c.loop-number.invariant.below c.in-OutOfMemory.ensures.lifecycle)
 
 pub loop-number-preserved : goal.loop-number-preserved
 loop-number-preserved g c =
     let read = c.index-programs-number.result in
     let stated = program_read _ _ c.loop-number.number _ c.index-programs-number.is c.line_programs-programs.ensures c.loop-number-test.true in
-    let entry = subst (λ words. Appended (g.W.Live.outer c.loop-number.world) (noted.LineAttached read.device read.restarts words ∷ []) (g.W.Live.outer c.attach_line.new.self)) c.words.ensures c.in-Done.ensures.outer in
+    let entry = subst (λ words. Appended (g.W.Live.lifecycle c.loop-number.world) (noted.LineAttached read.device read.restarts words ∷ []) (g.W.Live.lifecycle c.attach_line.new.self)) c.words.ensures c.in-Done.ensures.lifecycle in
     record {
       log = stays_stays _ _ _ c.loop-number.invariant.log c.attach_line.ensures.log;
       below = lines_more c.args.setting.now _ _ c.loop-number.number c.loop-number.invariant.below _ _ stated entry;

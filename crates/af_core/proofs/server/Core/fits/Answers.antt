@@ -11,4 +11,4 @@ returns-clause-shows c = λ s st.
     let stands = subst (λ (k : Kept). Stands k s) (sym c.self.view_is) st in
     let wake = c.args.wake.now in
     c.fits_now.ensures ∙ ap (λ ds. fits (outline_with (kept_lines ds) c.deref-2.result.now) wake) c.deref.ensures.value ∙ ap (λ links. fits (outline_with (kept_lines c.self-inside.inside.0.0.devices.items) links) wake) c.deref-2.ensures.value
-    ∙ ap (λ (x : Inside). fits (outline_of (kept_of x.environment x.slots.items)) wake) c.self-inside.view_is ∙ ap (λ o. fits o wake) (sym (same_outline _ s stands.kept))
+    ∙ ap (λ (x : Inside). fits (outline_of (kept_of x.shared x.slots.items)) wake) c.self-inside.view_is ∙ ap (λ o. fits o wake) (sym (same_outline _ s stands.kept))

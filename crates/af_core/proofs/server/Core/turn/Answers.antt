@@ -8,18 +8,18 @@ use Rattle.af_core.proofs.WantsTurnLemmas.{kept_open}
 use Rattle.af_core.proofs.server.Core.turn.Goals as goal
 
 pub turn_parts-requires-clause-kept : goal.turn_parts-requires-clause-kept
-turn_parts-requires-clause-kept g c = subst (λ (xs : List (Option LinkState)). IsBetweenPhases (kept_of c.self.inside.environment xs)) (sym c.deref_mut.ensures.value) c.self.invariant.0
+turn_parts-requires-clause-kept g c = subst (λ (xs : List (Option LinkState)). IsBetweenPhases (kept_of c.self.inside.shared xs)) (sym c.deref_mut.ensures.value) c.self.invariant.0
 
 pub turn_parts-requires-clause-bounds : goal.turn_parts-requires-clause-bounds
-turn_parts-requires-clause-bounds g c = subst (λ (xs : List (Option LinkState)). AreBounds c.self.inside.bounds c.self.inside.environment.waits xs) (sym c.deref_mut.ensures.value) c.self.invariant.1.0
+turn_parts-requires-clause-bounds g c = subst (λ (xs : List (Option LinkState)). AreBounds c.self.inside.bounds c.self.inside.shared.waits xs) (sym c.deref_mut.ensures.value) c.self.invariant.1.0
 
 pub invariant_of-self : goal.invariant_of-self
 invariant_of-self g c =
     let links_are = sym (with_items_is c.self.inside.slots c.turn_parts.new.slots (search rules)) in (
-      subst (λ (xs : List (Option LinkState)). IsBetweenPhases (kept_of c.turn_parts.new.environment xs)) links_are c.turn_parts.ensures.kept,
+      subst (λ (xs : List (Option LinkState)). IsBetweenPhases (kept_of c.turn_parts.new.shared xs)) links_are c.turn_parts.ensures.kept,
       (
-        subst (λ (xs : List (Option LinkState)). AreBounds c.turn_parts.new.bounds c.turn_parts.new.environment.waits xs) links_are c.turn_parts.ensures.bounds,
-        subst (λ (xs : List (Option LinkState)). AreExact c.turn_parts.new.bounds c.turn_parts.new.environment.waits xs) links_are c.turn_parts.ensures.exact,
+        subst (λ (xs : List (Option LinkState)). AreBounds c.turn_parts.new.bounds c.turn_parts.new.shared.waits xs) links_are c.turn_parts.ensures.bounds,
+        subst (λ (xs : List (Option LinkState)). AreExact c.turn_parts.new.bounds c.turn_parts.new.shared.waits xs) links_are c.turn_parts.ensures.exact,
       ),
     )
 

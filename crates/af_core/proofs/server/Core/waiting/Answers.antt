@@ -10,7 +10,7 @@ use Rattle.af_core.proofs.server.Core.waiting.Goals as goal
 pub returns-clause-waits : goal.returns-clause-waits
 returns-clause-waits c = λ s st.
     let stands = subst (λ (k : Kept). Stands k s) (sym c.self.view_is) st in
-    subst (λ (ws : List Wait). StandForWaiting s.devices ws s.waiting) (sym (c.order.ensures ∙ ap (λ (x : Inside). waits_of x.environment.waits) c.self-inside.view_is)) (shown s.devices c.self.inside.environment.waits s.waiting c.self.invariant.0.orderly.later stands.kept.waiting)
+    subst (λ (ws : List Wait). StandForWaiting s.devices ws s.waiting) (sym (c.order.ensures ∙ ap (λ (x : Inside). waits_of x.shared.waits) c.self-inside.view_is)) (shown s.devices c.self.inside.shared.waits s.waiting c.self.invariant.0.orderly.later stands.kept.waiting)
 
 pub returns-clause-later : goal.returns-clause-later
-returns-clause-later c = subst (λ (ws : List Wait). All (λ w. 0 < w.left) ws) (sym (c.order.ensures ∙ ap (λ (x : Inside). waits_of x.environment.waits) c.self-inside.view_is)) (all_wait c.self.inside.environment.waits c.self.invariant.0.orderly.later)
+returns-clause-later c = subst (λ (ws : List Wait). All (λ w. 0 < w.left) ws) (sym (c.order.ensures ∙ ap (λ (x : Inside). waits_of x.shared.waits) c.self-inside.view_is)) (all_wait c.self.inside.shared.waits c.self.invariant.0.orderly.later)

@@ -9,4 +9,4 @@ serve_link-is_closed-requires g c =
     record { link = record { number = c.requires.number; settled = c.requires.settled c.self.inside.link is } }
 
 pub returns-then-self-clause-simulates : goal.returns-then-self-clause-simulates
-returns-then-self-clause-simulates g c = door_shows _ _ c.args.number c.args.environment.now _ c.args.self.now c.self.inside.link _ c.serve_link-is_closed.result (search rules) c.serve_link-is_closed.ensures.simulates
+returns-then-self-clause-simulates g c = door_shows _ _ c.args.number c.args.shared.now _ c.args.self.now c.self.inside.link _ c.serve_link-is_closed.result (search rules) c.serve_link-is_closed.ensures.simulates

@@ -9,7 +9,7 @@ taken_twice (suc n) zero xs = refl
 taken_twice (suc n) (suc m) [] = refl
 taken_twice (suc n) (suc m) (x ∷ xs) = ap (λ ys. x ∷ ys) (taken_twice n m xs)
 
--- the first bytes that are left, before those behind them
+-- the first bytes that are left, before the others
 consumed : (left far into : List ℕ) (given count room piece : ℕ) → left ≡ drop given far → count ≡ length (take room (take piece left)) → take count into ≡ take room (take piece left) →
     left ≡ take count into ++ drop (given + count) far
 consumed left far into given count room piece is count_is copied =

@@ -7,7 +7,7 @@ use Rattle.af_world.specs.declared.live.Waited.TheVariants.{Failed}
 use Rattle.af_live.specs.LinkTable.{link_at, something_ready, KeepsOpen, Opens}
 use Rattle.af_live.specs.Counting.{CountsOne}
 use Rattle.af_live.specs.Polls.{LeadsLinks, TakesLeast}
-use Rattle.af_live.specs.RealWorld.{RealState, given, GivesKept, LeadsLines, LeadsRound, LosesNoFrame, WakeFits}
+use Rattle.af_live.specs.RealWorld.{RealState, given_wake, GivesKept, LeadsLines, LeadsRound, LosesNoFrame, WakeFits}
 use Rattle.af_live.proofs.PollsLemmas.{waits_take_least}
 use Rattle.af_live.proofs.RoundLemmas.{waits_lose_none}
 use Rattle.af_live.proofs.mio_world.MioWorldLive.wait.Goals as goal
@@ -21,22 +21,22 @@ returns-clause-unlistened g c = subst (λ (s : RealState). s.listens ≡ false �
 pub returns-clause-kept : goal.returns-clause-kept
 returns-clause-kept g c =
     let w = sym c.answer-waited.ensures.given in
-    subst (λ (s : RealState). (k : ℕ) → s.listens ≡ true → k < most_links → something_ready (link_at s.links k) ≡ true → GivesKept (given c.answer-waited.result) s.links s.round c.next_wake-next.new.links c.next_wake-next.new.devices.round) c.self.view_is
+    subst (λ (s : RealState). (k : ℕ) → s.listens ≡ true → k < most_links → something_ready (link_at s.links k) ≡ true → GivesKept (given_wake c.answer-waited.result) s.links s.round c.next_wake-next.new.links c.next_wake-next.new.devices.round) c.self.view_is
     (λ k l b r. subst (λ (o : Option Wake). GivesKept o c.self.inside.links c.self.inside.devices.round c.next_wake-next.new.links c.next_wake-next.new.devices.round) w (c.next_wake-next.ensures.kept k l b r))
 
 pub returns-clause-fits : goal.returns-clause-fits
 returns-clause-fits g c =
-    subst (λ (s : RealState). IfSome (given c.answer-waited.result) (λ wake. WakeFits s.links s.round s.lines wake)) c.self.view_is
+    subst (λ (s : RealState). IfSome (given_wake c.answer-waited.result) (λ wake. WakeFits s.links s.round s.lines wake)) c.self.view_is
     (subst (λ (o : Option Wake). IfSome o (λ wake. WakeFits c.self.inside.links c.self.inside.devices.round c.self.inside.lines wake)) (sym c.answer-waited.ensures.given) c.next_wake-next.ensures.fits)
 
 pub returns-clause-opens : goal.returns-clause-opens
 returns-clause-opens g c =
-    subst (λ (s : RealState). MatchOption (given c.answer-waited.result) (KeepsOpen s.links c.next_wake-next.new.links) (λ wake. Opens wake s.links c.next_wake-next.new.links)) c.self.view_is
+    subst (λ (s : RealState). MatchOption (given_wake c.answer-waited.result) (KeepsOpen s.links c.next_wake-next.new.links) (λ wake. Opens wake s.links c.next_wake-next.new.links)) c.self.view_is
     (subst (λ (o : Option Wake). MatchOption o (KeepsOpen c.self.inside.links c.next_wake-next.new.links) (λ wake. Opens wake c.self.inside.links c.next_wake-next.new.links)) (sym c.answer-waited.ensures.given) c.next_wake-next.ensures.opens)
 
 pub returns-clause-links : goal.returns-clause-links
 returns-clause-links g c =
-    subst (λ (s : RealState). LeadsLinks (given c.answer-waited.result) s.links c.next_wake-next.new.links) c.self.view_is
+    subst (λ (s : RealState). LeadsLinks (given_wake c.answer-waited.result) s.links c.next_wake-next.new.links) c.self.view_is
     (subst (λ (o : Option Wake). LeadsLinks o c.self.inside.links c.next_wake-next.new.links) (sym c.answer-waited.ensures.given) c.next_wake-next.ensures.links)
 
 pub returns-clause-least : goal.returns-clause-least
@@ -45,17 +45,17 @@ returns-clause-least g c =
 
 pub returns-clause-round : goal.returns-clause-round
 returns-clause-round g c =
-    subst (λ (s : RealState). LeadsRound (given c.answer-waited.result) s.links s.round s.behind c.next_wake-next.new.links c.next_wake-next.new.devices.round c.next_wake-next.new.devices.attached) c.self.view_is
+    subst (λ (s : RealState). LeadsRound (given_wake c.answer-waited.result) s.links s.round s.behind c.next_wake-next.new.links c.next_wake-next.new.devices.round c.next_wake-next.new.devices.attached) c.self.view_is
     (subst (λ (o : Option Wake). LeadsRound o c.self.inside.links c.self.inside.devices.round c.self.inside.devices.attached c.next_wake-next.new.links c.next_wake-next.new.devices.round c.next_wake-next.new.devices.attached) (sym c.answer-waited.ensures.given) c.next_wake-next.ensures.round)
 
 pub returns-clause-lines : goal.returns-clause-lines
 returns-clause-lines g c =
-    subst (λ (s : RealState). LeadsLines (given c.answer-waited.result) s.links s.round s.lines c.next_wake-next.new.links c.next_wake-next.new.devices.round c.next_wake-next.new.lines) c.self.view_is
+    subst (λ (s : RealState). LeadsLines (given_wake c.answer-waited.result) s.links s.round s.lines c.next_wake-next.new.links c.next_wake-next.new.devices.round c.next_wake-next.new.lines) c.self.view_is
     (subst (λ (o : Option Wake). LeadsLines o c.self.inside.links c.self.inside.devices.round c.self.inside.lines c.next_wake-next.new.links c.next_wake-next.new.devices.round c.next_wake-next.new.lines) (sym c.answer-waited.ensures.given) c.next_wake-next.ensures.lines)
 
 pub returns-clause-frames : goal.returns-clause-frames
 returns-clause-frames g c =
-    subst (λ (s : RealState). LosesNoFrame (given c.answer-waited.result) s.round c.next_wake-next.new.devices.round) c.self.view_is
+    subst (λ (s : RealState). LosesNoFrame (given_wake c.answer-waited.result) s.round c.next_wake-next.new.devices.round) c.self.view_is
     (subst (λ (o : Option Wake). LosesNoFrame o c.self.inside.devices.round c.next_wake-next.new.devices.round) (sym c.answer-waited.ensures.given) (waits_lose_none _ _ _ _ _ _ _ c.next_wake-next.ensures.round))
 
 pub returns-clause-counts : goal.returns-clause-counts

@@ -37,7 +37,7 @@ returns c =
       outside = outside_of tape.links.items (devices_of tape.steps.items tape.devices.items);
       link_faults = tape.link_faults;
       device_faults = tape.device_faults;
-      outer = tape.outer;
+      lifecycle = tape.lifecycle;
     } in
     let left = drop (tape.taken + 1) tape.steps.items in
     let outside = outside_of links.items (devices_of tape.steps.items devices.items) in

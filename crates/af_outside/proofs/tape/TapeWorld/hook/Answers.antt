@@ -6,7 +6,7 @@ use Rattle.std.specs.declared.option.Option.TheVariants.{Some}
 use Rattle.std.specs.declared.result.Result.TheVariants.{Ok}
 use Rattle.af_world.specs.declared.happening.Happening.TheVariants.{Hooked}
 use Rattle.af_world.specs.World.{is_done}
-use Rattle.af_world.specs.Outside.{answered_as_stated, Outside}
+use Rattle.af_world.specs.Outside.{outside_after_happening, Outside}
 use Rattle.af_outside.specs.Tape.{outside_of, devices_of}
 use Rattle.af_outside.proofs.TapeLemmas.{TapeLeadsTo-noted, faults_after-rises}
 use Rattle.af_outside.proofs.tape.TapeWorld.hook.Goals as goal
@@ -17,7 +17,7 @@ old_outside c = outside_of c.self.inside.links.items (devices_of c.self.inside.s
 abbrev new_outside : goal.After-note → Outside
 new_outside c = outside_of c.self.inside.links.items (devices_of c.self.inside.steps.items (with_items c.self.inside.devices c.hook-put.new.devices).items)
 
-answered_here : (c : goal.After-note) → answered_as_stated (old_outside c) (Hooked c.args.device c.args.off (is_done c.hook-put.result)) ≡ Some (new_outside c)
+answered_here : (c : goal.After-note) → outside_after_happening (old_outside c) (Hooked c.args.device c.args.off (is_done c.hook-put.result)) ≡ Some (new_outside c)
 answered_here c =
     let tape = c.self.inside in
     let kept : (with_items tape.devices c.hook-put.new.devices).items ≡ c.hook-put.new.devices = with_items_is tape.devices c.hook-put.new.devices (search rules) in

@@ -5,7 +5,7 @@ use Rattle.std.specs.Vec.{with_items}
 use Rattle.std.specs.declared.option.Option.TheVariants.{Some}
 use Rattle.af_world.specs.declared.happening.Happening.TheVariants.{Read}
 use Rattle.af_world.specs.World.{got_of}
-use Rattle.af_world.specs.Outside.{answered_as_stated, Outside}
+use Rattle.af_world.specs.Outside.{outside_after_happening, Outside}
 use Rattle.af_outside.specs.Tape.{outside_of, devices_of}
 use Rattle.af_outside.proofs.TapeLemmas.{TapeLeadsTo-noted, faults_after-rises}
 use Rattle.af_outside.proofs.tape.TapeWorld.read.Goals as goal
@@ -16,7 +16,7 @@ old_outside c = outside_of c.self.inside.links.items (devices_of c.self.inside.s
 abbrev new_outside : goal.After-note → Outside
 new_outside c = outside_of (with_items c.self.inside.links c.read-got.new.links).items (devices_of c.self.inside.steps.items c.self.inside.devices.items)
 
-answered_here : (c : goal.After-note) → answered_as_stated (old_outside c) (Read c.args.link (got_of c.read-got.result c.read-got.new.into)) ≡ Some (new_outside c)
+answered_here : (c : goal.After-note) → outside_after_happening (old_outside c) (Read c.args.link (got_of c.read-got.result c.read-got.new.into)) ≡ Some (new_outside c)
 answered_here c =
     let tape = c.self.inside in
     let kept : (with_items tape.links c.read-got.new.links).items ≡ c.read-got.new.links = with_items_is tape.links c.read-got.new.links (search rules) in

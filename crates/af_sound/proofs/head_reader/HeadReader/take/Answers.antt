@@ -3,7 +3,7 @@ use Rattle.std.specs.Prelude.{◌↔◌}
 use Rattle.af_sound.specs.declared.head.HeadStep.TheVariants as step
 use Rattle.af_sound.specs.declared.head.HeadStep.{HeadStep}
 use Rattle.af_sound.specs.Heads.{HasFault, IsHead}
-use Rattle.af_sound.specs.Reading.{HasTaken, reached, start}
+use Rattle.af_sound.specs.Reading.{HasTaken, place_after_bytes, start}
 use Rattle.af_sound.proofs.ReachedLemmas.{reached_last}
 use Rattle.af_sound.proofs.TakenLemmas.{fault_exactly, head_exactly}
 use Rattle.af_sound.proofs.head_reader.HeadReader.take.Goals as goal
@@ -16,7 +16,7 @@ returns-clause-taken c form bytes before =
 pub returns-clause-bad : goal.returns-clause-bad
 unfolding HasTaken
 returns-clause-bad c form bytes fault before =
-    let here : reached (start form) (bytes ++ (c.args.byte ∷ [])) ≡ Some c.behind-self.result =
+    let here : place_after_bytes (start form) (bytes ++ (c.args.byte ∷ [])) ≡ Some c.behind-self.result =
     reached_last bytes (start form) c.args.self.now.place c.args.byte before c.requires ∙ ap Some (sym c.behind-self.ensures) in
     subst (λ (s : HeadStep). (s ≡ step.Bad fault) ↔ HasFault form (bytes ++ (c.args.byte ∷ [])) fault) (sym c.step.ensures)
     (fault_exactly form (bytes ++ (c.args.byte ∷ [])) c.behind-self.result fault here)
@@ -24,7 +24,7 @@ returns-clause-bad c form bytes fault before =
 pub returns-clause-head : goal.returns-clause-head
 unfolding HasTaken
 returns-clause-head c form bytes head before =
-    let here : reached (start form) (bytes ++ (c.args.byte ∷ [])) ≡ Some c.behind-self.result =
+    let here : place_after_bytes (start form) (bytes ++ (c.args.byte ∷ [])) ≡ Some c.behind-self.result =
     reached_last bytes (start form) c.args.self.now.place c.args.byte before c.requires ∙ ap Some (sym c.behind-self.ensures) in
     subst (λ (s : HeadStep). (s ≡ step.Head head) ↔ IsHead form (bytes ++ (c.args.byte ∷ [])) head) (sym c.step.ensures)
     (head_exactly form (bytes ++ (c.args.byte ∷ [])) c.behind-self.result head here)

@@ -1,0 +1,103 @@
+-- How a tool ends, by its trace.
+use Rattle.std.proofs.Common.{◌≡◌, ℕ, true, false, List, sym, ap, ◌∙◌, refl, inl, inr, ◌⊎◌}
+use Rattle.std.specs.Prelude.{Result, Ok, Err}
+use Rattle.std.specs.declared.option.Option.{Option}
+use Rattle.af_request.specs.Asked.{Asked}
+use Rattle.af_request.specs.Answer.{Answer}
+use Rattle.af_lib.specs.declared.fault.ConnFault.{ConnFault}
+use Rattle.af_lib.specs.declared.fault.ConnFault.TheVariants as fault
+use Rattle.af_toolkit.specs.declared.end.ToolEnd.{ToolEnd}
+use Rattle.af_toolkit.specs.declared.end.ToolEnd.TheVariants as end
+use Rattle.af_toolkit.specs.Trace.{Trace, ClientState, Finish, after_reply, answer_on, after_answer, asks, bad_sound, channel_mismatch, done, tool_end, fault_end, mismatch, no_device, not_dialled, refused, sound_cut, too_long}
+use Rattle.af_toolkit.specs.Ends.{MatchesTrace, EndsByReply, ObservedTrace, IsAnswered, is_of_reply, is_outer}
+
+-- the finish of an end that is not from outside
+abbrev told_by : ToolEnd → Finish
+told_by end.LinkEnded = refused fault.LinkEnded
+told_by (end.NoDevice devices) = no_device devices
+told_by (end.RateMismatch from to) = mismatch from to
+told_by (end.ChannelMismatch from to) = channel_mismatch from to
+told_by (end.BadSound f) = bad_sound f
+told_by end.SoundCut = sound_cut
+told_by (end.Refused code value) = refused (fault.ServerError code value)
+told_by (end.BadReply header first) = refused (fault.BadReply header first)
+told_by end.EventFlood = refused fault.EventFlood
+told_by end.TooLong = too_long
+told_by _ = done
+
+finish_told : (finish : Finish) → is_outer (tool_end finish) ≡ false → finish ≡ told_by (tool_end finish)
+finish_told not_dialled is = cc
+finish_told (refused fault.LinkFault) is = cc
+finish_told (refused fault.OutOfMemory) is = cc
+finish_told (refused (fault.Spent first)) is = cc
+finish_told finish is = refl
+
+-- an end that is not from outside has one finish
+one_finish : (f g : Finish) → is_outer (tool_end g) ≡ false → tool_end f ≡ tool_end g → f ≡ g
+one_finish f g inner same = finish_told f (ap is_outer same ∙ inner) ∙ ap told_by same ∙ sym (finish_told g inner)
+
+-- it is that of the trace
+pub finish_is : (trace : Trace) (how : ToolEnd) (sends output : List ℕ) → MatchesTrace trace how sends output →
+    (finish : Finish) → is_outer (tool_end finish) ≡ false → how ≡ tool_end finish → trace.finish ≡ finish
+finish_is trace how sends output e finish inner same =
+    let way : how ≡ tool_end trace.finish = (e.whole (ap is_outer same ∙ inner)).0 in
+    one_finish trace.finish finish inner (sym way ∙ same)
+
+-- a tool ends as its trace does, unless something from outside ends it
+pub ends_as : (trace : Trace) (how : ToolEnd) (sends output : List ℕ) → MatchesTrace trace how sends output →
+    (finish : Finish) → trace.finish ≡ finish → (how ≡ tool_end finish) ⊎ (is_outer how ≡ true)
+ends_as trace how sends output e finish is = elim (is_outer how) as (λ b. is_outer how ≡ b → (how ≡ tool_end finish) ⊎ (is_outer how ≡ true)) [
+  | true ↦ λ outer. inr outer
+  | false ↦ λ inner. inl ((e.whole inner).0 ∙ ap tool_end is)
+] refl
+
+-- an end of a reply is not from outside
+reply_inner : (f : ConnFault) → is_of_reply (fault_end f) ≡ true → is_outer (fault_end f) ≡ false
+reply_inner fault.LinkFault is = cc
+reply_inner (fault.Spent first) is = cc
+reply_inner fault.OutOfMemory is = cc
+reply_inner f is = refl
+
+-- an end of a reply is that of the trace, and of no other
+pub reply_of : (trace : Trace) (how : ToolEnd) (sends output : List ℕ) → MatchesTrace trace how sends output → EndsByReply trace how
+reply_of trace how sends output e = record {
+  only = λ f is same. finish_is trace how sends output e (refused f) (reply_inner f is) same;
+  always = λ f is. ends_as trace how sends output e (refused f) is;
+}
+
+pub ends_by_reply : (trace : Trace) (how : ToolEnd) (s s' h h' : Option (List ℕ)) → ObservedTrace trace how s s' h h' → EndsByReply trace how
+ends_by_reply trace how s s' h h' f = reply_of trace how f.sends f.output f.ended
+
+-- a trace whose device exists, and which is not too long, is done if each request gets its reply
+abbrev pub IsDoneOrRefused : Finish → Type 0
+IsDoneOrRefused finish = (finish ≡ done) ⊎ ((f : ConnFault) × (finish ≡ refused f))
+
+-- a tool whose trace is done ends so, unless something from outside ends it
+pub done_unless_outer : (trace : Trace) (how : ToolEnd) (sends output : List ℕ) → MatchesTrace trace how sends output → trace.finish ≡ done → (how ≡ end.Done) ⊎ (is_outer how ≡ true)
+done_unless_outer trace how sends output e is = ends_as trace how sends output e done is
+
+-- the same if each request gets its reply
+pub done_where_answered : (trace : Trace) (how : ToolEnd) (sends output : List ℕ) → MatchesTrace trace how sends output → IsDoneOrRefused trace.finish → IsAnswered trace → (how ≡ end.Done) ⊎ (is_outer how ≡ true)
+done_where_answered trace how sends output e finish answered = elim finish [
+  | inl is ↦ done_unless_outer trace how sends output e is
+  | inr r ↦ absurd (answered r.0 r.1)
+]
+
+-- no fault is done
+pub fault_undone : (f : ConnFault) → fault_end f ≡ end.Done → ⊥
+fault_undone f is = let bad : refused f ≡ done = one_finish (refused f) done refl is in cc
+
+-- only a trace that is done to its end is reported as done
+pub finish_done : (f : Finish) → tool_end f ≡ end.Done → f ≡ done
+finish_done done is = refl
+finish_done (refused f) is = absurd (fault_undone f is)
+finish_done f is = absurd (cc)
+
+-- a trace that goes on by the answer to a request
+answer_finish : {X : Type 0} (r : Result X ConnFault) (w : ClientState) (next : X → ClientState → Trace) → ((x : X) (v : ClientState) → IsDoneOrRefused (next x v).finish) → IsDoneOrRefused (after_answer r w next).finish
+answer_finish (Ok x) w next more = more x w
+answer_finish (Err f) w next more = inr (f, refl)
+
+pub asked_finish : {X : Type 0} (asked : Asked) (value_of : Answer → Option X) (w : ClientState) (next : X → ClientState → Trace) → ((x : X) (v : ClientState) → IsDoneOrRefused (next x v).finish) → IsDoneOrRefused (asks asked value_of w next).finish
+unfolding asks
+asked_finish asked value_of w next more = answer_finish (answer_on asked value_of w) (after_reply w) next more

@@ -1,0 +1,136 @@
+-- How far a tool came in its trace, and why it ended.
+use Rattle.std.specs.Prelude.{◌≡◌, ◌≢◌, ◌≤◌, ◌⊎◌, ℕ, Bool, true, false, List, [], ◌++◌, Result, Ok, Err, IsOk, IsSome}
+use Rattle.std.specs.declared.option.Option.{Option}
+use Rattle.std.specs.declared.option.Option.TheVariants.{None, Some}
+use Rattle.af_io.specs.Observed.{Appended, FaultCounted}
+use Rattle.af_io.specs.Flow.{AppendedPrefix}
+use Rattle.af_lib.specs.declared.fault.ConnFault.{ConnFault}
+use Rattle.af_lib.specs.Calls.{ConnState}
+use Rattle.af_toolkit.specs.declared.end.ToolEnd.{ToolEnd}
+use Rattle.af_toolkit.specs.declared.end.ToolEnd.TheVariants as end
+use Rattle.af_toolkit.specs.Trace.{Trace, ClientState, done, tool_end, ends, fault_end, refused, writes_first}
+
+-- the ends that come from outside: no bytes decide whether they come
+abbrev pub is_outer : ToolEnd → Bool
+is_outer end.DialFault = true
+is_outer end.LinkFault = true
+is_outer end.ReadFault = true
+is_outer end.SinkFault = true
+is_outer end.OutOfMemory = true
+is_outer _ = false
+
+-- A tool ended, and sent and wrote this: prefixes of what its trace has. If nothing from outside ended it, this is all of that,
+-- and the end is that of the trace.
+pub record MatchesTrace (trace : Trace) (how : ToolEnd) (sends output : List ℕ) : Type 0 where
+  pub unsent : List ℕ
+  pub unwritten : List ℕ
+  pub sent : trace.sends ≡ sends ++ unsent
+  pub wrote : trace.output ≡ output ++ unwritten
+  pub whole : is_outer how ≡ false → (how ≡ tool_end trace.finish) × (unsent ≡ []) × (unwritten ≡ [])
+
+-- the same by what a link was sent and what a sink holds, before and after
+pub record ObservedTrace (trace : Trace) (how : ToolEnd) (sent sent' held held' : Option (List ℕ)) : Type 0 where
+  pub sends : List ℕ
+  pub output : List ℕ
+  pub ended : MatchesTrace trace how sends output
+  pub link : Appended sent sends sent'
+  pub sink : Appended held output held'
+
+-- a tool wrote a text, as the last thing that it does
+abbrev pub Reports : {K : Type 0} → (held : K → Option (List ℕ)) → List ℕ → ToolEnd → (sink sink' : K) → Type 0
+Reports held text how sink sink' =
+    (sent : Option (List ℕ)) → ObservedTrace (writes_first text (ends done)) how sent sent (held sink) (held sink')
+
+-- a connection whose link gives these bytes
+abbrev pub client_of : {L : Type 0} → ConnState L → List ℕ → ClientState
+client_of conn input = record { order = conn.order; sequence = conn.sequence; ring = conn.ring; input = input }
+
+-- the ends for a reply: it is cut off, an error, not a reply, or missing
+abbrev pub is_of_reply : ToolEnd → Bool
+is_of_reply end.LinkEnded = true
+is_of_reply (end.Refused code value) = true
+is_of_reply (end.BadReply header first) = true
+is_of_reply end.EventFlood = true
+is_of_reply _ = false
+
+-- the ends of a part that only sends requests and takes their replies
+abbrev pub is_of_link : ToolEnd → Bool
+is_of_link end.LinkFault = true
+is_of_link end.LinkEnded = true
+is_of_link (end.Refused code value) = true
+is_of_link (end.BadReply header first) = true
+is_of_link end.EventFlood = true
+is_of_link _ = false
+
+-- the ends of writing
+abbrev pub is_of_report : ToolEnd → Bool
+is_of_report end.Done = true
+is_of_report end.SinkFault = true
+is_of_report _ = false
+
+-- If a request is answered with a fault, the tool ends with that, unless something from outside has ended it. It ends so in no
+-- other case.
+pub record EndsByReply (trace : Trace) (how : ToolEnd) : Type 0 where
+  pub only : (fault : ConnFault) → is_of_reply (fault_end fault) ≡ true → how ≡ fault_end fault → trace.finish ≡ refused fault
+  pub always : (fault : ConnFault) → trace.finish ≡ refused fault → (how ≡ fault_end fault) ⊎ (is_outer how ≡ true)
+
+-- each request gets its reply
+abbrev pub IsAnswered : Trace → Type 0
+IsAnswered trace = (fault : ConnFault) → trace.finish ≢ refused fault
+
+-- A part of a trace is a trace with what follows it left open.
+abbrev pub TracePart : Type 0 → Type 0
+TracePart X = (X → ClientState → Trace) → Trace
+
+-- a part came to a value, having sent and written this, and what follows goes on from there
+abbrev pub PartCompletes : {X : Type 0} → TracePart X → X → ClientState → List ℕ → List ℕ → Type 0
+PartCompletes {X} part x w sends output = (next : X → ClientState → Trace) →
+    part next ≡ record { sends = sends ++ (next x w).sends; output = output ++ (next x w).output; finish = (next x w).finish }
+
+-- how a part went, whatever follows it
+abbrev pub PartMatches : {X : Type 0} → TracePart X → Result X ToolEnd → Option (List ℕ) → (List ℕ → ClientState) → List ℕ →
+    List ℕ → Type 0
+PartMatches part (Ok x) left wire sends output =
+    (input : List ℕ) × (left ≡ Some input) × PartCompletes part x (wire input) sends output
+PartMatches {X} part (Err how) left wire sends output =
+    (next : X → ClientState → Trace) → MatchesTrace (part next) how sends output
+
+-- the same by what the link was sent and the sink holds, before and after
+pub record ObservedPart {X : Type 0} (part : TracePart X) (result : Result X ToolEnd) (left : Option (List ℕ))
+    (wire : List ℕ → ClientState) (sent sent' held held' : Option (List ℕ)) : Type 0 where
+  pub sends : List ℕ
+  pub output : List ℕ
+  pub came : PartMatches part result left wire sends output
+  pub link : Appended sent sends sent'
+  pub sink : Appended held output held'
+
+-- The same over a connection whose link is observable: the part begins where the connection stands, and writes nothing.
+abbrev pub ObservedPartOver : {L X : Type 0} → (left sent : L → Option (List ℕ)) → (old new : ConnState L) →
+    (ClientState → TracePart X) → Result X ToolEnd → Type 0
+ObservedPartOver left sent old new part result = (input : List ℕ) (held : Option (List ℕ)) → left old.link ≡ Some input →
+    ObservedPart (part (client_of old input)) result (left new.link) (client_of new) (sent old.link) (sent new.link) held held
+
+-- The same for a part that also writes, to a sink.
+abbrev pub ObservedPartWriting : {L K X : Type 0} → (left sent : L → Option (List ℕ)) → (held : K → Option (List ℕ)) →
+    (conn conn' : ConnState L) → (sink sink' : K) → (ClientState → TracePart X) → Result X ToolEnd → Type 0
+ObservedPartWriting left sent held conn conn' sink sink' part result = (input : List ℕ) → left conn.link ≡ Some input →
+    ObservedPart (part (client_of conn input)) result (left conn'.link) (client_of conn') (sent conn.link) (sent conn'.link) (held sink) (held sink')
+
+-- some bytes were written to a sink, or the first of them before it failed
+abbrev pub Writes : {K : Type 0} → (held : K → Option (List ℕ)) → List ℕ → Result (Unit {0}) ToolEnd → (sink sink' : K) → Type 0
+Writes held bytes (Ok _) sink sink' = Appended (held sink) bytes (held sink')
+Writes held bytes (Err how) sink sink' = (how ≡ end.SinkFault) × AppendedPrefix (held sink) bytes (held sink')
+
+-- What a part does to its connection, whatever the link tells, in a program that ends so where its link failed.
+pub record KeepsConnectionBy {L X E : Type 0} (link_failed : E) (left : L → Option (List ℕ)) (faults : L → ℕ)
+    (old new : ConnState L) (result : Result X E) : Type 0 where
+  pub devices : new.devices ≡ old.devices
+  pub usable : IsOk result → new.cause ≡ None
+  pub tells : IsSome (left old.link) → IsSome (left new.link)
+  pub count : faults old.link ≤ faults new.link
+  pub failed : result ≡ Err link_failed → FaultCounted (faults old.link) (faults new.link)
+
+-- the same of a tool
+abbrev pub KeepsConnection : {L X : Type 0} → (left : L → Option (List ℕ)) → (faults : L → ℕ) → (old new : ConnState L) →
+    Result X ToolEnd → Type 0
+KeepsConnection left faults old new result = KeepsConnectionBy end.LinkFault left faults old new result

@@ -125,11 +125,11 @@ local refused = ProtoExpert.new("audiofile.refusal", "Refused", expert.group.RES
 local came_late = ProtoExpert.new("audiofile.came_late", "Came too late", expert.group.SEQUENCE, expert.severity.WARN)
 audiofile.experts = { malformed, refused, came_late }
 
--- of each connection, by its two ends: the server's port, whether its numbers are little-endian now, and how many requests it has
--- had. When frames are first gone through, `setups` gets each setup, as ports may be used again, with its frame and its order,
--- `numbers` the number of each request by the place where it stands, `asked` the frame of the request that each message answers,
--- `frames` the frame of each number, `starts` the time of each Play by its number, and `late` by how many frames each Play was late
--- whose reply says so
+-- Each connection, by its two ends: the server's port, whether its numbers are little-endian now, and how many requests it has
+-- had. The first pass over the frames fills its tables. `setups` has each setup, with its frame and its byte order, as ports may
+-- be used again. `numbers` has the number of each request by its place. `asked` has the frame of the request that each message
+-- answers. `frames` has the frame of each number, and `starts` the time of each Play by its number. `late` has by how many frames
+-- a Play was late, if its reply says so.
 local streams = {}
 
 function audiofile.init()
@@ -179,8 +179,8 @@ local function padded(size)
     return size + (-size % 4)
 end
 
--- what is said of a message: its name as a field that a filter finds, and with more of it in the tree and in the list of packets,
--- behind what was said there
+-- Describes a message: its name as a field for filters, and with more of it in the tree and in the list of packets, after what is
+-- there already.
 local function say(pinfo, tree, text, more)
     tree:add(fields.says, text):set_generated()
     text = text .. (more or "")

@@ -25,7 +25,7 @@ def in_bytes(samples):
 
 
 def sounds(trial):
-    """A player in each order, whose sounds are mixed, another of 32-bit samples behind them, and a recorder in each. The time wraps."""
+    """A player in each order, whose sounds are mixed; then one of 32-bit samples; and a recorder in each. The time wraps."""
     folder = trial.folder_of("orders")
     given = random.Random(5).randbytes(2 * 20 * RATE)
     trial.file(folder, "in", given)

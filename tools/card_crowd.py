@@ -1,5 +1,5 @@
-"""Trials of tools/try-cards: 31 clients that play to a device, beside a card whose program is stopped, and one that gives as fast as it
-can. None of them is held up."""
+"""Trials of tools/try-cards: 31 clients that play to a device, beside a card whose program is stopped, and one that gives as fast
+as it can. None of them is held up."""
 
 import os
 import select
@@ -90,7 +90,7 @@ def stopped(trial):
 
 
 def floods(trial):
-    """A microphone that gives as fast as it can, as one does that has no clock, and a loudspeaker that takes as fast as it can."""
+    """A microphone and a loudspeaker without a clock: they give and take as fast as they can."""
     card = Card("flood", "lin16", 48000, 2, "microphone", 100, floods=1)
     disturbed(trial, "a microphone that gives as fast as it can", card, lambda card: None)
     card = Card("taker", "lin16", 48000, 2, "speaker", 100, floods=1)

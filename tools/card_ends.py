@@ -1,5 +1,5 @@
-"""Trials of tools/try-cards: programs that end and come back, that are ended since they stand still, and that cannot be started. While no
-program runs the clock of the system counts, silence is captured, and sound is lost."""
+"""Trials of tools/try-cards: programs that end and come back, that are ended since they stand still, and that cannot be started.
+While no program runs the clock of the system counts, silence is captured, and sound is lost."""
 
 import os
 import signal
@@ -25,8 +25,8 @@ def is_gone(process):
 
 
 def after(trial, card, recorded, frames, start=1):
-    """Where the sound of the next start begins in what was recorded: behind so many frames of the first one, and silence. None if it is
-    nowhere, and that is told."""
+    """Where the sound of the next start begins in what was recorded: after so many frames of the first one, and silence. None if
+    it is nowhere, and that is reported."""
     width = card.width
     trial.holds("all that the first program gave is captured", recorded[:frames * width] == card.sound(frames))
     at = recorded.find(card.sound(100, start), frames * width)
@@ -85,7 +85,7 @@ def part_of_a_frame(trial):
 
 
 def waits(trial):
-    """A program that ends at once is started again after a second, and after two. Then its device is dead, and another goes on."""
+    """A program that ends at once is started again after a second, and after two. Then its device is dead; another goes on."""
     card = Card("short", "lin16", 16000, restarts=2, frames=160)
     with trial.serve(card, "device mu255 8000 0 silent") as server:
         recorder = recording(server, 0, card, 5)
@@ -126,7 +126,7 @@ def run_seldom(server, is_over):
 
 
 def seldom_run(trial):
-    """A server that seldom runs, and has clients, so that each of its rounds finds frames due: it starts a program again all the same."""
+    """A server that seldom runs, and has clients, finds frames due in each round. It starts a program again nevertheless."""
     card = Card("short", "lin16", 16000, 2, restarts=1, frames=480)
     with trial.serve(card) as server, set_up(server.address) as link:
         wait_for(lambda: card.moment("ends"))
@@ -144,8 +144,8 @@ def seldom_run(trial):
 
 
 def ends_late(trial, what, card, disturb=None, other="device mu255 8000 0 silent"):
-    """A program that is ended since it stands still, killed since it stays, and waited for. Its device goes on by the clock, and it is
-    started again."""
+    """A program that is ended since it stands still, killed since it stays, and waited for. Its device goes on by the clock, and
+    it is started again."""
     begun = time.monotonic()
     with trial.serve(card, other) as server:
         first = card.process()

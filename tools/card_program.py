@@ -18,8 +18,9 @@ It gives frames that are counted, by its own clock, and keeps what it is handed.
     closes                    it closes its input
     floods                    it gives as fast as it can, or takes so, if it gives nothing
 
-In the folder in which it runs, NAME.heard.K has what the start K was handed, the first being 0, NAME.told.K when it began and ended,
-and NAME.count.K how many frames it was about to give, how many it had given, and how many bytes it had taken.
+It leaves files in the folder in which it runs. NAME.heard.K has what the start K was handed; the first start is 0. NAME.told.K
+has when it began and ended. NAME.count.K has how many frames it was about to give, how many it had given, and how many bytes it
+had taken.
 """
 
 import os

@@ -1,5 +1,5 @@
-"""Trials of tools/try-cards over the programs of ALSA and PulseAudio, where these are installed. ALSA plays to a program and records from a
-FIFO that go by a clock of their own; what PulseAudio plays to a sink that is none is recorded again from there."""
+"""Trials of tools/try-cards over the programs of ALSA and PulseAudio, where these are installed. ALSA plays to a program and
+records from a FIFO that go by a clock of their own; what PulseAudio plays to a sink that is none is recorded again from there."""
 
 import array
 import contextlib
@@ -112,14 +112,14 @@ def is_played(trial, server, card, played):
 
 
 def ends(trial, server, *names):
-    """Ends a server. Its programs end behind it, and tell of that as they like."""
+    """Ends a server. Its programs end after it, and may say so."""
     trial.holds("the server runs", server.process.poll() is None)
     server.end()
     trial.holds("its programs end", wait_for(lambda: not any(programs(server.folder, it) for it in names)))
 
 
 def alsa(trial):
-    """aplay behind a loudspeaker, arecord behind a microphone, and both over ALSA's null device, where no clock counts."""
+    """A loudspeaker with aplay, a microphone with arecord, and both over ALSA's null device, where no clock counts."""
     if is_missing(trial, "aplay", "arecord"):
         return
     card = Card("alsa", "lin16", 16000)
@@ -198,7 +198,7 @@ def configurations(trial):
 def pulse_audio(trial, card):
     """PulseAudio with a sink that plays to nowhere, and what to begin the server with."""
     folder = tempfile.mkdtemp(dir=trial.folder)
-    with PulseAudio(folder, types.SimpleNamespace(rate=card.rate, type=card.type)) as system:
+    with PulseAudio(folder, types.SimpleNamespace(rate=card.rate, type=card.type), rewinds=True) as system:
         environment = ["PULSE_SERVER=tcp:127.0.0.1:%d" % system.port, "HOME=" + folder, "PATH=%s:%s" % (SCRIPTS, os.environ["PATH"])]
         yield folder, ["env", *environment]
 
@@ -217,7 +217,7 @@ def is_back(trial, card, recorder, player):
 
 
 def pulse(trial):
-    """pacat behind a loudspeaker, and parec behind a microphone that hears it."""
+    """A loudspeaker with pacat, and a microphone with parec that hears it."""
     if is_missing(trial, "pulseaudio", "pacat", "parec"):
         return
     card = Card("pulse", "lin16", 44100)
@@ -363,8 +363,8 @@ def minutes(trial):
 
 
 def is_heard(trial, card, heard, played):
-    """Whether what was played is heard in order. Where pacat took nothing for a while, and its input was full, some of it is lost; where
-    it had nothing to play, there is silence in between."""
+    """Whether what was played is heard in order. Where pacat took nothing for a while, and its input was full, some of it is
+    lost; where it had nothing to play, there is silence in between."""
     sound = card.sound(played.frames if played else 1, PLAYED)
     # no frame that is played is silence
     heard = array.array("H", filter(None, array.array("H", heard))).tobytes()

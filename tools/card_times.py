@@ -1,5 +1,5 @@
-"""Trials of tools/try-cards: cards whose clocks differ, that stand still, and that take nothing for a while. What is captured and what is
-handed out is compared frame by frame, and the time of a device with the frames that its program gave."""
+"""Trials of tools/try-cards: cards whose clocks differ, that stand still, and that take nothing for a while. What is captured and
+what is handed out is compared frame by frame, and the time of a device with the frames that its program gave."""
 
 import signal
 import subprocess
@@ -15,7 +15,7 @@ WATCHED = 20
 MOST_DELAY = 0.25
 # how long a relay runs, in seconds, and the slacks of some, in milliseconds. A thousandth of a second is a millisecond
 RELAYED, SLACKS = 60, (15, 20, 30)
-# by how much the time of a device may be behind what its program gave, in seconds, and how many of a hundred may be behind by more
+# how late the time of a device may be after what its program gave, in seconds, and how many of a hundred may be later
 BEHIND, MOST_BEHIND = 0.1, 2
 
 
@@ -159,7 +159,7 @@ def microphone(trial):
 
 
 def speaker(trial):
-    """Loudspeakers whose clocks are slow and fast: what they are handed has no gap, and comes in pieces of a hundredth of a second."""
+    """Loudspeakers with slow and fast clocks: what they are handed has no gap, and comes in hundredths of a second."""
     cards = [
         Card("slow", "lin16", 48000, 2, "speaker", takes="pace", speed=0.95, jitter=10),
         Card("fast", "mu255", 8000, 1, "speaker", takes="pace", speed=1.05, jitter=10)]
@@ -194,7 +194,7 @@ def is_speaker(trial, server, card, played, times, delays):
 
 
 def relay(trial):
-    """A relay between servers whose cards differ by a thousandth: it starts afresh as often as the clocks drift apart by the slack."""
+    """A relay between servers whose cards differ by a thousandth: it starts afresh whenever they drift apart by the slack."""
     fast, even = Card("fast", "lin16", 8000, speed=1.001, period=2), Card("even", "lin16", 8000, period=2)
     with trial.serve(fast) as near, trial.serve(even) as far:
         time.sleep(1)

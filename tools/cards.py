@@ -28,7 +28,7 @@ LEAD = 1.5
 
 
 class Noted:
-    """A program of a server that notes what happens, in files of its name and the number of its start, and in the server's folder."""
+    """A program that notes what happens, in files of its name and the number of its start, in the server's folder."""
 
     def lies_in(self, folder):
         self.folder = folder
@@ -208,8 +208,7 @@ def playing(server, device, card, seconds, lead=LEAD):
 
 
 def left_out(heard, wanted, width):
-    """How many frames of what was wanted are left out of what was heard, which is the same otherwise and may end earlier. None if it is
-    not."""
+    """How many of the expected frames are missing in what was heard, which may end earlier. None if it differs otherwise."""
     at = place = 0
     while at < len(heard):
         same = common(heard, at, wanted, place)

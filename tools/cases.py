@@ -11,8 +11,8 @@ STATED = re.compile(r"(?:(\d+) times )?([^[]*)(?:\[([^]]*)\])?(.*)", re.DOTALL)
 
 
 def lists_of_words(text):
-    """The lists in a file of words: one word a line, blank lines between the lists, and comments that begin with #. `""` is the word
-    without a byte, and `(no words)` the list without a word."""
+    """The lists in a file of words: one word a line, blank lines between the lists, and comments that begin with #. `""` is the
+    word without a byte, and `(no words)` the list without a word."""
     words = []
     for line in text.splitlines() + [""]:
         if line.startswith("#"):
@@ -25,8 +25,9 @@ def lists_of_words(text):
 
 
 def octets_stated(text):
-    """The bytes that hexadecimal digits state. `N times HEX` states them N times, and what stands in brackets there rises by one each
-    time, and wraps; a line that begins with # is a comment. A line that states no whole bytes is a ValueError, with the line."""
+    """The bytes that hexadecimal digits state. `N times HEX` states them N times, and what stands in brackets there rises by one
+    each time, and wraps; a line that begins with # is a comment. A line that states no whole bytes is a ValueError, with the
+    line."""
     stated = []
     for line in text.split("\n"):
         if line.startswith("#"):
@@ -46,8 +47,8 @@ def octets_stated(text):
 
 
 def first_difference(found, wanted):
-    """The first line in which two texts, given by their bytes, differ, of both, cut round the first byte that differs. None where they
-    are alike."""
+    """The first line in which two texts, given by their bytes, differ, of both, cut round the first byte that differs. None where
+    they are alike."""
     lines = itertools.zip_longest(found.splitlines(keepends=True), wanted.splitlines(keepends=True))
     for number, (one, other) in enumerate(lines, 1):
         if one != other:

@@ -1,8 +1,8 @@
 """A script and its transcript side by side, and the two directions of a link, line by line in words.
 
-A transcript does not say in which turn a line of it happened. Each line is given to the first step that may have caused it: a
-sound to the tick that hands it out, a reply to a turn behind its request and not before the time that it tells, an event to one
-behind the change that it tells, the end of a link to one behind its cause.
+A transcript does not say in which turn a line of it happened. Each line is given to the first step that may have caused it. A
+sound goes to the tick that hands it out. A reply goes to a turn after its request, and not before the time that it states. An
+event goes to a turn after its change, and the end of a link to one after its cause.
 """
 
 import bisect
@@ -56,8 +56,8 @@ class Conversation:
         self.refused = {number for number, item in self.messages if item.kind == "error"}
 
     def within(self, count):
-        """The messages, with their numbers, of which some part is in the next so many bytes that the client takes, and whether the last
-        of them is whole then."""
+        """The messages, with their numbers, of which some part is in the next so many bytes that the client takes, and whether
+        the last of them is whole then."""
         last = len(self.took) + count
         place = bisect.bisect_left(self.ends, last)
         begun = self.messages[bisect.bisect_right(self.ends, len(self.took)):place + 1]
@@ -111,7 +111,7 @@ class Conversation:
 
 
 def unwrapped(number, last):
-    """The number nearest behind the last that has these 16 bits."""
+    """The nearest number after the last that has these 16 bits."""
     return last + (number - last) % 65536
 
 
@@ -135,7 +135,7 @@ class Played:
 
 
 class Script:
-    """A script with its transcript (None: none is there). `lines` gives the words, `astray` counts lines that no step explains."""
+    """A script with its transcript, or None. `lines` gives the words, `astray` counts lines that no step explains."""
 
     def __init__(self, devices, steps, transcript=None):
         self.devices = [Played(device, device.start) for device in devices]
@@ -150,7 +150,7 @@ class Script:
         self.answers = self.sessions()
 
     def sessions(self):
-        """What each link took, from an opening to the close behind it."""
+        """What each link took, from an opening to the next close."""
         taken = {}
         for line in self.transcript or []:
             pieces = taken.setdefault(line.of, [b""])
@@ -321,14 +321,14 @@ class Script:
         return "fault" in link.stated if line.said == "fault" else link.talk.client.ended
 
     def unsent(self, link):
-        """About how many bytes wait for a link: the events that it is to be told, and a head for each answer that it is to get."""
+        """About how many bytes wait for a link: the events that are queued for it, and a header for each answer to come."""
         masks = {asked.device: asked.item.fields["mask"] for asked in link.talk.asked.values() if asked.item.name == "SelectEvents"}
         told = sum(1 for device, kind, _, _ in self.changes[link.told:] if KINDS[kind] & masks.get(device, 0))
         return 20 * told + 8 * (link.talk.count - link.talk.answered)
 
     def may_take(self, link, count):
-        """Whether all messages of which a part is in so many bytes may have been said by now. What is not whole is cut off where the
-        room ends."""
+        """Whether all messages of which a part is in so many bytes may have been said by now. What is not whole is cut off where
+        the room ends."""
         messages, is_whole = link.talk.within(count)
         if link.room is not None and count > link.room or not is_whole and count != link.room:
             return False
@@ -349,7 +349,7 @@ class Script:
         return device < len(self.devices) and (self.devices[device].now - item.fields["time"]) % WORD < WORD // 2
 
     def told(self, item, told):
-        """How many changes there were up to the one that an event tells, behind those that were told before."""
+        """How many changes there were up to the one that an event reports, after those that were reported before."""
         wanted = (item.fields["device"], item.name, item.fields["value"], item.fields["time"])
         return next((at + 1 for at in range(told, len(self.changes)) if self.changes[at] == wanted), None)
 
@@ -413,7 +413,7 @@ class Script:
 
 
 def link_lines(client, server):
-    """A link whose bytes are known, of one direction or of both: each request, and behind it what was said before the next."""
+    """A link whose bytes are known, in one direction or in both: each request, and then what was sent before the next."""
     talk = Conversation(server)
     sent = list(talk.sends(client))
     messages = talk.server.feed(server)

@@ -1,5 +1,5 @@
-"""What breaks beside a client that plays and one that records, which are to go on as if nothing had: links, devices, descriptors, and
-the server itself. These are trials of try-server."""
+"""What breaks beside a client that plays and one that records, which are to go on as if nothing had: links, devices, descriptors,
+and the server itself. These are trials of try-server."""
 
 import os
 import random
@@ -24,7 +24,7 @@ def parts(trial):
 
 
 class Honest:
-    """A client that plays to device 0 and one that records what it captures, while others fail: used with `with`, around these."""
+    """A client that plays to device 0 and one that records from it, while others fail: used with `with`, around these."""
 
     def __init__(self, trial, server, given, seconds, records=True):
         self.trial, self.server, self.given = trial, server, given

@@ -7,8 +7,8 @@ handed frames that it gave itself, NAME.told.0 has a line for each hundred piece
 
     delay MIDDLE MOST BEFORE
 
-The first two are of the delays: how many frames it had given from the last frame of a piece on, as it was handed that piece. The last
-one is how many frames it had given and was not handed yet, in the middle of the hundred.
+The first two are of the delays: how many frames it had given from the last frame of a piece on, as it was handed that piece. The
+last one is how many frames it had given and was not handed yet, in the middle of the hundred.
 """
 
 import os
@@ -47,7 +47,7 @@ class LightCard(card_program.Card):
             self.tell("nobody gives")
             self.ended = True
         self.taken += len(piece)
-        # the last whole frame: a part of one may come behind it
+        # the last whole frame: a part of one may come after it
         end = len(piece) - self.taken % self.width
         if end >= self.width:
             self.look_at(*struct.unpack_from(">I", piece, end - self.width))

@@ -1,5 +1,5 @@
-"""Sound that is lost, for tools/check-details: sinks, sources and servers that stand still. What a tool tells of lost frames must be the
-number of frames that are missing in what was recorded, or in what the device has handed out."""
+"""Sound that is lost, for tools/check-details: sinks, sources and servers that stand still. What a tool tells of lost frames must
+be the number of frames that are missing in what was recorded, or in what the device has handed out."""
 
 import os
 import re

@@ -1,10 +1,11 @@
-"""Sound that clients play and record on, the processor time of a server, and the machine: what tools/bench-server and tools/bench-cards
-share."""
+"""Sound that clients play and record on, the processor time of a server, and the machine: what tools/bench-server and
+tools/bench-cards share."""
 
 import multiprocessing
 import os
 import re
 import select
+import threading
 import time
 from dataclasses import dataclass
 
@@ -42,10 +43,11 @@ class Sound:
 
 
 class Clients:
-    """Clients that go on, in a process of their own, each with a link. They take turns with so many devices. Used with `with`, all of
-    them have begun, and they are ended at the end."""
+    """Clients that go on, in a process of their own, each with a link. They take turns with so many devices. Used with `with`,
+    all of them have begun, and they are ended at the end."""
 
     def __init__(self, server, sound, clients, devices=1):
+        self.sound, self.clients = sound, clients
         self.began = multiprocessing.Event()
         # how many blocks were played or recorded, and how many were played too late
         self.blocks, self.late = (multiprocessing.Value("Q", 0, lock=False) for _ in range(2))
@@ -71,10 +73,14 @@ class Clients:
     def go_on(self):
         return self.process.is_alive()
 
+    def played(self):
+        """How many seconds of sound each of them has played or recorded."""
+        return self.blocks.value / self.clients / self.sound.often
+
 
 class Players(Clients):
-    """Clients that play on: each sends a block of sound as often as the sound says, half a second ahead. They take turns, so that they do
-    not all send at once."""
+    """Clients that play on: each sends a block of sound as often as the sound says, half a second ahead. They take turns, so that
+    they do not all send at once."""
 
     def go(self, address, sound, clients, devices):
         links = self.links(address, sound, clients, devices)
@@ -112,6 +118,30 @@ class Recorders(Clients):
         moments[link] = (moments[link] + sound.frames()) % WORD
 
 
+class Flooders(Clients):
+    """Clients that flood: each asks for recorded sound as fast as it is served, and takes all of it."""
+
+    # a Record of the most bytes, as often as one read of a server has it
+    MOST_BYTES, REQUESTS_A_READ = 16000, 1024
+
+    def go(self, address, sound, clients, devices):
+        links = self.links(address, sound, clients, devices)
+        for link, now in links:
+            record = request("Record", context=1, time=(now - self.MOST_BYTES) % WORD, count=self.MOST_BYTES)
+            threading.Thread(target=self.ask, args=(link, self.REQUESTS_A_READ * record), daemon=True).start()
+        room, reply = bytearray(1 << 20), 16 + self.MOST_BYTES
+        while True:
+            for link in select.select([link for link, _ in links], [], [])[0]:
+                taken = link.recv_into(room)
+                self.blocks.value += taken // reply
+                self.began.set()
+
+    def ask(self, link, requests):
+        link.settimeout(None)
+        while True:
+            link.sendall(requests)
+
+
 def processor_seconds(server):
     total = 0
     for thread in server.threads():
@@ -134,3 +164,24 @@ def other_work():
 def day_and_machine():
     """The day, the machine, and what else runs on it."""
     return "On %s: %s. %s." % (time.strftime("%Y-%m-%d"), machine(), other_work())
+
+
+def busy_seconds():
+    """How long all processors were busy since the machine began, and how long with this program and those that it began and that
+    ended."""
+    with open("/proc/stat") as file:
+        user, nice, system, _, _, *interrupts = map(int, file.readline().split()[1:9])
+    own = os.times()
+    return (user + nice + system + sum(interrupts)) / os.sysconf("SC_CLK_TCK"), sum(own[:4])
+
+
+class Beside:
+    """What else runs on the machine from now on."""
+
+    def __init__(self):
+        self.began, self.busy = time.monotonic(), busy_seconds()
+
+    def told(self):
+        every, own = (now - then for now, then in zip(busy_seconds(), self.busy))
+        took = os.cpu_count() * (time.monotonic() - self.began)
+        return "Meanwhile other work took %.0f %% of the time of all processors." % (100 * max(0.0, every - own) / took)

@@ -1,9 +1,10 @@
 """The recipes of a page: its blocks of commands, what the page says they print, and what a comment in its source says of them.
 
-In markdown a block is set in by four blanks, or stands between fences. In mdoc it is a literal display, or lines of `.Dl`. A line that
-begins with `$ ` is a command, and the lines after it are what it prints. Where no line of markdown does, the whole block is commands,
-and comments that begin with `# prints` say what the commands before them print. `cat FILE` shows a file that the recipe needs. A block
-whose lines all state devices is a configuration, which has to be read without a fault; no server is started with it.
+In markdown a block is set in by four blanks, or stands between fences. In mdoc it is a literal display, or lines of `.Dl`. A line
+that begins with `$ ` is a command, and the lines after it are what it prints. Where no line of markdown does, the whole block is
+commands, and comments that begin with `# prints` say what the commands before them print. `cat FILE` shows a file that the recipe
+needs. A block whose lines all state devices is a configuration, which has to be read without a fault; no server is started with
+it.
 
 A comment directly before a block, `<!-- .. -->` in markdown and `.\\" ..` in mdoc, says more:
 

@@ -1,5 +1,5 @@
-"""A program of contrib/ for a telephone line, as the server runs it, and a terminal of a script's own: what the trials of tools/try-phone
-for a person and for a modem share."""
+"""A program of contrib/ for a telephone line, as the server runs it, and a terminal of a script's own: what the trials of
+tools/try-phone for a person and for a modem share."""
 
 import os
 import pty

@@ -1,5 +1,5 @@
-"""Trials of tools/try-phone: the program for baresip, which another baresip calls over the loopback, alone and then before the answering
-machine of a real server. Where baresip is not installed they are passed over."""
+"""Trials of tools/try-phone: the program for baresip, which another baresip calls over the loopback, alone and then before the
+answering machine of a real server. Where baresip is not installed they are passed over."""
 
 import json
 import os

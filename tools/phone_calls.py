@@ -1,5 +1,5 @@
-"""Trials of tools/try-phone: the answering machine at a line of the real server. What is greeted with and what is recorded is compared
-sample by sample with what the caller hears and says, and the hook with what it is to be."""
+"""Trials of tools/try-phone: the answering machine at a line of the real server. What is greeted with and what is recorded is
+compared sample by sample with what the caller hears and says, and the hook with what it is to be."""
 
 import contextlib
 import os
@@ -127,8 +127,8 @@ def two_calls(trial):
 
 
 def hangs_up_early(trial):
-    """A caller hangs up after the first ring, and the next one in the greeting. Rings count on, since nobody took the hook off: af(1)
-    says so. The machine ends its call as any other."""
+    """A caller hangs up after the first ring, and the next one in the greeting. Rings count on, since nobody took the hook off:
+    af(1) says so. The machine ends its call as any other."""
     phone = Phone("early", 0, 5)
     with telephone(trial, phone) as server, Machine(trial, server, 1, GREETING, MESSAGE) as machine:
         watcher = Watcher(server)

@@ -44,8 +44,8 @@ def is_ended(trial, server, phone, wrong, process, wrote):
 
 
 def wrong_lines(trial):
-    """Eight programs, each with another fault in a line. What came before is told, and what comes after it is lost. One of them does
-    not go by itself, and is killed."""
+    """Eight programs, each with another fault in a line. What came before is told, and what comes after it is lost. One of them
+    does not go by itself, and is killed."""
     phones = [Phone("wrong%d" % at, at, 1, *["stays"] * (at == 7)) for at in range(8)]
     with trial.serve(*8 * [SILENT_LINE], *phones) as server:
         watcher = Watcher(server, *range(8))
@@ -83,7 +83,7 @@ def pieces(trial):
 
 
 def told_the_hook(trial):
-    """A program that starts anew is told the hook as it is then. The hook is moved while none runs, too, and that is done."""
+    """A program that starts again is told the state of the hook. The hook can be moved also while none runs."""
     phone = Phone("anew", 0, 5)
     with trial.serve(SILENT_LINE, phone) as server:
         watcher = Watcher(server)
@@ -155,7 +155,7 @@ def cannot_start(trial):
 
 
 def configuration(trial):
-    """The configuration in contrib/, also in the words of its comments: the server takes each, and starts the program of the line."""
+    """The configuration in contrib/, and those in its comments: the server takes each, and starts the program of the line."""
     with open(os.path.join(CONTRIB, "answering-machine.conf")) as file:
         lines = [line.lstrip("# ") for line in file if line.lstrip("# ").startswith(("device ", "phone "))]
     devices, phones = ([line for line in lines if line.startswith(it)] for it in ("device ", "phone "))

@@ -1,5 +1,5 @@
-"""Trials of tools/try-phone: the program for a modem, over a terminal that speaks as a modem does, alone and then before the answering
-machine of a real server."""
+"""Trials of tools/try-phone: the program for a modem, over a terminal that speaks as a modem does, alone and then before the
+answering machine of a real server."""
 
 import os
 import termios
@@ -15,7 +15,7 @@ SETUP = "ATE0Q0V1&C1&D2S0=0"
 
 
 class FakeModem(Pty):
-    """A modem: it notes each command and answers it, by `answers` or else with OK. Until it is told not to, it repeats what it reads."""
+    """A modem: it notes each command and answers it, by `answers` or else with OK. Until told not to, it echoes what it reads."""
 
     def __init__(self, answers=()):
         self.commands, self.rest, self.answers, self.echoes = [], b"", {"": None, **dict(answers)}, True
@@ -79,8 +79,8 @@ def modem(trial):
 
 
 def modem_waits(trial):
-    """A modem says of a ring only that it is one: the line rings no more after eight seconds. A hook that is put on again does not wait
-    for the answer to the last one."""
+    """A modem says of a ring only that it is one: the line rings no more after eight seconds. A hook that is put on again does
+    not wait for the answer to the last one."""
     with FakeModem({"A": None}) as device, Line(trial.folder, MODEM, device.path) as line:
         line.hand("onhook")
         trial.holds("it is set up", line.says("ring off", "loop off") and device.gets(SETUP, "ATH"))

@@ -2,9 +2,9 @@
 
     python3 phone.py NAME [OPTION ..]
 
-It writes what comes at the socket NAME.says in the folder in which it runs, byte for byte and each message at once. At an empty one it
-ends, and at one that says `flood` it writes digits without an end. With the option `stays` the first start reads nothing, and does not
-go at its end.
+It writes what comes at the socket NAME.says in the folder in which it runs, byte for byte and each message at once. At an empty
+one it ends, and at one that says `flood` it writes digits without an end. With the option `stays` the first start reads nothing,
+and does not go at its end.
 
 NAME.told.K has what the start K did, the first being 0, each with its moment: its process, the bytes that it gave in hexadecimal
 digits, each line that it was handed, and its end.

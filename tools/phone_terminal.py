@@ -1,4 +1,4 @@
-"""Trials of tools/try-phone: the telephone of a person at a terminal, alone and then before the answering machine of a real server."""
+"""Trials of tools/try-phone: the telephone of a person at a terminal, alone, and with the answering machine of a real server."""
 
 import os
 import signal

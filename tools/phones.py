@@ -1,4 +1,4 @@
-"""Telephone lines of a server, each with a program that stands for the exchange, and the answering machine: what the trials of
+"""Telephone lines of a server, each with a program that acts as the exchange, and the answering machine: what the trials of
 tools/try-phone share. The program is tools/phone_program.py."""
 
 import os
@@ -116,8 +116,8 @@ class Watcher(threading.Thread):
 
 
 def comes_back(trial, what, server, after):
-    """Whether a program was started again so many seconds after its end, which is a second. The clock of a server that had to wait goes
-    faster until it has caught up."""
+    """Whether a program was started again so many seconds after its end, which is a second. The clock of a server that had to
+    wait goes faster until it has caught up."""
     fits = 0.97 - min(waited(server.process.pid), 0.5) <= after <= 1 + 2 * LATE
     trial.holds("%s: it is started again after a second: %.3f s" % (what, after), fits)
 
@@ -134,8 +134,8 @@ def noise(seed, frames):
 
 
 class Machine:
-    """`af answer` at the line of device 0, as it waits for rings. Its commands are run in the folder of the server. Used with `with`, it is
-    ended at the end."""
+    """`af answer` at the line of device 0, as it waits for rings. Its commands are run in the folder of the server. Used with
+    `with`, it is ended at the end."""
 
     def __init__(self, trial, server, calls, greeting, message, *words):
         environment = {**os.environ, "AF": trial.af, "SERVER": server.address}

@@ -1,4 +1,4 @@
-"""A picture of a device's time line: who played what from when to when, and what was heard. As an SVG, and in letters for a terminal."""
+"""A picture of a device's time line: who played what and when, and what was heard. As an SVG, and in letters for a terminal."""
 
 import dataclasses
 
@@ -9,8 +9,8 @@ LEVELS = " ▁▂▃▄▅▆▇█"
 
 @dataclasses.dataclass
 class Lane:
-    """A row: samples of 16 bits, the first of them at a frame of the picture. Those of `hidden`, two frames, were replaced. A mark is a
-    frame, and what happened there."""
+    """A row: samples of 16 bits, the first of them at a frame of the picture. Those of `hidden`, two frames, were replaced. A
+    mark is a frame, and what happened there."""
 
     name: str
     note: str
@@ -31,8 +31,8 @@ class Lane:
 
 @dataclasses.dataclass
 class TimeLine:
-    """Lanes of so many frames, the first of them at a device time, and what was heard in each part of it: first frame, last frame, and
-    who."""
+    """Lanes of so many frames, the first of them at a device time, and what was heard in each part of it: first frame, last
+    frame, and who."""
 
     title: str
     note: str

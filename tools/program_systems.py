@@ -1,4 +1,4 @@
-"""Trials of tools/try-programs over MPD, PulseAudio and PipeWire, where these are installed, and over what stands in contrib/ for them."""
+"""Trials of tools/try-programs over MPD, PulseAudio and PipeWire, if these are installed, by their files in contrib/."""
 
 import contextlib
 import os
@@ -51,7 +51,7 @@ def mpd(trial):
 
 
 def passes_on(trial, passes, plays, octets, *devices, before=()):
-    """Whether what a program plays is heard by a command that passes it on. The answer is what the device that is stated captures."""
+    """Whether what a program plays is heard by a command that passes it on. The answer is what the stated device captures."""
     recorded = os.path.join(trial.folder, "recorded")
     with trial.serving("device lin16 %d 0 stereo files /dev/null heard" % DESKTOP_RATE, *devices, before=before) as server:
         with contextlib.ExitStack() as ended:
@@ -123,8 +123,8 @@ def pipewire(trial):
 
 
 def monitor(trial):
-    """A device whose files are one FIFO, with a tenth of a second of silence in it, as afd(8) has it. What one client plays, another
-    records that much later, also where the server stands still meanwhile."""
+    """A device whose files are one FIFO, with a tenth of a second of silence in it, as afd(8) has it. What one client plays,
+    another records that much later, also where the server stands still meanwhile."""
     rate, late = 44100, 4410
     os.mkfifo(os.path.join(trial.folder, "loop"))
     before = ["sh", "-c", 'exec 3<>loop; head -c %d /dev/zero >&3; exec "$@"' % (2 * late), "sh"]

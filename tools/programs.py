@@ -1,5 +1,5 @@
-"""Programs of others that play to the real server and record from it, and how sound is compared: what the trials of tools/try-programs
-share."""
+"""Programs of others that play to the real server and record from it, and how sound is compared: what the trials of
+tools/try-programs share."""
 
 import array
 import contextlib

@@ -1,10 +1,12 @@
-"""The prose of a page: its sentences with their lines, without commands, code and tables.
+"""The prose of a page: its sentences with their lines, without commands, code and tables. Of a source file it is the comments.
 
-A sentence ends at a full stop, a colon or a semicolon. What stands between backticks, or is a literal of mdoc, is the name of something in
-code. It counts as words of its sentence, but its words are not the page's own.
+A sentence ends at a full stop, a colon or a semicolon. What stands between backticks, or is a literal of mdoc, is the name of
+something in code. It counts as words of its sentence, but its words are not the page's own. Nor is a path such as `link.behind`.
 """
 
+import io
 import re
+import tokenize
 from dataclasses import dataclass
 
 # macros of mdoc that end a sentence, and those whose arguments name something in code
@@ -12,7 +14,13 @@ ENDS = {"Sh", "Ss", "Pp", "It", "Bl", "El", "Bd", "Ed", "Dd", "Dt", "Os", "Nd", 
 NAMES = {"Cm", "Li", "Ql", "Fl", "Ar", "Ic", "Pa", "Ev", "Dv", "Nm", "Xr", "Sx", "Op", "Pq"}
 INLINE = NAMES | {"Ns", "No", "Em", "Sy", "Oo", "Oc", "Pf"}
 END = re.compile(r"[.!?:;](?=[)\"'*]*(\s|$))")
-NAMED = re.compile(r"`[^`]*`")
+NAMED = re.compile(r"`[^`]*`|\b\w+(?:(?:\.|::)\w+)+")
+# what begins a comment in code, in definitions and proofs, and in a must-fail edit; in all other files it is #
+MARKS = {"rt": "//[/!]?", "antt": "--", "lua": "--", "edit": "# wrong:"}
+SET_IN = " " * 4
+LITERAL = re.compile(r'"(?:[^"\\]|\\.)*"')
+# the tokens of Python after which a string stands alone
+STARTS = {None, tokenize.NEWLINE, tokenize.INDENT}
 ABBREVIATED = re.compile(r"\b(e\.g|i\.e|vs|St)\.(?=\s)")
 
 
@@ -93,26 +101,62 @@ def mdoc_pieces(lines: list[str]) -> list[Piece]:
     return found
 
 
-def comment_pieces(lines: list[str]) -> list[Piece]:
-    """The doc comments of a source file."""
-    found, is_open = [], False
-    for at, line in enumerate(lines, 1):
-        comment = re.match(r"\s*//[/!] ?(.*)", line)
-        if not comment or not comment[1].strip():
-            is_open = False
-        elif is_open:
-            found[-1].text += "\n" + comment[1]
-        else:
-            found.append(Piece(at, comment[1]))
-            is_open = True
+def comment_lines(name: str, text: str) -> list[tuple[int, str, str]]:
+    """The comments of a source file, line by line: the line, the mark that begins the comment, and what follows it. A comment
+    after code has no mark."""
+    mark = MARKS.get(name.rpartition(".")[2], "#")
+    if mark == "#" and text.startswith(("#!/usr/bin/env python3", '"""')):
+        return python_lines(text)
+    alone, after_code = re.compile(r"\s*(%s)(?:\s(.*))?$" % mark), re.compile(r"\s(%s)\s(.*)$" % mark)
+    found = [(at, alone.match(line) or after_code.search(LITERAL.sub(blank, line))) for at, line in enumerate(text.split("\n"), 1)]
+    return [(at, it[1] if it.re is alone else "", prose_of(it[2] or "")) for at, it in found if it]
+
+
+def python_lines(text: str) -> list[tuple[int, str, str]]:
+    """The comments and the doc strings of a script in Python."""
+    found, before = [], None
+    for token in tokenize.generate_tokens(io.StringIO(text).readline):
+        if token.type == tokenize.COMMENT and not token.string.startswith("#!"):
+            found.append((token.start[0], "#" if token.line.lstrip().startswith("#") else "", prose_of(token.string[2:])))
+        elif token.type == tokenize.STRING and before in STARTS and token.string.startswith('"""'):
+            code = " " * token.start[1] + SET_IN
+            found += [(token.start[0] + at, '"', "" if line.startswith(code) else line.strip())
+                      for at, line in enumerate(token.string.strip('"').split("\n"))]
+        before = before if token.type in (tokenize.COMMENT, tokenize.NL) else token.type
     return found
+
+
+def prose_of(words: str) -> str:
+    """What a line of a comment says. One that is set in is code, and says nothing."""
+    return "" if words.startswith(SET_IN) else words.strip()
+
+
+def blank(it: re.Match) -> str:
+    return " " * len(it[0])
+
+
+def comment_pieces(name: str, text: str) -> list[Piece]:
+    """The comments of a source file. One of them goes on over lines that begin with the same mark."""
+    found, last, last_mark = [], 0, ""
+    for at, mark, words in comment_lines(name, text):
+        if found and at == last + 1 and mark and mark == last_mark and words:
+            found[-1].text += "\n" + words
+        elif words:
+            found.append(Piece(at, words))
+        last, last_mark = at if words else 0, mark
+    return found
+
+
+def is_page(name: str) -> bool:
+    """Whether a file is a page in markdown or a manual page in mdoc, and no source."""
+    return name.endswith((".md", ".1", ".5", ".7", ".8"))
 
 
 def sentences(page: str, text: str) -> list[Sentence]:
     """The sentences of a page or of a source file, in order."""
     lines = text.split("\n")
-    read = markdown_pieces if page.endswith(".md") else comment_pieces if page.endswith(".rt") else mdoc_pieces
-    return [one for piece in read(lines) for one in split(page, piece)]
+    pieces = comment_pieces(page, text) if not is_page(page) else markdown_pieces(lines) if page.endswith(".md") else mdoc_pieces(lines)
+    return [one for piece in pieces for one in split(page, piece)]
 
 
 def split(page: str, piece: Piece) -> list[Sentence]:

@@ -1,7 +1,7 @@
-"""Runs a recipe of a page in a shell and a fresh folder, and says what is not as the page says: what tools/try-pages does with each.
+"""Runs a recipe of a page in a shell and a fresh folder, and says what differs from the page, as tools/try-pages does.
 
-The folder is a small tree: the programs, and links to what the pages name. It has some sound files too, for those that the pages call
-yours. Addresses of the loopback get ports that are free. What a recipe leaves running is ended, and is a fault of the page.
+The folder is a small tree: the programs, and links to what the pages name. It has some sound files too, for those that the pages
+call yours. Addresses of the loopback get ports that are free. What a recipe leaves running is ended, and is a fault of the page.
 """
 
 import math
@@ -141,7 +141,7 @@ class Run:
         return path
 
     def lines(self):
-        """The script: after each step a line with its status. A file that the page shows is copied where the recipe is by then."""
+        """The script: after each step a line with its status. A file that the page shows is copied to its place by then."""
         for number, step in enumerate(self.recipe.all_steps()):
             text = self.placed(step.text)
             if step.file:

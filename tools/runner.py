@@ -1,4 +1,4 @@
-"""Runs trials some at a time, each in a process of its own and within its time: what tools/try-cards and tools/try-phone share."""
+"""Runs some trials at a time, each in its own process and within its time. tools/try-cards and tools/try-phone share this."""
 
 import contextlib
 import multiprocessing
@@ -39,17 +39,17 @@ def is_never(_):
 
 
 class Runner:
-    """Runs the trials of a tool. Each is handed what `makes` makes of its name and the programs. All of them may take so many seconds,
-    and each so many. One that `is_repeated` is tried again after every fault. One whose server and clients waited for a processor for
-    the seconds of `excused` shows nothing."""
+    """Runs the trials of a tool. Each is handed what `makes` makes of its name and the programs. All of them may take so many
+    seconds, and each so many. One that `is_repeated` is tried again after every fault. One whose server and clients waited for a
+    processor for the seconds of `excused` shows nothing."""
 
     def __init__(self, tool, makes, most_time, most_of_one, is_repeated=is_never, excused=STARVED, at_once=AT_ONCE):
         self.tool, self.makes, self.most_time, self.most_of_one = tool, makes, most_time, most_of_one
         self.is_repeated, self.excused, self.at_once = is_repeated, excused, at_once
 
     def tried(self, afd, af, seconds, trial):
-        """Runs a trial: how many things were tried, and how many were not so. Where the machine let them wait, it is tried again: one
-        try of three without a fault shows the server."""
+        """Runs a trial: how many things were tried, and how many were not so. Where the machine let them wait, it is tried again:
+        one try of three without a fault shows the server."""
         begun = time.monotonic()
         for attempt in range(3):
             run = self.tried_once(afd, af, seconds, trial)

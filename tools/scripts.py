@@ -39,7 +39,7 @@ class Device:
 
 @dataclass(frozen=True)
 class Step:
-    """A step: its word, the link or the device that it names, and what stands behind: a number, bytes or a word."""
+    """A step: its word, the link or the device that it names, and what follows: a number, bytes or a word."""
 
     name: str
     of: int = 0
@@ -79,7 +79,7 @@ def one_of(word, words):
 
 
 def device(words):
-    """The device that the words behind `device` state."""
+    """The device that the words after `device` state."""
     kind, rate, start, *rest = words
     channels = 2 if rest[:1] == ["stereo"] else 1
     line = rest[channels - 1:]

@@ -129,7 +129,7 @@ def free_port():
 
 
 class Server:
-    """A server on the loopback with these devices, in a folder that its files stand in. Used with `with`, it is ended at the end."""
+    """A server on the loopback with these devices, in the folder of its files. Used with `with`, it is ended at the end."""
 
     def __init__(self, afd, folder, devices, before=(), patience=20):
         self.start([*before, afd], folder, folder, devices, patience)
@@ -203,16 +203,17 @@ class Server:
 
 
 class TriedServer(Server):
-    """A server before any proof: `rt try` compiles it in half a minute and more, and runs it with checks, so many seconds at most. It
-    runs in a folder that is not this one, so the files of its devices are named in full."""
+    """A server before any proof: `rt try` compiles it in half a minute and more, and runs it with checks, so many seconds at
+    most. It runs in a folder that is not this one, so the files of its devices are named in full."""
 
     def __init__(self, folder, devices, seconds):
         self.start(["rt", "try", "--seconds", str(seconds), "--"], os.path.join(ROOT, "crates", "afd"), folder, devices, 600)
 
 
 class Tap:
-    """A server that passes on what one client and a server say to each other, and notes what the client says. It holds that up once,
-    for half a second behind so many bytes, if they are stated. If it turns, the server has a link of the other byte order."""
+    """A server that passes on what one client and a server send each other, and notes what the client sends. If a number of bytes
+    is stated, it holds the client up once, for half a second after so many. If it turns, the server has a link of the other byte
+    order."""
 
     def __init__(self, address, held_behind=None, turns=False):
         self.server, self.held_behind = connect(address), held_behind

@@ -15,7 +15,7 @@ class Refused(Exception):
 
 
 def front(octets, count):
-    """The first bytes, and what stands behind them."""
+    """The first bytes, and what comes after them."""
     if len(octets) < count:
         raise Refused(CUT)
     return octets[:count], octets[count:]
@@ -83,7 +83,7 @@ def chunk(name, octets):
 
 
 def wave(tag, bits, sound, rate=8000, channels=1, size=None, before=b"", behind=b"", pad=b""):
-    """A WAVE file, with chunks before its format and between that and the sound, and a byte behind that."""
+    """A WAVE file, with chunks before its format and between that and the sound, and a byte after that."""
     size = len(sound) if size is None else size
     width = channels * bits // 8
     form = chunk(b"fmt ", struct.pack("<HHIIHH", tag, channels, rate, rate * width, width, bits))
@@ -145,7 +145,7 @@ def whole_files():
 
 
 def files():
-    """Files by a name: whole ones, each cut of some, and some with single bytes of the head changed."""
+    """Files by a name: whole ones, each cut of some, and some with single bytes of the header changed."""
     yield from whole_files()
     for form, whole in WHOLE.items():
         first = whole["mu-law" if form == "au" else "chunks of odd sizes"]

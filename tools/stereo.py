@@ -1,5 +1,5 @@
-"""Two channels on the real server, by a client that sends its own requests: trials of try-server. What devices hand out and capture
-is compared with what was played and with what a file has, sample by sample of each channel."""
+"""Two channels on the real server, by a client that sends its own requests: trials of try-server. What devices hand out and
+capture is compared with what was played and with what a file has, sample by sample of each channel."""
 
 import random
 import struct
@@ -39,7 +39,7 @@ class Stereo:
         self.link.close()
 
     def play(self, octets):
-        """Plays as far ahead as the tools do, and gives the time of the first frame. Behind the last reply all is accepted."""
+        """Plays as far ahead as the tools do, and gives the time of the first frame. After the last reply all is accepted."""
         begun = moment = (asked_time(self.link, self.device) + LEAD * RATE // 1000) % WORD
         block = MOST_DATA // self.frame * self.frame
         for at in range(0, len(octets), block):
@@ -86,8 +86,8 @@ def heard(server, name, start, frame, at, frames):
 
 
 def is_heard(trial):
-    """Two clients play at once, past the wrap of the time: each channel has its own sums. Beside it a device of mu-law with a line,
-    to which linear samples are played, and one of one channel, which stays silent."""
+    """Two clients play at once, past the wrap of the time: each channel has its own sums. Beside it a device of mu-law with a
+    line, to which linear samples are played, and one of one channel, which stays silent."""
     begun = WORD - 3 * RATE
     devices = ["device lin16 8000 %d stereo files /dev/null out" % begun, "device mu255 8000 7 stereo line files /dev/null coded",
                "device lin16 8000 0 files /dev/null single"]
@@ -111,7 +111,7 @@ def is_heard(trial):
 
 
 def is_recorded(trial):
-    """What a file has is recorded frame by frame, as linear samples of a file of mu-law too, and silence behind its end."""
+    """What a file has is recorded frame by frame, also as linear samples from a file of mu-law, and then silence."""
     folder = trial.folder_of("stereo-in")
     given = noise(14, 4 * RATE)
     octets = random.Random(15).randbytes(2 * RATE)

@@ -1,4 +1,4 @@
-"""A server that stands still for twenty seconds beside tools that play and record, which lose no sample; and one that has no place left."""
+"""A server that stops for twenty seconds beside tools that play and record: they lose no sample. And one without a free place."""
 
 import os
 import random

@@ -1,5 +1,6 @@
-"""Programs that stand still as the codec of a device, for tools/try-codec: one that is stopped, one that plays in real time beside a
-server that stood still, and one that reads a byte a second. None of them holds up another device, or a relay to its own."""
+"""Programs that stand still as the codec of a device, for tools/try-codec: one that is stopped, one that plays in real time
+beside a server that stood still, and one that reads a byte a second. None of them holds up another device, or a relay to its
+own."""
 
 import os
 import signal
@@ -96,7 +97,7 @@ PROGRAMS = (
 
 
 def watched(trial, name, text, disturbs):
-    """Watches a program behind a codec, and what goes on beside it."""
+    """Watches the program of a codec, and what goes on beside it."""
     folder = tempfile.mkdtemp(dir=trial.folder)
     trial.file(folder, "program.py", text.encode())
     codec = "device mu255 8000 0 codec 100 %s program.py" % sys.executable

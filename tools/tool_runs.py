@@ -1,6 +1,6 @@
-"""The runs of `af` that tools/check-af makes: those of tests/tools (tests/README.md says how they are written) with those where each
-call in turn fails, those with sound files, which come to what sound_files.py says, and some with what is no bytes: a folder as standard
-input, a full device."""
+"""The runs of `af` that tools/check-af makes: those of tests/tools (tests/README.md says how they are written) with those where
+each call in turn fails, those with sound files, which come to what sound_files.py says, and some with what is no bytes: a folder
+as standard input, a full device."""
 
 import os
 import struct
@@ -30,8 +30,8 @@ class BadRun(Exception):
 
 @dataclass
 class Peer:
-    """A server: what it gives, what it is to be sent, or None where it is not to be dialled, and whether it resets its link then.
-    Where turns are stated it gives each its answer, a list of pairs, and ends or resets its link behind the last."""
+    """A server: what it gives; what it is to be sent, or None if it is not to be dialled; and whether it resets its link then. If
+    turns are stated, a list of pairs, it gives each its answer, and ends or resets its link after the last."""
 
     gives: bytes = b""
     sent: bytes | None = None
@@ -41,8 +41,9 @@ class Peer:
 
 @dataclass
 class Run:
-    """A run of the program, and what it is to come to. Where it is cut off, servers may be sent less. Where a number of kibibytes is
-    stated, it may take only so much memory. Its output may be a file with room for so many bytes, and its source may break off."""
+    """A run of the program, and what it is to come to. Where it is cut off, servers may be sent less. Where a number of kibibytes
+    is stated, it may take only so much memory. Its output may be a file with room for so many bytes, and its source may break
+    off."""
 
     name: str
     words: list
@@ -129,8 +130,8 @@ def recorded(replies):
 
 
 def written(run, replies):
-    """How many bytes are written behind these replies. A list has a line for each device whose time is told. A sound file has a head,
-    which is written when the time is told, and may have a byte behind the last block."""
+    """How many bytes are written after these replies. A list has a line for each device once its time is known. A sound file has
+    a header, which is written once the time is known, and may have a pad byte after the last block."""
     if run.words[0] == "list":
         told = sum(reply.name == "GetTime" for reply in replies)
         return sum(len(line) for line in run.output.splitlines(keepends=True)[:told])
@@ -144,8 +145,8 @@ def written(run, replies):
 
 
 def failing_links(run):
-    """The runs in which each write to a link in turn fails, and each read of it fails or meets the end, at once or in the middle of a
-    reply. A write fails at the latest when its reply is read."""
+    """The runs in which each write to a link in turn fails, and each read of it fails or meets the end, at once or in the middle
+    of a reply. A write fails at the latest when its reply is read."""
     for word, peer in run.peers.items():
         turns = [(request.octets, reply.octets) for request, reply in zip(*items_of(peer.sent, peer.gives))] if peer.sent else []
         for at, (request, reply) in enumerate(turns):
@@ -157,8 +158,8 @@ def failing_links(run):
 
 
 def failing_link(run, word, turns, resets, how):
-    """The run whose link ends or is reset behind these turns. The other server may be sent less; if the first one never was set up,
-    it is not dialled."""
+    """The run whose link ends or is reset after these turns. The other server may be sent less; if the first one never was set
+    up, it is not dialled."""
     sent, given = (b"".join(each) for each in zip(*turns)) if turns else (b"", b"")
     whole = items_of(sent, given)[1]
     peers = {**run.peers, word: Peer(given, sent, resets, turns)}
@@ -170,8 +171,8 @@ def failing_link(run, word, turns, resets, how):
 
 
 def failing_source(run):
-    """The runs whose source fails behind each of its bytes: the blocks that were whole by then were played, and no more is sent. Until the
-    first is whole the time is not asked for."""
+    """The runs whose source fails after each of its bytes: the blocks that were whole by then were played, and no more is sent.
+    Until the first is whole the time is not asked for."""
     requests = requests_of(run.peers["SERVER"])
     plays = [len(request.data) for request in requests if request.name == "Play"]
     first = next(at for at, request in enumerate(requests) if request.name == "Play")
@@ -185,8 +186,8 @@ def failing_source(run):
 
 
 def failing_sink(run):
-    """The runs whose sink has room for fewer bytes than are written. A record asks for no more behind the block that finds none, and a
-    list for none behind the line."""
+    """The runs whose sink has room for fewer bytes than are written. A record asks for no more after the block that finds none,
+    and a list for none after the line."""
     for room in range(len(run.output)):
         peers = run.peers
         if run.words[0] in ASKING_ON:
@@ -216,8 +217,8 @@ def outside_runs():
 
 
 def file_runs(device, files):
-    """Plays of sound files, which come to what tools/sound_files.py says that they mean. The device has 16-bit samples, 8000 frames a
-    second, and so many channels."""
+    """Plays of sound files, which come to what tools/sound_files.py says that they mean. The device has 16-bit samples, 8000
+    frames a second, and so many channels."""
     run = read_runs("a_play_without_options")[0]
     peer, other = run.peers["SERVER"], run.peers["OTHER"]
     *gives, play, free = [reply.octets for reply in replies_of(peer)]

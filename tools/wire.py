@@ -32,7 +32,7 @@ ERROR, REPLY, EVENT = 0, 1, 2
 
 @dataclass(frozen=True)
 class Layout:
-    """A request: what its detail is, and the fields behind its first word, in the letters of `struct`. Data may follow."""
+    """A request: what its detail is, and the fields after its first word, in the letters of `struct`. Data may follow."""
 
     name: str
     detail: str = ""
@@ -73,7 +73,7 @@ class Item:
     """Something that stands in one direction of a link.
 
     Its kind is `setup` or `request` (of a client), `reply`, `error` or `event` (of a server), `bad` (what is none of these: its
-    name says why, and nothing behind it is read) or `behind` (bytes behind something bad). The number of a request is its place
+    name says why, and nothing after it is read) or `behind` (bytes after something bad). The number of a request is its place
     on the link, that of a message the request that it states.
     """
 
@@ -188,8 +188,8 @@ class Side:
 
 
 class ClientSide(Side):
-    """What a client sends: a setup, which states the order, and then requests, which are numbered from 1 on. The order is that of the
-    answers too: also where the setup has another version, and big-endian where it is none."""
+    """What a client sends: a setup, which states the order, and then requests, which are numbered from 1 on. The order is that of
+    the answers too: also where the setup has another version, and big-endian where it is none."""
 
     def __init__(self):
         super().__init__(BIG)
@@ -237,8 +237,8 @@ class ClientSide(Side):
 
 
 class ServerSide(Side):
-    """What a server sends: messages, read as strictly as a client reads them. The order is that of the setup. Where none is given, it
-    is the one in which the first message has a head: the length of an answer to a setup tells."""
+    """What a server sends: messages, read as strictly as a client reads them. The byte order is that of the setup. If none
+    is given, it is the one in which the first message has a header: the length of an answer to a setup tells."""
 
     def __init__(self, order=None):
         super().__init__(order)
@@ -305,7 +305,7 @@ class ServerSide(Side):
 
 
 def order_of(octets):
-    """The order in which bytes begin with the head of a message. Where both would do, or none, it is big-endian."""
+    """The byte order in which bytes begin with the header of a message. If both would do, or none, it is big-endian."""
     for order in ORDERS.values():
         kind, detail, _, words = struct.unpack_from(order + HEAD, octets)
         if is_head(kind, detail, words):
@@ -314,7 +314,7 @@ def order_of(octets):
 
 
 def is_head(kind, detail, words):
-    """Whether a client takes these for the head of a message."""
+    """Whether a client accepts these as the header of a message."""
     if kind == ERROR:
         return detail in ERRORS and words == 2
     if kind == EVENT:

@@ -89,7 +89,7 @@ class Contexts:
             self.known.pop(fields["context"], None)
 
     def of(self, item):
-        """The context that a request names. Of one that is not known, or named by no request, only the device of the request is known."""
+        """The context that a request names. If it is unknown, or there is none, only the device of the request is known."""
         return self.known.get(item.fields.get("context"), Context(item.fields.get("device")))
 
 

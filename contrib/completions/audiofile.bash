@@ -4,7 +4,7 @@ _audiofile() {
     local program=${1##*/} word=${COMP_WORDS[COMP_CWORD]} before=${COMP_WORDS[COMP_CWORD - 1]}
     local words='' option='' start='' each index
 
-    # behind < and > a file is meant: sound is read from standard input, and written to standard output
+    # after < and > a file is meant: sound is read from standard input, and written to standard output
     if [[ $word == *[\<\>] || $before == *[\<\>\|] ]]; then
         compopt -o default
         return
@@ -41,7 +41,7 @@ _audiofile() {
         ;;
     esac
 
-    # the value of an option stands behind =, which is a word of its own unless COMP_WORDBREAKS lacks it, or is the next word
+    # the value of an option comes after =, which is a word of its own unless COMP_WORDBREAKS lacks it, or is the next word
     if [[ $word == = ]]; then
         option=$before word=''
     elif [[ $before == = ]]; then
@@ -64,7 +64,7 @@ _audiofile() {
         return
     fi
 
-    # each option is given at most once, and none behind --
+    # each option is given at most once, and none after --
     for ((index = 2; index < ${#COMP_WORDS[@]}; index++)); do
         ((index == COMP_CWORD)) && continue
         if [[ ${COMP_WORDS[index]} == -- ]] && ((index < COMP_CWORD)); then

@@ -28,18 +28,13 @@ import subprocess
 import tempfile
 import time
 
-from serving import GET_TIME, SETUP, received, reset
+from serving import GET_TIME, SETUP, free_port, received, reset
 
 # how long something that is to happen may take, in seconds
 LONGEST = 20
 ENVIRONMENT = {"AUDIOFILE_DETAILS": "1"}
 TAKER = "#!/bin/sh\nexec cat > /dev/null\n"
 CLIENT = re.compile(rb"(connection \d+ from 127\.0\.0\.1:)\d+")
-
-
-def free_port():
-    with socket.create_server(("127.0.0.1", 0)) as listener:
-        return listener.getsockname()[1]
 
 
 class Session:

@@ -21,6 +21,8 @@ SETUP = setup()
 GET_TIME = request("GetTime")
 WORD = 1 << 32
 HALF = 1 << 31
+# how often a server is started at another port, where it does not listen at the first
+TIMES_TRIED = 3
 
 
 def proved(name):
@@ -123,8 +125,11 @@ def asked_time(link, device=0):
 
 
 def free_port():
-    """A port of the loopback that nobody listens at."""
-    with socket.create_server(("127.0.0.1", 0)) as taken:
+    """A port of the loopback that nobody listens at. Nor does this: a program that another thread starts meanwhile holds all
+    files of this one for a moment, and would listen on."""
+    with socket.socket() as taken:
+        taken.setsockopt(socket.SOL_SOCKET, socket.SO_REUSEADDR, 1)
+        taken.bind(("127.0.0.1", 0))
         return taken.getsockname()[1]
 
 
@@ -135,7 +140,16 @@ class Server:
         self.start([*before, afd], folder, folder, devices, patience)
 
     def start(self, words, cwd, folder, devices, patience=20):
-        """Starts a program in a folder, and waits until it listens, so many seconds at most."""
+        """Starts a program in a folder, and waits until it listens, so many seconds at most. Another program may take a free port
+        before the server listens at it, so it is tried three times."""
+        for _ in range(TIMES_TRIED):
+            if self.starts(words, cwd, folder, devices, patience):
+                return
+        self.said.seek(0)
+        sys.exit("the server does not listen\n" + self.said.read().decode(errors="replace"))
+
+    def starts(self, words, cwd, folder, devices, patience):
+        """Starts it at a free port. Whether it listens."""
         self.address = "127.0.0.1:%d" % free_port()
         self.folder = folder
         self.said = tempfile.TemporaryFile()
@@ -151,8 +165,7 @@ class Server:
             raise
         if not listens:
             self.end()
-            self.said.seek(0)
-            sys.exit("the server does not listen\n" + self.said.read().decode(errors="replace"))
+        return listens
 
     def listens(self, patience):
         """Waits until it listens, so many seconds at most. Whether it does."""
@@ -160,7 +173,7 @@ class Server:
         while time.monotonic() - begun < patience and self.process.poll() is None:
             try:
                 connect(self.address).close()
-                return True
+                return self.process.poll() is None
             except OSError:
                 time.sleep(patience / 20000)
         return False

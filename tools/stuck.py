@@ -9,6 +9,7 @@ import sys
 import tempfile
 import threading
 import time
+from concurrent.futures import ThreadPoolExecutor
 
 from serving import Server, asked_time, set_up
 
@@ -112,7 +113,8 @@ def watched(trial, name, text, disturbs):
         longer = prober.end()
         trial.holds("%s keeps %.1f of 100 GetTimes of another device waiting" % (name, longer), longer <= MOST_LONGER)
         trial.holds("beside %s a relay stays in step: %s" % (name, said), said == b"passed %d resynced 0\n" % (WATCHED * 20))
-        trial.holds("the server runs beside %s, and says nothing" % name, server.end())
+        ended = [server.end(), far.end()]
+        trial.holds("the servers run beside %s, and say nothing: %s" % (name, ended), all(ended))
 
 
 def takes_all(trial):
@@ -134,9 +136,8 @@ def takes_all(trial):
 
 def all_watched(trial):
     """Watches all of them at once, each beside a server of its own."""
-    watchers = [threading.Thread(target=watched, args=(trial, *it)) for it in PROGRAMS]
-    watchers.append(threading.Thread(target=takes_all, args=(trial,)))
+    with ThreadPoolExecutor(len(PROGRAMS) + 1) as crowd:
+        watchers = [crowd.submit(watched, trial, *it) for it in PROGRAMS]
+        watchers.append(crowd.submit(takes_all, trial))
     for watcher in watchers:
-        watcher.start()
-    for watcher in watchers:
-        watcher.join()
+        watcher.result()

@@ -10,7 +10,7 @@
 local audiofile = Proto("audiofile", "AudioFile")
 
 audiofile.prefs.ports = Pref.range("TCP ports", "1701", "Ports of servers", 65535)
-audiofile.prefs.little = Pref.bool("Little-endian without a setup", false, "Whether numbers are so where a capture begins behind the setup")
+audiofile.prefs.little = Pref.bool("Little-endian without a setup", false, "Whether numbers are so where a capture begins after the setup")
 
 -- how a setup begins, and whether the numbers of its link are little-endian. Samples are big-endian on every link
 local ORDERS = { [0x41464200] = false, [0x41466c00] = true }

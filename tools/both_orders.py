@@ -33,19 +33,19 @@ def sounds(trial):
     first, second, third = tone(RATE, 440), tone(RATE, 523), tone(RATE // 2, 659)
     with Server(trial.afd, folder, ["device lin16 8000 %d files in out" % begun]) as server:
         at = int(trial.tool("aplay", server.address, "--lead=%d" % LEAD, IN_LITTLE).split()[3])
-        behind = (at + RATE) % WORD
+        after = (at + RATE) % WORD
         for samples, *words in ((in_bytes(first), IN_LITTLE), (in_bytes(second), IN_BIG)):
             said = trial.tool("aplay", server.address, "--time=%d" % at, *words, given=samples)
             trial.holds("what is played is told with %s: %s" % (words[0], said), said == b"played %d at %d\n" % (RATE, at))
         fine = struct.pack(">%di" % len(third), *(sample << 16 | 0xABCD for sample in third))
-        said = trial.tool("aplay", server.address, "--time=%d" % behind, "--type=lin32", IN_LITTLE, given=fine)
-        trial.holds("samples of 32 bits are played: %s" % said, said == b"played %d at %d\n" % (len(third), behind))
+        said = trial.tool("aplay", server.address, "--time=%d" % after, "--type=lin32", IN_LITTLE, given=fine)
+        trial.holds("samples of 32 bits are played: %s" % said, said == b"played %d at %d\n" % (len(third), after))
         moment = server.time()
         start = 2 * ((moment - begun) % WORD)
         for order in (IN_LITTLE, IN_BIG):
             recorded = trial.tool("arecord", server.address, "--frames=4000", "--time=%d" % moment, "--block=700", order)
             trial.holds("a recording with %s is what the file has" % order, recorded == given[start:start + 8000])
-        server.wait_until((behind + len(third)) % WORD)
+        server.wait_until((after + len(third)) % WORD)
         said = trial.tool("aset", server.address, "--output-gain=-6", "--input=off", IN_LITTLE)
         trial.holds("controls are set with %s" % IN_LITTLE, said == b"input off 0\noutput on -6\n")
         again = [trial.tool("aset", server.address, order) for order in (IN_LITTLE, IN_BIG)]

@@ -174,7 +174,7 @@ def ends_whole(trial, server, player, recorder):
         for process in programs(server.folder, name):
             os.kill(process, signal.SIGKILL)
         both = lambda: [*programs(server.folder, player), *programs(server.folder, recorder)]
-        trial.holds("behind %s all of the card ends" % name, wait_for(lambda: not set(before) & set(both()), 3))
+        trial.holds("after %s all of the card ends" % name, wait_for(lambda: not set(before) & set(both()), 3))
         trial.holds("and comes back: %s" % both(), wait_for(lambda: len(both()) == 2, 8))
 
 

@@ -32,17 +32,17 @@ def octets_stated(text):
     for line in text.split("\n"):
         if line.startswith("#"):
             continue
-        times, before, rising, behind = STATED.fullmatch(line).groups()
+        times, before, rising, after = STATED.fullmatch(line).groups()
         try:
-            before, rising, behind = (bytes.fromhex(digits or "") for digits in (before, rising, behind))
+            before, rising, after = (bytes.fromhex(digits or "") for digits in (before, rising, after))
         except ValueError:
             raise ValueError(line) from None
         if rising:
             first, past = int.from_bytes(rising, "big"), 1 << 8 * len(rising)
             for more in range(int(times or 1)):
-                stated += before, ((first + more) % past).to_bytes(len(rising), "big"), behind
+                stated += before, ((first + more) % past).to_bytes(len(rising), "big"), after
         else:
-            stated.append(int(times or 1) * (before + behind))
+            stated.append(int(times or 1) * (before + after))
     return b"".join(stated)
 
 
@@ -62,8 +62,8 @@ def cut(line, at):
     if line is None:
         return "no such line"
     first, last = max(0, at - AROUND), at + AROUND
-    before, behind = "... " if first else "", " ..." if last < len(line) else ""
-    return before + shown(line[first:last]) + behind
+    before, after = "... " if first else "", " ..." if last < len(line) else ""
+    return before + shown(line[first:last]) + after
 
 
 def shown(octets):

@@ -85,7 +85,7 @@ def links_fail(trial):
             trial.holds("who read nothing for seconds is told all", numbers == [(1 + at) % 65536 for at in range(asked)])
             deaf.close()
             late = guest(server)
-            trial.holds("there is a place again behind 31 links that were reset", late)
+            trial.holds("there is a place again after 31 links that were reset", late)
             if late:
                 late.close()
         honest.heard("links that are reset")
@@ -164,7 +164,7 @@ def is_cut(trial, server, device, given, path):
     os.truncate(path, 100)
     moment = server.time(device)
     recorded = trial.tool("arecord", server.address, *words, "--time=%d" % moment)
-    trial.holds("behind the cut of its input there is silence", recorded == SILENT * 400)
+    trial.holds("after the cut of its input there is silence", recorded == SILENT * 400)
 
 
 def pipe_loses_its_reader(trial, server, reader, path):

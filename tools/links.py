@@ -55,4 +55,4 @@ def in_other_order(sent, got):
 
 
 def well_formed(items):
-    return [item for item in items if item.kind not in ("bad", "behind")]
+    return [item for item in items if item.kind not in ("bad", "after")]

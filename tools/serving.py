@@ -228,8 +228,8 @@ class Tap:
     is stated, it holds the client up once, for half a second after so many. If it turns, the server has a link of the other byte
     order."""
 
-    def __init__(self, address, held_behind=None, turns=False):
-        self.server, self.held_behind = connect(address), held_behind
+    def __init__(self, address, held_after=None, turns=False):
+        self.server, self.held_after = connect(address), held_after
         self.asked, self.answered = (ClientSide(), ServerSide()) if turns else (None, None)
         self.listener = socket.create_server(("127.0.0.1", 0))
         self.address = "127.0.0.1:%d" % self.listener.getsockname()[1]
@@ -247,8 +247,8 @@ class Tap:
                         return
                     (client if link is self.server else self.server).sendall(self.passed_on(piece, link is client))
                     self.noted += piece if link is client else b""
-                if self.held_behind and len(self.noted) >= self.held_behind:
-                    self.held_behind = None
+                if self.held_after and len(self.noted) >= self.held_after:
+                    self.held_after = None
                     time.sleep(0.5)
 
     def passed_on(self, piece, is_asked):

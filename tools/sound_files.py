@@ -21,7 +21,7 @@ def front(octets, count):
     return octets[:count], octets[count:]
 
 
-def behind_au_head(octets):
+def after_au_head(octets):
     name, octets = front(octets, 4)
     if name != b".snd":
         raise Refused(BAD)
@@ -33,7 +33,7 @@ def behind_au_head(octets):
     return AU_CODINGS[encoding], rate, channels, size, octets
 
 
-def behind_wave_head(octets):
+def after_wave_head(octets):
     names, octets = front(octets, 12)
     if names[:4] != b"RIFF" or names[8:] != b"WAVE":
         raise Refused(BAD)
@@ -58,7 +58,7 @@ def behind_wave_head(octets):
 
 def sound_of(form, octets):
     """The coding, the rate, the channels and the sound of a file."""
-    coding, rate, channels, size, sound = {"au": behind_au_head, "wave": behind_wave_head}[form](octets)
+    coding, rate, channels, size, sound = {"au": after_au_head, "wave": after_wave_head}[form](octets)
     return coding, rate, channels, sound if size == UNSTATED else sound[:size]
 
 
@@ -82,12 +82,12 @@ def chunk(name, octets):
     return name + struct.pack("<I", len(octets)) + octets + bytes(len(octets) % 2)
 
 
-def wave(tag, bits, sound, rate=8000, channels=1, size=None, before=b"", behind=b"", pad=b""):
+def wave(tag, bits, sound, rate=8000, channels=1, size=None, before=b"", after=b"", pad=b""):
     """A WAVE file, with chunks before its format and between that and the sound, and a byte after that."""
     size = len(sound) if size is None else size
     width = channels * bits // 8
     form = chunk(b"fmt ", struct.pack("<HHIIHH", tag, channels, rate, rate * width, width, bits))
-    rest = b"WAVE" + before + form + behind + b"data" + struct.pack("<I", size) + sound + pad
+    rest = b"WAVE" + before + form + after + b"data" + struct.pack("<I", size) + sound + pad
     return b"RIFF" + struct.pack("<I", len(rest)) + rest
 
 
@@ -125,13 +125,13 @@ WHOLE = {
         "8 bits": wave(1, 8, SOUND),
         "16 bits and two channels": wave(1, 16, SOUND, channels=2),
         "8 bits and two channels": wave(1, 8, SOUND, channels=2),
-        "chunks of odd sizes": wave(1, 16, SOUND, before=chunk(b"LIST", b"abc"), behind=chunk(b"fact", b"12345")),
+        "chunks of odd sizes": wave(1, 16, SOUND, before=chunk(b"LIST", b"abc"), after=chunk(b"fact", b"12345")),
         "no stated length": wave(1, 16, SOUND, size=UNSTATED),
         "a stated length of less": wave(1, 16, SOUND, size=3),
         "24 bits": wave(1, 24, SOUND),
         "floating point": wave(3, 32, SOUND),
         "extensible": wave(65534, 16, SOUND),
-        "two formats": wave(1, 16, SOUND, behind=chunk(b"fmt ", bytes(16))),
+        "two formats": wave(1, 16, SOUND, after=chunk(b"fmt ", bytes(16))),
         "no format": b"RIFF\0\0\0\0WAVE" + chunk(b"data", SOUND),
     },
 }
@@ -150,7 +150,7 @@ def files():
     for form, whole in WHOLE.items():
         first = whole["mu-law" if form == "au" else "chunks of odd sizes"]
         for count in range(len(first)):
-            yield form, "%s, cut behind %d bytes" % (form, count), first[:count]
+            yield form, "%s, cut after %d bytes" % (form, count), first[:count]
         for at in range(len(first) - len(SOUND)):
             for octet in (0, 1, 127, 128, 255):
                 yield form, "%s, byte %d is %d" % (form, at, octet), first[:at] + bytes([octet]) + first[at + 1 :]

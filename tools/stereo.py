@@ -129,7 +129,7 @@ def is_recorded(trial):
             server.wait_until(RATE + 1000, 1)
             recorded = other.record(RATE - 1000, 2000)
             wanted = [linear(octet) for octet in octets[-2000:]] + [0] * 2000
-            trial.holds("behind the end of the file both channels are silent", recorded == big_endian(wanted))
+            trial.holds("after the end of the file both channels are silent", recorded == big_endian(wanted))
         trial.holds("the server of recordings runs, and says nothing", server.end())
 
 

@@ -181,7 +181,7 @@ def failing_source(run):
         sent = requests[: first + whole] if whole else requests[: first - 1]
         peer = replace(run.peers["SERVER"], sent=joined(sent))
         yield replace(
-            run, name="%s, its source fails behind %d bytes" % (run.name, given), source=run.source[:given], breaks=True,
+            run, name="%s, its source fails after %d bytes" % (run.name, given), source=run.source[:given], breaks=True,
             peers={**run.peers, "SERVER": peer}, output=b"", status=5, text="read failed")
 
 
@@ -195,7 +195,7 @@ def failing_sink(run):
             asked = next(at for at in range(len(replies)) if written(run, replies[: at + 1]) > room)
             peers = {**peers, "SERVER": replace(peers["SERVER"], sent=joined(requests[: asked + 1]))}
         yield replace(
-            run, name="%s, its sink fails behind %d bytes" % (run.name, room), peers=peers, output=run.output[:room], room=room, status=6,
+            run, name="%s, its sink fails after %d bytes" % (run.name, room), peers=peers, output=run.output[:room], room=room, status=6,
             text="write failed")
 
 

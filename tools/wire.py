@@ -73,7 +73,7 @@ class Item:
     """Something that stands in one direction of a link.
 
     Its kind is `setup` or `request` (of a client), `reply`, `error` or `event` (of a server), `bad` (what is none of these: its
-    name says why, and nothing after it is read) or `behind` (bytes after something bad). The number of a request is its place
+    name says why, and nothing after it is read) or `after` (bytes after something bad). The number of a request is its place
     on the link, that of a message the request that it states.
     """
 
@@ -166,7 +166,7 @@ class Side:
         items = []
         while self.rest:
             if self.ended:
-                items.append(self.take(len(self.rest), "behind", ""))
+                items.append(self.take(len(self.rest), "after", ""))
                 break
             try:
                 item = self.item()

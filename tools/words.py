@@ -27,8 +27,8 @@ def heard(form, octets, first=None):
     if first is None:
         return said
     before = "before %d" % time_after(first, sounding[0]) if sounding[0] else ""
-    behind = "from %d on" % time_after(first, sounding[-1] + 1) if sounding[-1] + 1 < len(octets) // form.frame() else ""
-    edges = " and ".join(edge for edge in (before, behind) if edge)
+    after = "from %d on" % time_after(first, sounding[-1] + 1) if sounding[-1] + 1 < len(octets) // form.frame() else ""
+    edges = " and ".join(edge for edge in (before, after) if edge)
     return joined(said, edges and "silence " + edges)
 
 
@@ -100,8 +100,8 @@ def words_of_request(item, contexts):
         return joined("setup, version %d.%d" % (item.fields["major"], item.fields["minor"]), order != ORDER_NAMES[BIG] and order)
     if item.kind == "bad":
         return "malformed: %s, beginning with %s" % (item.name, item.octets.hex())
-    if item.kind == "behind":
-        return "%s behind that, not read" % counted(len(item.octets), "byte")
+    if item.kind == "after":
+        return "%s after that, not read" % counted(len(item.octets), "byte")
     return "%s (request %d)" % (ASKED[item.name](item, contexts), item.number)
 
 
@@ -175,8 +175,8 @@ def words_of_message(item, form=None):
     fields = item.fields
     if item.kind == "bad":
         return "bad: %s, beginning with %s" % (item.name, item.octets.hex())
-    if item.kind == "behind":
-        return "%s behind that, not read" % counted(len(item.octets), "byte")
+    if item.kind == "after":
+        return "%s after that, not read" % counted(len(item.octets), "byte")
     if item.kind == "event":
         return "event %s of device %d at %d: %s" % (item.name, fields["device"], fields["time"], value_of_event(item))
     if item.kind == "error":

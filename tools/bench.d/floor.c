@@ -4,7 +4,7 @@
  *     floor serve ADDRESS WAITS < CONFIGURATION
  *
  * It is called as afd is, and has silent devices of mu-law or lin16. It does setups, GetTime, CreateAC and Play, which is mixed into
- * a ring of four seconds and waits where it ends behind it. What a device hands out is encoded, and gone. Whatever else a client
+ * a ring of four seconds and waits where it ends after it. What a device hands out is encoded, and gone. Whatever else a client
  * sends, or what is refused, closes its link. There are no records, gains, preemption, controls, events or telephone lines.
  */
 #define _GNU_SOURCE

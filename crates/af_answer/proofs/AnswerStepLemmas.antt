@@ -20,7 +20,7 @@ use Rattle.af_toolkit.proofs.TracePartLemmas.{Known, asked_known}
 use Rattle.af_answer.specs.declared.child.ChildEnd.{ChildEnd}
 use Rattle.af_answer.specs.declared.end.AnswerEnd.{AnswerEnd}
 use Rattle.af_answer.specs.declared.end.AnswerEnd.TheVariants as end
-use Rattle.af_answer.specs.AnswerTrace.{ToCome, AnswerTrace, AnswerFinish, awaits_event, with_deeds, behind_event, behind_from, event_at_hand, connection_end, by_answer, by_event, by_reply, first_run, event_deeds, machine_end, met_fault, next_event, refusal, request_deeds, requests, child_deeds, runs_child}
+use Rattle.af_answer.specs.AnswerTrace.{ToCome, AnswerTrace, AnswerFinish, awaits_event, with_deeds, after_event, after_from, event_at_hand, connection_end, by_answer, by_event, by_reply, first_run, event_deeds, machine_end, met_fault, next_event, refusal, request_deeds, requests, child_deeds, runs_child}
 use Rattle.af_answer.specs.AnswerParts.{AnswerPart, PartSeen}
 use Rattle.af_answer.specs.Children.{ChildRun, RunsChild, run_end, told_of_run, shell_words}
 use Rattle.af_answer.proofs.AnswerPartLemmas.{having_both, matches_at_once, matches_early, seen_on, seen_same, seen_stop}
@@ -101,20 +101,20 @@ requested_goes {left} {sent} {faults} {asked} {old} {new} input acts {result} ca
     (λ runs next. requests_is asked (record { wire = w; runs = runs }) (next tt)) (left new.link) (client_of new) (sent old.link) (sent new.link) acts result (called.fresh usable) (called.sends usable)
     (asked_known left sent faults asked as_done old new input result called usable told)
 
-pub awaits_is : (b : ToCome) (next : Event → ToCome → AnswerTrace) → awaits_event b next ≡ by_event (next_event b.wire) (record { wire = behind_event b.wire; runs = b.runs }) next
+pub awaits_is : (b : ToCome) (next : Event → ToCome → AnswerTrace) → awaits_event b next ≡ by_event (next_event b.wire) (record { wire = after_event b.wire; runs = b.runs }) next
 unfolding awaits_event
 awaits_is b next = refl
 
 -- what is known of an event that was waited for
 event_known_at : {L : Type 0} (left sent : L → Option (List ℕ)) (faults : L → ℕ) (old new : ConnState L) (input : List ℕ) (result : Result Event ConnFault) (first : Option Event) → slice_get old.ring.events 0 ≡ first →
-    EventAwaited left sent faults old new result → old.cause ≡ None → left old.link ≡ Some input → Known (next_event (client_of old input)) (behind_event (client_of old input)) (left new.link) (client_of new) result
+    EventAwaited left sent faults old new result → old.cause ≡ None → left old.link ≡ Some input → Known (next_event (client_of old input)) (after_event (client_of old input)) (left new.link) (client_of new) result
 event_known_at left sent faults old new input result (Some e) is awaited usable told = λ sound.
     let o = awaited.oldest usable e is in
     let w = client_of old input in (
       input,
       ap (λ (c : ConnState _). left c.link) o.1 ∙ told,
       o.0 ∙ ap (λ (f : Option Event). event_at_hand f w) (sym is),
-      ap (λ (c : ConnState _). client_of c input) o.1 ∙ ap (λ (f : Option Event). behind_from f w) (sym is),
+      ap (λ (c : ConnState _). client_of c input) o.1 ∙ ap (λ (f : Option Event). after_from f w) (sym is),
     )
 event_known_at left sent faults old new input result None is awaited usable told = λ sound.
     let both = told_both (left old.link) (left new.link) input _ told awaited.tells (awaited.next usable is sound) in
@@ -125,7 +125,7 @@ event_known_at left sent faults old new input result None is awaited usable told
       both.2.0 ∙ ap (λ (f : Option Event). event_at_hand f w) (sym is),
       ap (λ (c : ConnState _). client_of c both.0) kept
           ∙ ap (λ (i : List ℕ). (let v : ClientState = record { order = old.order; sequence = old.sequence; ring = old.ring; input = i } in v)) both.2.1
-          ∙ ap (λ (f : Option Event). behind_from f w) (sym is),
+          ∙ ap (λ (f : Option Event). after_from f w) (sym is),
     )
 
 -- an answer to one message is one of a connection that can still be used
@@ -141,16 +141,16 @@ heard e input wire {sent} {acts} told = record { done = event_deeds e; runs = []
 
 -- what is handed out next, before it is heard
 abbrev at_hand : ClientState → List ChildRun → AnswerPart Event
-at_hand w runs next = by_answer met_fault (next_event w) (record { wire = behind_event w; runs = runs }) next
+at_hand w runs next = by_answer met_fault (next_event w) (record { wire = after_event w; runs = runs }) next
 
 module _ (w : ClientState) {left : Option (List ℕ)} {wire : List ℕ → ClientState} {sent sent' : Option (List ℕ)} (acts : Option (List Told)) where
-  handed : (result : Result Event ConnFault) → sent' ≡ sent → IsOfMessage result → Known (next_event w) (behind_event w) left wire result → PartSeen {X = Event} (at_hand w) (part_of result) left wire sent sent' acts acts
+  handed : (result : Result Event ConnFault) → sent' ≡ sent → IsOfMessage result → Known (next_event w) (after_event w) left wire result → PartSeen {X = Event} (at_hand w) (part_of result) left wire sent sent' acts acts
   handed result unsent is known =
       let none : Appended sent [] sent' = subst (λ (x : Option (List ℕ)). Appended sent [] x) (sym unsent) (appended_none sent) in
-      exchange_goes met_fault (λ f. refl) [] (next_event w) (behind_event w) (at_hand w) (λ runs next. refl) left wire sent sent' acts result (is_fresh result is)
+      exchange_goes met_fault (λ f. refl) [] (next_event w) (after_event w) (at_hand w) (λ runs next. refl) left wire sent sent' acts result (is_fresh result is)
       (record { whole = λ sound. none; part = record { front = []; rest = []; whole = refl; appended = none } }) known
 
-  event_goes : (result : Result Event ConnFault) → sent' ≡ sent → IsOfMessage result → Known (next_event w) (behind_event w) left wire result →
+  event_goes : (result : Result Event ConnFault) → sent' ≡ sent → IsOfMessage result → Known (next_event w) (after_event w) left wire result →
       PartSeen {X = Event} (λ runs. awaits_event (record { wire = w; runs = runs })) (part_of result) left wire sent sent' acts acts
   event_goes (Ok e) unsent is known =
       seen_same (λ runs next. awaits_is (record { wire = w; runs = runs }) next)

@@ -22,11 +22,11 @@ use Rattle.af_answer.proofs.AnswerStepLemmas.{child_goes}
 use Rattle.af_answer.specs.declared.tally.Tally.{Tally}
 
 -- what follows an event: the call is taken, or awaited on
-abbrev pub behind_ring : AnswerJob → (n rings : ℕ) → Event → ToCome → AnswerPart (Unit {0})
-behind_ring job n rings e b next = if rings_after job rings e == job.rings then next tt b else awaits_call (n - 1) job (rings_after job rings e) b (next tt)
+abbrev pub after_ring : AnswerJob → (n rings : ℕ) → Event → ToCome → AnswerPart (Unit {0})
+after_ring job n rings e b next = if rings_after job rings e == job.rings then next tt b else awaits_call (n - 1) job (rings_after job rings e) b (next tt)
 
 awaits_step : (job : AnswerJob) (n rings : ℕ) → 0 < n → (b : ToCome) (next : Unit {0} → ToCome → AnswerTrace) →
-    awaits_call n job rings b (next tt) ≡ awaits_event b (λ e b. behind_ring job n rings e b next)
+    awaits_call n job rings b (next tt) ≡ awaits_event b (λ e b. after_ring job n rings e b next)
 unfolding awaits_call
 awaits_step job zero rings some b next = absurd (omega (arith, some))
 awaits_step job (suc m) rings some b next =
@@ -37,12 +37,12 @@ unfolding awaits_call
 awaits_none job zero rings none b next = refl
 awaits_none job (suc m) rings none b next = absurd (omega (arith, none))
 
-taken_at : (job : AnswerJob) (n rings rings' : ℕ) (e : Event) → rings' ≡ rings_after job rings e → rings' ≡ job.rings → (b : ToCome) (next : Unit {0} → ToCome → AnswerTrace) → behind_ring job n rings e b next ≡ next tt b
+taken_at : (job : AnswerJob) (n rings rings' : ℕ) (e : Event) → rings' ≡ rings_after job rings e → rings' ≡ job.rings → (b : ToCome) (next : Unit {0} → ToCome → AnswerTrace) → after_ring job n rings e b next ≡ next tt b
 taken_at job n rings rings' e is same b next =
     ap (λ (t : Bool). if t then next tt b else awaits_call (n - 1) job (rings_after job rings e) b (next tt)) (eq-eqb (rings_after job rings e) job.rings (sym is ∙ same))
 
 awaited_on : (job : AnswerJob) (n n' rings rings' : ℕ) (e : Event) → rings' ≡ rings_after job rings e → rings' ≢ job.rings → n' ≡ n - 1 → (b : ToCome) (next : Unit {0} → ToCome → AnswerTrace) →
-    behind_ring job n rings e b next ≡ awaits_call n' job rings' b (next tt)
+    after_ring job n rings e b next ≡ awaits_call n' job rings' b (next tt)
 awaited_on job n n' rings rings' e is other less b next =
     ap (λ (t : Bool). if t then next tt b else awaits_call (n - 1) job (rings_after job rings e) b (next tt)) (ne_eqb (rings_after job rings e) job.rings (λ same. other (is ∙ same)))
     ∙ ap₂ (λ (k r : ℕ). awaits_call k job r b (next tt)) (sym less) (sym is)
@@ -54,16 +54,16 @@ module _ (job : AnswerJob) (n rings : ℕ) {part : List ChildRun → AnswerPart 
 
   -- no event was handed out
   pub wait_stops : {how : AnswerEnd} {left' : Option (List ℕ)} {wire' : List ℕ → ClientState} {s'' : Option (List ℕ)} → 0 < n → IsHanded left' wire' s'' (Err how) → PartSeen {X = Unit {0}} part (Err how) left' wire' s s'' a a
-  wait_stops some g = far_stop f awaits_event (behind_ring job n rings) (awaits_step job n rings some) g
+  wait_stops some g = far_stop f awaits_event (after_ring job n rings) (awaits_step job n rings some) g
 
   module _ {e : Event} {rings' : ℕ} {left' : Option (List ℕ)} {wire' : List ℕ → ClientState} {s'' : Option (List ℕ)} (some : 0 < n) (is : rings' ≡ rings_after job rings e) (g : IsHanded left' wire' s'' (Ok e)) where
     -- the call is to be taken
     pub wait_done : rings' ≡ job.rings → PartSeen part (Ok tt) left' wire' s s'' a a
-    wait_done same = far_done (far_step f awaits_event (behind_ring job n rings) (awaits_step job n rings some) (λ b next. next tt b) (taken_at job n rings rings' e is same) g) tt (λ b next. refl)
+    wait_done same = far_done (far_step f awaits_event (after_ring job n rings) (awaits_step job n rings some) (λ b next. next tt b) (taken_at job n rings rings' e is same) g) tt (λ b next. refl)
 
     -- it is awaited on
     pub wait_on : (n' : ℕ) → rings' ≢ job.rings → n' ≡ n - 1 → SoFar part (λ b next. awaits_call n' job rings' b (next tt)) left' wire' s s'' a a
-    wait_on n' other less = far_step f awaits_event (behind_ring job n rings) (awaits_step job n rings some) (λ b next. awaits_call n' job rings' b (next tt)) (awaited_on job n n' rings rings' e is other less) g
+    wait_on n' other less = far_step f awaits_event (after_ring job n rings) (awaits_step job n rings some) (λ b next. awaits_call n' job rings' b (next tt)) (awaited_on job n n' rings rings' e is other less) g
 
   -- too many events were handed out
   pub wait_floods : n ≡ 0 → PartSeen {X = Unit {0}} part (Err end.EventFlood) left wire s s' a a
@@ -86,16 +86,16 @@ message_goes job ended.Good how input left wire s a a' told m = child_goes job.m
 message_goes job greeting how input left wire s a a' told m = rw (m.0, m.1) (seen_value greeting input left wire s a told)
 
 -- what follows the message, the greeting, and the hook that was taken off
-abbrev behind_message : AnswerJob → ChildEnd → ToCome → AnswerPart ChildEnd
-behind_message job how b next = requests (hook_switch job.device 0) b (λ b. next how b)
+abbrev after_message : AnswerJob → ChildEnd → ToCome → AnswerPart ChildEnd
+after_message job how b next = requests (hook_switch job.device 0) b (λ b. next how b)
 
-abbrev behind_greeting : AnswerJob → ChildEnd → ToCome → AnswerPart ChildEnd
-behind_greeting job greeting b next = leaves_message job greeting b (λ how b. behind_message job how b next)
+abbrev after_greeting : AnswerJob → ChildEnd → ToCome → AnswerPart ChildEnd
+after_greeting job greeting b next = leaves_message job greeting b (λ how b. after_message job how b next)
 
-abbrev behind_off : AnswerJob → Unit {0} → ToCome → AnswerPart ChildEnd
-behind_off job u b next = runs_child job.greeting.bytes b (λ greeting b. behind_greeting job greeting b next)
+abbrev after_off : AnswerJob → Unit {0} → ToCome → AnswerPart ChildEnd
+after_off job u b next = runs_child job.greeting.bytes b (λ greeting b. after_greeting job greeting b next)
 
-takes_call_is : (job : AnswerJob) (b : ToCome) (next : ChildEnd → ToCome → AnswerTrace) → takes_call job b next ≡ requests (hook_switch job.device 1) b (λ b. behind_off job tt b next)
+takes_call_is : (job : AnswerJob) (b : ToCome) (next : ChildEnd → ToCome → AnswerTrace) → takes_call job b next ≡ requests (hook_switch job.device 1) b (λ b. after_off job tt b next)
 unfolding takes_call
 takes_call_is job b next = refl
 
@@ -106,7 +106,7 @@ module _ (job : AnswerJob) (w : ClientState) where
   -- the hook was not taken off
   pub call_stops : {how : AnswerEnd} {left : Option (List ℕ)} {wire : List ℕ → ClientState} {s s' : Option (List ℕ)} {a : Option (List Told)} →
       PartSeen {X = Unit {0}} takes_off (Err how) left wire s s' a a → PartSeen {X = ChildEnd} (λ runs. takes_call job (record { wire = w; runs = runs })) (Err how) left wire s s' a a
-  call_stops off = seen_same (λ runs next. takes_call_is job (record { wire = w; runs = runs }) next) (seen_stop takes_off (behind_off job) off)
+  call_stops off = seen_same (λ runs next. takes_call_is job (record { wire = w; runs = runs }) next) (seen_stop takes_off (after_off job) off)
 
   -- it was, and is to be put on
   pub call_goes : (greeting how : ChildEnd) {r : Result (Unit {0}) AnswerEnd} {left left' : Option (List ℕ)} {wire wire' : List ℕ → ClientState} {s s' s'' : Option (List ℕ)} {a a' a'' : Option (List Told)} →
@@ -115,22 +115,22 @@ module _ (job : AnswerJob) (w : ClientState) where
       PartSeen (λ runs. takes_call job (record { wire = w; runs = runs })) (with_value how r) left' wire' s s'' a a''
   call_goes greeting how {r} {left} {left'} {wire} {wire'} {s} {s'} {s''} {a} {a'} {a''} off greeted message on =
       seen_same (λ runs next. takes_call_is job (record { wire = w; runs = runs }) next)
-      (seen_on takes_off (behind_off job) off (λ input told.
-      seen_on (λ runs. runs_child job.greeting.bytes (record { wire = wire input; runs = runs })) (behind_greeting job)
+      (seen_on takes_off (after_off job) off (λ input told.
+      seen_on (λ runs. runs_child job.greeting.bytes (record { wire = wire input; runs = runs })) (after_greeting job)
       (child_goes job.greeting.bytes greeting input left wire s' a a' told greeted) (λ input told.
-      seen_on (λ runs. leaves_message job greeting (record { wire = wire input; runs = runs })) (behind_message job)
+      seen_on (λ runs. leaves_message job greeting (record { wire = wire input; runs = runs })) (after_message job)
       (message_goes job greeting how input left wire s' a' a'' told message) (λ input told.
       valued_goes how (λ runs next. requests (hook_switch job.device 0) (record { wire = wire input; runs = runs }) next) r left' wire' s' s'' a'' a'' (on input told)))))
 
 -- what follows a call, and what follows the ring at which it is taken
-abbrev pub behind_call : AnswerJob → (n : ℕ) → Tally → ChildEnd → ToCome → AnswerPart Tally
-behind_call job n t how b next = unless_starved how (attends (n - 1) job (tally_after how t) b next)
+abbrev pub after_call : AnswerJob → (n : ℕ) → Tally → ChildEnd → ToCome → AnswerPart Tally
+after_call job n t how b next = unless_starved how (attends (n - 1) job (tally_after how t) b next)
 
-abbrev pub behind_rings : AnswerJob → (n : ℕ) → Tally → Unit {0} → ToCome → AnswerPart Tally
-behind_rings job n t u b next = takes_call job b (λ how b. behind_call job n t how b next)
+abbrev pub after_rings : AnswerJob → (n : ℕ) → Tally → Unit {0} → ToCome → AnswerPart Tally
+after_rings job n t u b next = takes_call job b (λ how b. after_call job n t how b next)
 
 attends_step : (job : AnswerJob) (n : ℕ) (t : Tally) → 0 < n → (b : ToCome) (next : Tally → ToCome → AnswerTrace) →
-    attends n job t b next ≡ awaits_call most_for_a_call job 0 b (λ b. behind_rings job n t tt b next)
+    attends n job t b next ≡ awaits_call most_for_a_call job 0 b (λ b. after_rings job n t tt b next)
 unfolding attends
 attends_step job zero t some b next = absurd (omega (arith, some))
 attends_step job (suc m) t some b next =
@@ -142,11 +142,11 @@ attends_none job zero t none b next = refl
 attends_none job (suc m) t none b next = absurd (omega (arith, none))
 
 calls_on : (job : AnswerJob) (n n' : ℕ) (t t' : Tally) (how : ChildEnd) → is_starved how ≡ false → t' ≡ tally_after how t → n' ≡ n - 1 → (b : ToCome) (next : Tally → ToCome → AnswerTrace) →
-    behind_call job n t how b next ≡ attends n' job t' b next
+    after_call job n t how b next ≡ attends n' job t' b next
 calls_on job n n' t t' ended.NoMemory other is less b next = absurd (let bad : true ≡ false = other in cc bad)
 calls_on job n n' t t' how other is less b next = ap₂ (λ (k : ℕ) (x : Tally). attends k job x b next) (sym less) (sym is)
 
-starves : (job : AnswerJob) (n : ℕ) (t : Tally) (how : ChildEnd) → is_starved how ≡ true → (b : ToCome) (next : Tally → ToCome → AnswerTrace) → behind_call job n t how b next ≡ stops child_starved
+starves : (job : AnswerJob) (n : ℕ) (t : Tally) (how : ChildEnd) → is_starved how ≡ true → (b : ToCome) (next : Tally → ToCome → AnswerTrace) → after_call job n t how b next ≡ stops child_starved
 starves job n t ended.NoMemory is b next = refl
 starves job n t how is b next = absurd (let bad : false ≡ true = is in cc bad)
 
@@ -161,7 +161,7 @@ module _ (job : AnswerJob) (n : ℕ) (t : Tally) {part : List ChildRun → Answe
 
   -- no call came
   pub attend_stops : {how : AnswerEnd} {left₁ : Option (List ℕ)} {wire₁ : List ℕ → ClientState} {s₂ : Option (List ℕ)} → 0 < n → IsRung left₁ wire₁ s₂ (Err how) → PartSeen {X = Tally} part (Err how) left₁ wire₁ s s₂ a a₁
-  attend_stops some rung = far_stop f (λ b next. awaits_call most_for_a_call job 0 b (next tt)) (behind_rings job n t) (attends_step job n t some) rung
+  attend_stops some rung = far_stop f (λ b next. awaits_call most_for_a_call job 0 b (next tt)) (after_rings job n t) (attends_step job n t some) rung
 
   module _ {left₁ : Option (List ℕ)} {wire₁ : List ℕ → ClientState} {s₂ : Option (List ℕ)} (some : 0 < n) (rung : IsRung left₁ wire₁ s₂ (Ok tt)) where
     -- the two parts of a call as one
@@ -176,10 +176,10 @@ module _ (job : AnswerJob) (n : ℕ) (t : Tally) {part : List ChildRun → Answe
       call_seen r taken = seen_on (λ runs next. awaits_call most_for_a_call job 0 (record { wire = wire f.input; runs = runs }) (next tt)) (λ u b next. takes_call job b next) rung taken
 
       pub call_stopped : {how : AnswerEnd} → IsTaken left₂ wire₂ s₃ a₂ (Err how) → PartSeen {X = Tally} part (Err how) left₂ wire₂ s s₃ a a₂
-      call_stopped {how} taken = far_stop f one_call (behind_call job n t) (attends_step job n t some) (call_seen (Err how) taken)
+      call_stopped {how} taken = far_stop f one_call (after_call job n t) (attends_step job n t some) (call_seen (Err how) taken)
 
-      call_far : (how : ChildEnd) (rest : ToCome → AnswerPart Tally) → IsTaken left₂ wire₂ s₃ a₂ (Ok how) → ((b : ToCome) (next : Tally → ToCome → AnswerTrace) → behind_call job n t how b next ≡ rest b next) → SoFar part rest left₂ wire₂ s s₃ a a₂
-      call_far how rest taken is = far_step f one_call (behind_call job n t) (attends_step job n t some) rest is (call_seen (Ok how) taken)
+      call_far : (how : ChildEnd) (rest : ToCome → AnswerPart Tally) → IsTaken left₂ wire₂ s₃ a₂ (Ok how) → ((b : ToCome) (next : Tally → ToCome → AnswerTrace) → after_call job n t how b next ≡ rest b next) → SoFar part rest left₂ wire₂ s s₃ a a₂
+      call_far how rest taken is = far_step f one_call (after_call job n t) (attends_step job n t some) rest is (call_seen (Ok how) taken)
 
       -- memory ran out in the call
       pub call_starved : (how : ChildEnd) → is_starved how ≡ true → IsTaken left₂ wire₂ s₃ a₂ (Ok how) → PartSeen {X = Tally} part (Err end.OutOfMemory) left₂ wire₂ s s₃ a a₂

@@ -17,20 +17,20 @@ use Rattle.af_answer.specs.declared.child.ChildEnd.{ChildEnd}
 use Rattle.af_answer.specs.declared.child.ChildEnd.TheVariants as ended
 use Rattle.af_answer.specs.declared.job.AnswerJob.{AnswerJob}
 use Rattle.af_answer.specs.declared.tally.Tally.{Tally}
-use Rattle.af_answer.specs.Acts.{MachineAct, acts_behind, acts_from, call_acts, call_end, greet, later_ends, leaves_off, off_after, off_hook, on_hook, record_message, rings_after, tally_after, write_tally}
-use Rattle.af_answer.specs.AnswerTrace.{ToCome, AnswerTrace, AnswerFinish, attends, awaits_call, most_for_a_call, with_deeds, behind_event, behind_from, child_starved, first_run, by_event, event_deeds, leaves_message, met_fault, off_hook_fault, on_hook_fault, next_event, rang_too_little, by_reply, writes_tally, request_deeds, requests, child_deeds, runs_child, stops, takes_call, unless_starved}
+use Rattle.af_answer.specs.Acts.{MachineAct, acts_after, acts_from, call_acts, call_end, greet, later_ends, leaves_off, off_after, off_hook, on_hook, record_message, rings_after, tally_after, write_tally}
+use Rattle.af_answer.specs.AnswerTrace.{ToCome, AnswerTrace, AnswerFinish, attends, awaits_call, most_for_a_call, with_deeds, after_event, after_from, child_starved, first_run, by_event, event_deeds, leaves_message, met_fault, off_hook_fault, on_hook_fault, next_event, rang_too_little, by_reply, writes_tally, request_deeds, requests, child_deeds, runs_child, stops, takes_call, unless_starved}
 use Rattle.af_answer.specs.Answered.{SwitchesHook, bytes_of_act, children_of, requests_of, text_of_acts}
 use Rattle.af_answer.specs.Children.{ChildRun, run_end, told_of_run, shell_words}
 use Rattle.af_answer.proofs.AnswerStepLemmas.{awaits_is, child_is}
 
 -- the acts after a call, by how it ended and the ends of the children to come
 abbrev later_acts : AnswerJob → Tally → ChildEnd → List ChildEnd → List Event → List MachineAct
-later_acts job t how ends events = acts_behind how job.calls (tally_after how t) (acts_from job 0 (tally_after how t) events ends)
+later_acts job t how ends events = acts_after how job.calls (tally_after how t) (acts_from job 0 (tally_after how t) events ends)
 
 -- an event that is given does not change the byte order of a client
-order_behind : (first : Option Event) (w : ClientState) → (behind_from first w).order ≡ w.order
-order_behind (Some e) w = refl
-order_behind None w = refl
+order_after : (first : Option Event) (w : ClientState) → (after_from first w).order ≡ w.order
+order_after (Some e) w = refl
+order_after None w = refl
 
 -- the acts after so many calls, with n still to come
 abbrev pub acts_at : AnswerJob → Tally → List Event → List ChildEnd → List MachineAct
@@ -249,7 +249,7 @@ module _ (order : Order) where
     awaited_keeps (suc n) rings w its =
         let b : ToCome = record { wire = w; runs = runs } in
         keeps_same false job (λ events. acts_from job rings t events (map run_end runs)) runs _ _ (awaits_is b (rung n rings))
-        (handed_keeps n rings (next_event w) (behind_event w) (order_behind (slice_get w.ring.events 0) w ∙ its) (awaited_keeps n))
+        (handed_keeps n rings (next_event w) (after_event w) (order_after (slice_get w.ring.events 0) w ∙ its) (awaited_keeps n))
 
   abbrev AttendsKept : AnswerJob → ℕ → Tally → Type 0
   AttendsKept job n t = (w : ClientState) (runs : List ChildRun) → w.order ≡ order → (let x : AnswerTrace = attend_trace job n t (record { wire = w; runs = runs }) in KeepsTo false job (acts_at job t x.heard (map run_end runs)) runs x)
@@ -280,17 +280,17 @@ call_on : (off : Bool) (ends : List ChildEnd) (more : List MachineAct) → fold 
 call_on off (ended.Good ∷ ends) more = refl
 call_on off ends more = refl
 
-behind_on : (how : ChildEnd) (calls : ℕ) (t : Tally) (more : List MachineAct) → leaves_off more ≡ false → leaves_off (acts_behind how calls t more) ≡ false
-behind_on ended.NoMemory calls t more on = refl
-behind_on how calls t more on = elim (t.answered == calls) as (λ b. leaves_off (if b then write_tally t ∷ [] else more) ≡ false) [ true ↦ refl | false ↦ on ]
+after_on : (how : ChildEnd) (calls : ℕ) (t : Tally) (more : List MachineAct) → leaves_off more ≡ false → leaves_off (acts_after how calls t more) ≡ false
+after_on ended.NoMemory calls t more on = refl
+after_on how calls t more on = elim (t.answered == calls) as (λ b. leaves_off (if b then write_tally t ∷ [] else more) ≡ false) [ true ↦ refl | false ↦ on ]
 
 pub acts_leave_on : (job : AnswerJob) (rings : ℕ) (t : Tally) (events : List Event) (ends : List ChildEnd) → leaves_off (acts_from job rings t events ends) ≡ false
 unfolding acts_from
 acts_leave_on job rings t [] ends = refl
 acts_leave_on job rings t (e ∷ events) ends =
     let how = call_end ends in
-    let later = acts_behind how job.calls (tally_after how t) (acts_from job 0 (tally_after how t) events (later_ends ends)) in
+    let later = acts_after how job.calls (tally_after how t) (acts_from job 0 (tally_after how t) events (later_ends ends)) in
     elim (rings_after job rings e == job.rings) as (λ b. leaves_off (if b then call_acts ends ++ later else acts_from job (rings_after job rings e) t events ends) ≡ false) [
-      | true ↦ call_on false ends later ∙ behind_on how job.calls (tally_after how t) _ (acts_leave_on job 0 (tally_after how t) events (later_ends ends))
+      | true ↦ call_on false ends later ∙ after_on how job.calls (tally_after how t) _ (acts_leave_on job 0 (tally_after how t) events (later_ends ends))
       | false ↦ acts_leave_on job (rings_after job rings e) t events ends
     ]

@@ -62,9 +62,9 @@ tally_after end.Bad t = record { answered = t.answered + 1; recorded = t.recorde
 tally_after end.NoMemory t = record { answered = t.answered + 1; recorded = t.recorded; failed = t.failed }
 
 -- the acts after a call: none if memory ran out in it, and the numbers are written if it was the last
-abbrev pub acts_behind : ChildEnd → (calls : ℕ) → Tally → List MachineAct → List MachineAct
-acts_behind end.NoMemory calls t more = []
-acts_behind how calls t more = if t.answered == calls then write_tally t ∷ [] else more
+abbrev pub acts_after : ChildEnd → (calls : ℕ) → Tally → List MachineAct → List MachineAct
+acts_after end.NoMemory calls t more = []
+acts_after how calls t more = if t.answered == calls then write_tally t ∷ [] else more
 
 -- the acts after so many rings and calls: at the ring of the job's number a call is taken, and rings are counted from 0 again
 unfoldable pub acts_from : AnswerJob → (rings : ℕ) → Tally → List Event → List ChildEnd → List MachineAct
@@ -72,7 +72,7 @@ acts_from job rings t [] ends = []
 acts_from job rings t (e ∷ events) ends =
     if rings_after job rings e == job.rings
     then call_acts ends
-    ++ acts_behind (call_end ends) job.calls (tally_after (call_end ends) t)
+    ++ acts_after (call_end ends) job.calls (tally_after (call_end ends) t)
     (acts_from job 0 (tally_after (call_end ends) t) events (later_ends ends))
     else acts_from job (rings_after job rings e) t events ends
 

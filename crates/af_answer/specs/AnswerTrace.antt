@@ -13,7 +13,7 @@ use Rattle.af_process.specs.Acts.{Told}
 use Rattle.af_lib.specs.declared.fault.ConnFault.{ConnFault}
 use Rattle.af_lib.specs.declared.fault.ConnFault.TheVariants as fault
 use Rattle.af_lib.specs.Calls.{as_done, event_of}
-use Rattle.af_lib.specs.Incoming.{behind_message}
+use Rattle.af_lib.specs.Incoming.{after_message}
 use Rattle.af_toolkit.specs.Trace.{ClientState, after_reply, answer_on}
 use Rattle.af_answer.specs.declared.child.ChildEnd.{ChildEnd}
 use Rattle.af_answer.specs.declared.child.ChildEnd.TheVariants as ended
@@ -112,13 +112,13 @@ abbrev pub next_event : ClientState → Result Event ConnFault
 next_event w = event_at_hand (slice_get w.ring.events 0) w
 
 -- a client after that event
-abbrev pub behind_from : Option Event → ClientState → ClientState
-behind_from (Some e) w =
+abbrev pub after_from : Option Event → ClientState → ClientState
+after_from (Some e) w =
     record { order = w.order; sequence = w.sequence; ring = record w.ring { events = drop 1 w.ring.events }; input = w.input }
-behind_from None w = record { order = w.order; sequence = w.sequence; ring = w.ring; input = behind_message w.order w.input }
+after_from None w = record { order = w.order; sequence = w.sequence; ring = w.ring; input = after_message w.order w.input }
 
-abbrev pub behind_event : ClientState → ClientState
-behind_event w = behind_from (slice_get w.ring.events 0) w
+abbrev pub after_event : ClientState → ClientState
+after_event w = after_from (slice_get w.ring.events 0) w
 
 -- what follows an event that was waited for
 abbrev pub by_event : Result Event ConnFault → ToCome → (Event → ToCome → AnswerTrace) → AnswerTrace
@@ -126,7 +126,7 @@ by_event event a next = by_answer met_fault event a (λ e a. with_deeds (event_d
 
 -- an event is waited for, and what follows goes by it
 unfoldable pub awaits_event : ToCome → (Event → ToCome → AnswerTrace) → AnswerTrace
-awaits_event a next = by_event (next_event a.wire) (record { wire = behind_event a.wire; runs = a.runs }) next
+awaits_event a next = by_event (next_event a.wire) (record { wire = after_event a.wire; runs = a.runs }) next
 
 -- how the next child runs: if nothing is stated of it, it does not start
 abbrev pub first_run : List ChildRun → ChildRun

@@ -5,7 +5,15 @@ ghost use Rattle.clap.specs.Words.{found_of, kind_of, matches_of, rows_of, takes
 ghost use Rattle.af_cli.specs.Ranges.{IsAddress};
 ghost use Rattle.af_cli.specs.Words.{command_app};
 ghost use Rattle.af_answer.specs.Answered.{IsAnswerJob};
-ghost use Rattle.af_answer.specs.AnswerWords.{answer_app, answer_words, words_in, is_answer_spelled, names_answer, shell_text_at, words_of_call};
+ghost use Rattle.af_answer.specs.AnswerWords.{
+  answer_app,
+  answer_words,
+  words_in,
+  is_answer_spelled,
+  names_answer,
+  shell_text_at,
+  words_of_call,
+};
 
 use crate::job::AnswerJob;
 use af_cli::{

@@ -8,9 +8,9 @@ use Rattle.af_backend.specs.declared.codec_device.CodecStage.{CodecStage}
 use Rattle.af_backend.specs.declared.codec_device.CodecStage.TheVariants as stage
 use Rattle.af_backend.specs.CodecUse.{CodecUse, CodecTakesAt}
 use Rattle.af_backend.specs.CardUse.{CardUse, KeepsOrders, orders_of, card_orders}
-use Rattle.af_backend.specs.Backends.{BackendState, always_silent, over_files, over_codec, over_card, behind_at, without_bytes, all_without_bytes, CapturesBy, CapturesAt, EmitsBy, EmitsAt}
+use Rattle.af_backend.specs.Backends.{BackendState, always_silent, over_files, over_codec, over_card, backend_at, without_bytes, all_without_bytes, CapturesBy, CapturesAt, EmitsBy, EmitsAt}
 
-kind_kept : (old new : List (Option BackendState)) (d : ℕ) (after : Option BackendState) → option_map without_bytes after ≡ option_map without_bytes (behind_at old d) → new ≡ slice_set old d after → all_without_bytes new ≡ all_without_bytes old
+kind_kept : (old new : List (Option BackendState)) (d : ℕ) (after : Option BackendState) → option_map without_bytes after ≡ option_map without_bytes (backend_at old d) → new ≡ slice_set old d after → all_without_bytes new ≡ all_without_bytes old
 unfolding all_without_bytes
 kind_kept old new d after same is = ap (map (option_map without_bytes)) is ∙ map-set_same (option_map without_bytes) old d after None same
 
@@ -34,7 +34,7 @@ captures_kind (Some (over_codec ty)) answer into after h = ap (option_map withou
 captures_kind (Some (over_card card)) answer into after h = card_kept card h.0 after h.1.same h.2
 
 pub captures_same : (d : ℕ) (answer : Put) (into : List ℕ) (old new : List (Option BackendState)) → CapturesAt d answer into old new → all_without_bytes new ≡ all_without_bytes old
-captures_same d answer into old new h = kind_kept old new d h.0 (captures_kind (behind_at old d) answer into h.0 h.1) h.2
+captures_same d answer into old new h = kind_kept old new d h.0 (captures_kind (backend_at old d) answer into h.0 h.1) h.2
 
 emits_kind : (b : Option BackendState) (answer : Put) (sound : List ℕ) (after : Option BackendState) (codec codec' : CodecUse) → EmitsBy b answer sound after codec codec' → option_map without_bytes after ≡ option_map without_bytes b
 emits_kind None answer sound after codec codec' h = ap (option_map without_bytes) h.1
@@ -44,7 +44,7 @@ emits_kind (Some (over_codec ty)) answer sound after codec codec' h = ap (option
 emits_kind (Some (over_card card)) answer sound after codec codec' h = card_kept card h.0 after h.1.same h.2
 
 pub emits_same : (d : ℕ) (answer : Put) (sound : List ℕ) (old new : List (Option BackendState)) (codec codec' : CodecUse) → EmitsAt d answer sound old new codec codec' → all_without_bytes new ≡ all_without_bytes old
-emits_same d answer sound old new codec codec' h = kind_kept old new d h.0 (emits_kind (behind_at old d) answer sound h.0 codec codec' h.1) h.2
+emits_same d answer sound old new codec codec' h = kind_kept old new d h.0 (emits_kind (backend_at old d) answer sound h.0 codec codec' h.1) h.2
 
 takes_orders : (s : CodecStage) (answer : Put) (sound : List ℕ) (codec codec' : CodecUse) → CodecTakesAt s answer sound codec codec' → codec'.orders ≡ codec.orders
 takes_orders stage.Unset answer sound codec codec' h = ap (λ (u : CodecUse). u.orders) h.1
@@ -59,4 +59,4 @@ emits_by_orders (Some (over_codec ty)) answer sound after codec codec' h = takes
 emits_by_orders (Some (over_card card)) answer sound after codec codec' h = ap (λ (u : CodecUse). u.orders) h.3
 
 pub emits_orders : (d : ℕ) (answer : Put) (sound : List ℕ) (old new : List (Option BackendState)) (codec codec' : CodecUse) → EmitsAt d answer sound old new codec codec' → codec'.orders ≡ codec.orders
-emits_orders d answer sound old new codec codec' h = emits_by_orders (behind_at old d) answer sound h.0 codec codec' h.1
+emits_orders d answer sound old new codec codec' h = emits_by_orders (backend_at old d) answer sound h.0 codec codec' h.1

@@ -7,7 +7,7 @@ use Rattle.af_clock.specs.Pacing.{PaceState, first_reading, frames_gone_by, due_
 use Rattle.af_backend.specs.declared.source.Source.{Source}
 use Rattle.af_backend.specs.declared.source.Source.TheVariants as source
 use Rattle.af_backend.specs.Rounds.{source_in, goes_by_program, due_of, some_source_after, IsDue, FindsDue, SourcesRead, NoneDue, NoneFrom, NoneByProgram, IsSettled}
-use Rattle.af_backend.specs.Backends.{BackendState, behind_at}
+use Rattle.af_backend.specs.Backends.{BackendState, backend_at}
 use Rattle.af_backend.specs.Asked.{IsAsked, IsAskedWhere, DevicesAsked, DeviceTicks}
 
 -- Clocks
@@ -61,38 +61,38 @@ none_due_to_the_last nanos from end old none quiet = λ d below on.
 
 -- Devices
 
-pub none_asked : (nanos from : ℕ) (sources : List (Option Source)) (behind : List (Option BackendState)) → DevicesAsked nanos from from sources behind behind
-none_asked nanos from sources behind = record {
+pub none_asked : (nanos from : ℕ) (sources : List (Option Source)) (backends : List (Option BackendState)) → DevicesAsked nanos from from sources backends backends
+none_asked nanos from sources backends = record {
   inside = λ d below on. absurd (omega arith);
   below = λ d _. refl;
   above = λ d _. refl;
 }
 
 pub one_more_asked : (nanos from d : ℕ) (sources : List (Option Source)) (old now : List (Option BackendState)) (b : Option BackendState) → from ≤ d → d < length now →
-    DevicesAsked nanos from d sources old now → IsAsked nanos 0 (source_in sources d) (behind_at now d) b → DevicesAsked nanos from (d + 1) sources old (slice_set now d b)
+    DevicesAsked nanos from d sources old now → IsAsked nanos 0 (source_in sources d) (backend_at now d) b → DevicesAsked nanos from (d + 1) sources old (slice_set now d b)
 one_more_asked nanos from d sources old now b on fits asked is =
-    let here : IsAsked nanos 0 (source_in sources d) (behind_at old d) (behind_at (slice_set now d b) d)
-    = subst (λ x. IsAsked nanos 0 (source_in sources d) (behind_at old d) x) (sym (get_or-set_same now d b None fits))
+    let here : IsAsked nanos 0 (source_in sources d) (backend_at old d) (backend_at (slice_set now d b) d)
+    = subst (λ x. IsAsked nanos 0 (source_in sources d) (backend_at old d) x) (sym (get_or-set_same now d b None fits))
     (subst (λ x. IsAsked nanos 0 (source_in sources d) x b) (asked.above d (omega arith)) is) in
-    let there : (e : ℕ) → e ≢ d → behind_at (slice_set now d b) e ≡ behind_at now e
+    let there : (e : ℕ) → e ≢ d → backend_at (slice_set now d b) e ≡ backend_at now e
     = λ e other. get_or-set_other now d e b None other in
     record {
       inside = λ e below at.
-          ⊎_elim (λ same. subst (λ k. IsAsked nanos 0 (source_in sources k) (behind_at old k) (behind_at (slice_set now d b) k)) (sym same) here)
-          (λ other. subst (λ x. IsAsked nanos 0 (source_in sources e) (behind_at old e) x) (sym (there e other)) (asked.inside e (omega arith) at))
+          ⊎_elim (λ same. subst (λ k. IsAsked nanos 0 (source_in sources k) (backend_at old k) (backend_at (slice_set now d b) k)) (sym same) here)
+          (λ other. subst (λ x. IsAsked nanos 0 (source_in sources e) (backend_at old e) x) (sym (there e other)) (asked.inside e (omega arith) at))
           (cases_eq e d);
       below = λ e before. there e (λ same. omega arith) ∙ asked.below e before;
       above = λ e beyond. there e (λ same. omega arith) ∙ asked.above e (omega arith);
     }
 
 pub this_one_ticks : (nanos from d n : ℕ) (sources : List (Option Source)) (old now : List (Option BackendState)) (b : Option BackendState) → from ≤ d → d < length now →
-    DevicesAsked nanos from d sources old now → IsAsked nanos n (source_in sources d) (behind_at now d) b → DeviceTicks nanos from d n sources old (slice_set now d b)
+    DevicesAsked nanos from d sources old now → IsAsked nanos n (source_in sources d) (backend_at now d) b → DeviceTicks nanos from d n sources old (slice_set now d b)
 this_one_ticks nanos from d n sources old now b on fits asked is =
-    let there : (e : ℕ) → e ≢ d → behind_at (slice_set now d b) e ≡ behind_at now e
+    let there : (e : ℕ) → e ≢ d → backend_at (slice_set now d b) e ≡ backend_at now e
     = λ e other. get_or-set_other now d e b None other in
     record {
-      passed = λ e below at. subst (λ x. IsAsked nanos 0 (source_in sources e) (behind_at old e) x) (sym (there e (λ same. omega arith))) (asked.inside e below at);
-      ticks = subst (λ x. IsAsked nanos n (source_in sources d) (behind_at old d) x) (sym (get_or-set_same now d b None fits))
+      passed = λ e below at. subst (λ x. IsAsked nanos 0 (source_in sources e) (backend_at old e) x) (sym (there e (λ same. omega arith))) (asked.inside e below at);
+      ticks = subst (λ x. IsAsked nanos n (source_in sources d) (backend_at old d) x) (sym (get_or-set_same now d b None fits))
           (subst (λ x. IsAsked nanos n (source_in sources d) x b) (asked.above d (omega arith)) is);
       below = λ e before. there e (λ same. omega arith) ∙ asked.below e before;
       above = λ e beyond. there e (λ same. omega arith) ∙ asked.above e (omega arith);
@@ -107,7 +107,7 @@ pub asked_to_the_last : (nanos from end : ℕ) (sources : List (Option Source)) 
 asked_to_the_last nanos from end sources old new few none asked = record {
   inside = λ d below on.
       ⊎_elim (λ inside. asked.inside d inside on)
-      (λ beyond. unasked nanos (source_in sources d) (behind_at old d) (behind_at new d) (ap goes_by_program (none d (omega arith))) (asked.above d beyond))
+      (λ beyond. unasked nanos (source_in sources d) (backend_at old d) (backend_at new d) (ap goes_by_program (none d (omega arith))) (asked.above d beyond))
       (cases_lt d (max from end));
   below = asked.below;
   above = λ d beyond. asked.above d (omega arith);
@@ -122,10 +122,10 @@ settled_read nanos from to sources settled = record {
   above = λ d _. refl;
 }
 
-pub settled_asked : (nanos from to : ℕ) (sources : List (Option Source)) (behind : List (Option BackendState)) → IsSettled nanos sources →
-    DevicesAsked nanos from to sources behind behind
-settled_asked nanos from to sources behind settled = record {
-  inside = λ d _ _. unasked nanos (source_in sources d) (behind_at behind d) (behind_at behind d) ((settled d).2) refl;
+pub settled_asked : (nanos from to : ℕ) (sources : List (Option Source)) (backends : List (Option BackendState)) → IsSettled nanos sources →
+    DevicesAsked nanos from to sources backends backends
+settled_asked nanos from to sources backends settled = record {
+  inside = λ d _ _. unasked nanos (source_in sources d) (backend_at backends d) (backend_at backends d) ((settled d).2) refl;
   below = λ d _. refl;
   above = λ d _. refl;
 }
@@ -185,26 +185,26 @@ settles nanos end old new none by quiet read = λ d.
 
 -- A round has come to a device: after those that it passes over, and at most to the last. The clock of the device was read, and
 -- it was asked.
-pub record Came (nanos from d n : ℕ) (sources now : List (Option Source)) (old behind : List (Option BackendState)) (s : Option Source) (b : Option BackendState) : Type 0 where
+pub record Came (nanos from d n : ℕ) (sources now : List (Option Source)) (old backends : List (Option BackendState)) (s : Option Source) (b : Option BackendState) : Type 0 where
   pub on : from ≤ d
   pub source_fits : d < length now
-  pub device_fits : d < length behind
+  pub device_fits : d < length backends
   pub none : NoneDue nanos from d sources
   pub read : SourcesRead nanos from d sources now
-  pub asked : DevicesAsked nanos from d sources old behind
+  pub asked : DevicesAsked nanos from d sources old backends
   pub due : IsDue nanos (source_in now d) n
   pub all : due_of nanos (source_in now d) ≤ n
   pub later : s ≡ some_source_after nanos (source_in now d)
-  pub asks : IsAsked nanos n (source_in now d) (behind_at behind d) b
+  pub asks : IsAsked nanos n (source_in now d) (backend_at backends d) b
 
 -- the same, if what is read of a list is so at any default
-pub came : (nanos from d n : ℕ) (sources now : List (Option Source)) (old behind : List (Option BackendState)) (s x : Option Source) (b y : Option BackendState) →
-    from ≤ d → d < length now → d < length behind → NoneDue nanos from d sources → SourcesRead nanos from d sources now → DevicesAsked nanos from d sources old behind →
+pub came : (nanos from d n : ℕ) (sources now : List (Option Source)) (old backends : List (Option BackendState)) (s x : Option Source) (b y : Option BackendState) →
+    from ≤ d → d < length now → d < length backends → NoneDue nanos from d sources → SourcesRead nanos from d sources now → DevicesAsked nanos from d sources old backends →
     IsDue nanos (slice_index_or now d x) n → due_of nanos (slice_index_or now d x) ≤ n → s ≡ some_source_after nanos (slice_index_or now d x) →
-    IsAsked nanos n (slice_index_or now d x) (slice_index_or behind d y) b → Came nanos from d n sources now old behind s b
-came nanos from d n sources now old behind s x b y on sfits dfits none read asked due all later asks =
+    IsAsked nanos n (slice_index_or now d x) (slice_index_or backends d y) b → Came nanos from d n sources now old backends s b
+came nanos from d n sources now old backends s x b y on sfits dfits none read asked due all later asks =
     let xs : slice_index_or now d x ≡ source_in now d = get_or_default now d x None sfits in
-    let ys : slice_index_or behind d y ≡ behind_at behind d = get_or_default behind d y None dfits in
+    let ys : slice_index_or backends d y ≡ backend_at backends d = get_or_default backends d y None dfits in
     record {
       on = on;
       source_fits = sfits;
@@ -215,19 +215,19 @@ came nanos from d n sources now old behind s x b y on sfits dfits none read aske
       due = subst (λ o. IsDue nanos o n) xs due;
       all = subst (λ o. due_of nanos o ≤ n) xs all;
       later = later ∙ ap (some_source_after nanos) xs;
-      asks = subst (λ o. IsAsked nanos n (source_in now d) o b) ys (subst (λ o. IsAsked nanos n o (slice_index_or behind d y) b) xs asks);
+      asks = subst (λ o. IsAsked nanos n (source_in now d) o b) ys (subst (λ o. IsAsked nanos n o (slice_index_or backends d y) b) xs asks);
     }
 
 -- the clock as it was at first is the one that is read
-still : (nanos from d n : ℕ) (sources now : List (Option Source)) (old behind : List (Option BackendState)) (s : Option Source) (b : Option BackendState) →
-    Came nanos from d n sources now old behind s b → source_in now d ≡ source_in sources d
-still nanos from d n sources now old behind s b c = c.read.above d (omega arith)
+still : (nanos from d n : ℕ) (sources now : List (Option Source)) (old backends : List (Option BackendState)) (s : Option Source) (b : Option BackendState) →
+    Came nanos from d n sources now old backends s b → source_in now d ≡ source_in sources d
+still nanos from d n sources now old backends s b c = c.read.above d (omega arith)
 
 -- It has frames due, and ticks.
-pub finds_it : (nanos from to d n : ℕ) (sources now : List (Option Source)) (old behind : List (Option BackendState)) (s : Option Source) (b : Option BackendState) →
-    Came nanos from d n sources now old behind s b → d < to → 1 ≤ n → n ≤ longest_tick → FindsDue nanos from to sources (Some (d, n)) (slice_set now d s)
-finds_it nanos from to d n sources now old behind s b c within some most =
-    let is = still nanos from d n sources now old behind s b c in (
+pub finds_it : (nanos from to d n : ℕ) (sources now : List (Option Source)) (old backends : List (Option BackendState)) (s : Option Source) (b : Option BackendState) →
+    Came nanos from d n sources now old backends s b → d < to → 1 ≤ n → n ≤ longest_tick → FindsDue nanos from to sources (Some (d, n)) (slice_set now d s)
+finds_it nanos from to d n sources now old backends s b c within some most =
+    let is = still nanos from d n sources now old backends s b c in (
       c.on,
       within,
       c.none,
@@ -238,21 +238,21 @@ finds_it nanos from to d n sources now old behind s b c within some most =
       one_more_read nanos from d sources now s c.on c.source_fits c.read c.later,
     )
 
-pub asks_it : (nanos from d n : ℕ) (sources now : List (Option Source)) (old behind : List (Option BackendState)) (s : Option Source) (b : Option BackendState) →
-    Came nanos from d n sources now old behind s b → DeviceTicks nanos from d n sources old (slice_set behind d b)
-asks_it nanos from d n sources now old behind s b c =
-    this_one_ticks nanos from d n sources old behind b c.on c.device_fits c.asked
-    (subst (λ o. IsAsked nanos n o (behind_at behind d) b) (still nanos from d n sources now old behind s b c) c.asks)
+pub asks_it : (nanos from d n : ℕ) (sources now : List (Option Source)) (old backends : List (Option BackendState)) (s : Option Source) (b : Option BackendState) →
+    Came nanos from d n sources now old backends s b → DeviceTicks nanos from d n sources old (slice_set backends d b)
+asks_it nanos from d n sources now old backends s b c =
+    this_one_ticks nanos from d n sources old backends b c.on c.device_fits c.asked
+    (subst (λ o. IsAsked nanos n o (backend_at backends d) b) (still nanos from d n sources now old backends s b c) c.asks)
 
 -- It has none due, and the round goes on.
-pub passes_it : (nanos from d : ℕ) (sources now : List (Option Source)) (old behind : List (Option BackendState)) (s : Option Source) (b : Option BackendState) →
-    Came nanos from d 0 sources now old behind s b →
-    NoneDue nanos from (d + 1) sources × SourcesRead nanos from (d + 1) sources (slice_set now d s) × DevicesAsked nanos from (d + 1) sources old (slice_set behind d b)
-passes_it nanos from d sources now old behind s b c = (
+pub passes_it : (nanos from d : ℕ) (sources now : List (Option Source)) (old backends : List (Option BackendState)) (s : Option Source) (b : Option BackendState) →
+    Came nanos from d 0 sources now old backends s b →
+    NoneDue nanos from (d + 1) sources × SourcesRead nanos from (d + 1) sources (slice_set now d s) × DevicesAsked nanos from (d + 1) sources old (slice_set backends d b)
+passes_it nanos from d sources now old backends s b c = (
   one_more_is_not_due nanos from d sources now c.none c.read (omega (arith, c.all)),
   one_more_read nanos from d sources now s c.on c.source_fits c.read c.later,
-  one_more_asked nanos from d sources old behind b c.on c.device_fits c.asked
-      (subst (λ o. IsAsked nanos 0 o (behind_at behind d) b) (still nanos from d 0 sources now old behind s b c) c.asks),
+  one_more_asked nanos from d sources old backends b c.on c.device_fits c.asked
+      (subst (λ o. IsAsked nanos 0 o (backend_at backends d) b) (still nanos from d 0 sources now old backends s b c) c.asks),
 )
 
 -- what is settled after a round that came to all devices

@@ -3,7 +3,7 @@ use Rattle.std.specs.Prelude.{◌≡◌, ℕ, ◌≤◌, ◌<◌, max, Bool, tru
 use Rattle.af_backend.specs.declared.source.Source.{Source}
 use Rattle.af_backend.specs.Rounds.{RoundState, source_in, goes_by_program}
 use Rattle.af_backend.specs.CardUse.{CardUse, AsksCard}
-use Rattle.af_backend.specs.Backends.{BackendState, always_silent, over_files, over_codec, over_card, behind_at}
+use Rattle.af_backend.specs.Backends.{BackendState, always_silent, over_files, over_codec, over_card, backend_at}
 
 -- A device is asked what its program has due at a reading. One without a program has nothing due.
 abbrev pub IsAskedOf : ℕ → ℕ → Option BackendState → Option BackendState → Type 0
@@ -23,16 +23,16 @@ IsAsked nanos n s b b' = IsAskedWhere (goes_by_program s) nanos n b b'
 
 -- each device between two was asked, and has nothing due; no other is changed
 pub record DevicesAsked (nanos from to : ℕ) (sources : List (Option Source)) (old new : List (Option BackendState)) : Type 0 where
-  pub inside : (d : ℕ) → d < to → from ≤ d → IsAsked nanos 0 (source_in sources d) (behind_at old d) (behind_at new d)
-  pub below : (d : ℕ) → d < from → behind_at new d ≡ behind_at old d
-  pub above : (d : ℕ) → to ≤ d → behind_at new d ≡ behind_at old d
+  pub inside : (d : ℕ) → d < to → from ≤ d → IsAsked nanos 0 (source_in sources d) (backend_at old d) (backend_at new d)
+  pub below : (d : ℕ) → d < from → backend_at new d ≡ backend_at old d
+  pub above : (d : ℕ) → to ≤ d → backend_at new d ≡ backend_at old d
 
 -- each device before one was asked, and has nothing due; this one has so many frames due; no other is changed
 pub record DeviceTicks (nanos from d n : ℕ) (sources : List (Option Source)) (old new : List (Option BackendState)) : Type 0 where
-  pub passed : (e : ℕ) → e < d → from ≤ e → IsAsked nanos 0 (source_in sources e) (behind_at old e) (behind_at new e)
-  pub ticks : IsAsked nanos n (source_in sources d) (behind_at old d) (behind_at new d)
-  pub below : (e : ℕ) → e < from → behind_at new e ≡ behind_at old e
-  pub above : (e : ℕ) → d < e → behind_at new e ≡ behind_at old e
+  pub passed : (e : ℕ) → e < d → from ≤ e → IsAsked nanos 0 (source_in sources e) (backend_at old e) (backend_at new e)
+  pub ticks : IsAsked nanos n (source_in sources d) (backend_at old d) (backend_at new d)
+  pub below : (e : ℕ) → e < from → backend_at new e ≡ backend_at old e
+  pub above : (e : ℕ) → d < e → backend_at new e ≡ backend_at old e
 
 -- the same for the first device with frames due, from one on and before another
 abbrev pub AsksUpTo : ℕ → ℕ → ℕ → List (Option Source) → Option (ℕ × ℕ) → List (Option BackendState) → List (Option BackendState) → Type 0

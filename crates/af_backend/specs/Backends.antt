@@ -44,8 +44,8 @@ abbrev pub none_attached : List (Option BackendState)
 none_attached = replicate most_devices None
 
 -- the backend of the device with a number, if it is attached
-abbrev pub behind_at : List (Option BackendState) → ℕ → Option BackendState
-behind_at devices d = slice_index_or devices d None
+abbrev pub backend_at : List (Option BackendState) → ℕ → Option BackendState
+backend_at devices d = slice_index_or devices d None
 
 -- the same, whatever its files hold, and whatever went between it and its program
 abbrev pub without_bytes : BackendState → BackendState
@@ -77,7 +77,7 @@ CapturesBy (Some (over_card card)) answer into after =
 
 -- a device captures from its backend, and no other device is changed
 abbrev pub CapturesAt : ℕ → Put → List ℕ → List (Option BackendState) → List (Option BackendState) → Type 0
-CapturesAt d answer into old new = (after : Option BackendState) × CapturesBy (behind_at old d) answer into after × (new ≡ slice_set old d after)
+CapturesAt d answer into old new = (after : Option BackendState) × CapturesBy (backend_at old d) answer into after × (new ≡ slice_set old d after)
 
 -- Emits
 
@@ -97,7 +97,7 @@ EmitsBy (Some (over_card card)) answer sound after codec codec' =
 -- a device emits to its backend, and no other device is changed
 abbrev pub EmitsAt : ℕ → Put → List ℕ → List (Option BackendState) → List (Option BackendState) → CodecUse → CodecUse → Type 0
 EmitsAt d answer sound old new codec codec' =
-    (after : Option BackendState) × EmitsBy (behind_at old d) answer sound after codec codec' × (new ≡ slice_set old d after)
+    (after : Option BackendState) × EmitsBy (backend_at old d) answer sound after codec codec' × (new ≡ slice_set old d after)
 
 -- Attaches
 

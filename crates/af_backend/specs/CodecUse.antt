@@ -35,9 +35,9 @@ IsInStage stage.Takes orders feeding emitted = (1 ≤ length orders.words) × (f
 IsInStage stage.Dead orders feeding emitted = ⊤
 
 -- its stage after an emit
-abbrev pub stage_behind : Put → CodecStage
-stage_behind put.Done = stage.Takes
-stage_behind put.Failed = stage.Dead
+abbrev pub stage_after : Put → CodecStage
+stage_after put.Done = stage.Takes
+stage_after put.Failed = stage.Dead
 
 -- One emit of the codec: it adds to the acts exactly the calls that a sound asks for, and answers as they do. Its orders stay.
 -- From then on a sound was emitted.
@@ -46,7 +46,7 @@ pub record CodecEmits (answer : Put) (sound : List ℕ) (before after : CodecUse
   pub all : IsFed after.orders after.feeding true after.acts
   pub orders : after.orders ≡ before.orders
   pub emitted : after.emitted ≡ true
-  pub stage : after.stage ≡ stage_behind answer
+  pub stage : after.stage ≡ stage_after answer
 
 -- Sound is handed to it. If it takes sound, that is one emit. Else there is none, and the call fails.
 abbrev pub CodecTakesAt : CodecStage → Put → List ℕ → CodecUse → CodecUse → Type 0
@@ -79,9 +79,9 @@ codec_with (kind.Card which restarts words) u = u
 codec_with kind.Silent u = u
 
 -- the codec after an attach
-abbrev pub codec_behind : Ready → Kind → CodecUse → CodecUse
-codec_behind ready.Done k u = codec_with k u
-codec_behind _ k u = u
+abbrev pub codec_after : Ready → Kind → CodecUse → CodecUse
+codec_after ready.Done k u = codec_with k u
+codec_after _ k u = u
 
 -- whether the codec allows an attach of this kind
 abbrev pub codec_allows : CodecUse → Kind → Bool

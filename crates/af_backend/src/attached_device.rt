@@ -35,7 +35,7 @@ pub enum Backend<F: Read + Write + Drop, P: Program + Drop> {
 /// A device that is attached.
 #[derive(Drop)]
 pub struct AttachedDevice<F: Read + Write + Drop, P: Program + Drop> {
-    behind: Backend<F, P>,
+    backend: Backend<F, P>,
 }
 
 impl<F: Read + Write + Drop, P: Program + Drop> Model for AttachedDevice<F, P> {
@@ -43,7 +43,7 @@ impl<F: Read + Write + Drop, P: Program + Drop> Model for AttachedDevice<F, P> {
 
     ghost Value = { BackendState };
 
-    ghost view = { λ a. backend_state a.behind };
+    ghost view = { λ a. backend_state a.backend };
 }
 
 impl<F: Read + Write + Drop, P: Program + Drop> AttachedDevice<F, P> {
@@ -58,7 +58,7 @@ impl<F: Read + Write + Drop, P: Program + Drop> AttachedDevice<F, P> {
         ensures done { may_be_refused asked.now.kind ≡ false → IsOk result }
     {
         let ty = asked.spec.ty;
-        let behind = match asked.kind {
+        let backend = match asked.kind {
             Kind::Silent => Backend::Silence(ty),
             Kind::Files { input, output } => {
                 Backend::Files(FileDevice::open(rt, ty, input, output)?)
@@ -84,12 +84,12 @@ impl<F: Read + Write + Drop, P: Program + Drop> AttachedDevice<F, P> {
                 Backend::Card(device)
             }
         };
-        Ok(AttachedDevice { behind })
+        Ok(AttachedDevice { backend })
     }
 
     /// The device of a program whose time it goes by, if it does.
     pub fn card(&self) -> Option<&Card<P>> {
-        match &self.behind {
+        match &self.backend {
             Backend::Card(card) => Some(card.card()),
             _ => None,
         }
@@ -100,7 +100,7 @@ impl<F: Read + Write + Drop, P: Program + Drop> AttachedDevice<F, P> {
         ensures most { result ≤ longest_tick }
         ensures asked { IsAskedOf at result (Some self.old) (Some self.new) }
     {
-        match &mut self.behind {
+        match &mut self.backend {
             Backend::Card(card) => card.due(at),
             Backend::Silence(_) | Backend::Files(_) | Backend::Codec(_) => 0,
         }
@@ -110,7 +110,7 @@ impl<F: Read + Write + Drop, P: Program + Drop> AttachedDevice<F, P> {
     pub fn capture(&mut self, into: &mut [u8]) -> Put
         ensures { CapturesBy (Some self.old) result into.new (Some self.new) }
     {
-        match &mut self.behind {
+        match &mut self.backend {
             Backend::Silence(ty) => capture_silence(*ty, into),
             Backend::Files(files) => files.capture(into),
             Backend::Codec(ty) => capture_silence(*ty, into),
@@ -123,7 +123,7 @@ impl<F: Read + Write + Drop, P: Program + Drop> AttachedDevice<F, P> {
         requires { 0 < length sound.now }
         ensures { EmitsBy (Some self.old) result sound.now (Some self.new) codec.old codec.new }
     {
-        match &mut self.behind {
+        match &mut self.backend {
             Backend::Silence(_) => Put::Done,
             Backend::Files(files) => files.emit(sound),
             Backend::Codec(_) => codec.emit(sound),

@@ -4,7 +4,7 @@ ghost use Rattle.std.specs.declared.option.Option.TheVariants.{Some};
 ghost use Rattle.af_limits.specs.Limits.{most_devices};
 ghost use Rattle.af_codec.specs.Codec.{TellsThese};
 ghost use Rattle.af_backend.specs.Backends.{none_attached, may_be_refused, CapturesBy, CapturesAt, EmitsBy, EmitsAt, AttachesAt};
-ghost use Rattle.af_backend.specs.CodecUse.{begun_codec, codec_allows, codec_behind};
+ghost use Rattle.af_backend.specs.CodecUse.{begun_codec, codec_allows, codec_after};
 ghost use Rattle.af_backend.specs.Backends.{round_after, source_of};
 ghost use Rattle.af_backend.specs.Rounds.{new_round, is_attached, GoesOn};
 ghost use Rattle.af_backend.specs.Asked.{GoesOver};
@@ -70,7 +70,7 @@ impl<F: Read + Write + Drop, S: Spawner + Drop, P: Program + Drop> Devices<F, S,
             codec_allows self.old.codec asked.entry.kind ≡ true → may_be_refused asked.entry.kind ≡ false → result ≡ Ready.Done }
         ensures round { self.new.round ≡ round_after result asked.entry.kind self.old.round asked.entry.number asked.entry.spec.now.rate }
         ensures attached { AttachesAt result asked.entry.kind asked.entry.number asked.entry.spec.now self.old.attached self.new.attached }
-        ensures codec { self.new.codec ≡ codec_behind result asked.entry.kind self.old.codec }
+        ensures codec { self.new.codec ≡ codec_after result asked.entry.kind self.old.codec }
     {
         let place = asked.number as usize;
         if place >= self.attached.len() || self.round.is_attached(asked.number) {

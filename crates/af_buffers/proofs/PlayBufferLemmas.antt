@@ -9,7 +9,7 @@ use Rattle.std.specs.List.{All}
 use Rattle.af_time.specs.DeviceTime.{unwrap}
 use Rattle.af_sample.specs.Channels.{IsChannelCount, AreWholeFrames, frame_count}
 use Rattle.af_sample.specs.Heard.{AcceptedPlay, heard_sample, heard_from, with_entry}
-use Rattle.af_sample.proofs.FrameLemmas.{channel_behind, channel_within, frame_behind, place_is, some_channel, time_from}
+use Rattle.af_sample.proofs.FrameLemmas.{channel_after, channel_within, frame_after, place_is, some_channel, time_from}
 use Rattle.af_sample.proofs.HeardLemmas.{heard_sample-push}
 use Rattle.af_buffers.specs.Horizons.{whole_time}
 use Rattle.af_buffers.specs.PlayBuffer.{PlayWindow, accepted_at, accepted_by, frames_beyond, frames_within, CoversNoneFrom, Plays, HandsOut, Hears}
@@ -91,8 +91,8 @@ size_hand_out b c given o =
     ∙ ap (λ m. m + length (replicate (length given) (pos 0))) (length-drop (length given) b.next) ∙ ap (λ m. length b.next - length given + m) (length-replicate (length given) (pos 0)) ∙ omega arith
 
 -- each sample after what was handed out, and silence past them
-next_behind : (b c : PlayWindow) (given : List ℤ) (j : ℕ) → HandsOut b c given → get_or c.next j (pos 0) ≡ get_or b.next (length given + j) (pos 0)
-next_behind b c given j o =
+next_after : (b c : PlayWindow) (given : List ℤ) (j : ℕ) → HandsOut b c given → get_or c.next j (pos 0) ≡ get_or b.next (length given + j) (pos 0)
+next_after b c given j o =
     let few : length given ≤ length b.next = given_few b c given o in
     let left : length (drop (length given) b.next) ≡ length b.next - length given = length-drop (length given) b.next in
     ap (λ xs. get_or xs j (pos 0)) o.next
@@ -105,12 +105,12 @@ next_behind b c given j o =
     ]
 
 -- the frame and the channel of a sample after whole frames
-heard_behind : (channels : ℕ) (accepted : List AcceptedPlay) (now k m j : ℕ) → 0 < channels → m ≡ channels * k →
+heard_after : (channels : ℕ) (accepted : List AcceptedPlay) (now k m j : ℕ) → 0 < channels → m ≡ channels * k →
     heard_sample channels accepted (now + (m + j) / channels) ((m + j) % channels) ≡ heard_sample channels accepted (now + k + j / channels) (j % channels)
-heard_behind channels accepted now k m j some whole =
+heard_after channels accepted now k m j some whole =
     ap (λ i. heard_sample channels accepted (now + (i + j) / channels) ((i + j) % channels)) whole
-    ∙ ap (λ t. heard_sample channels accepted (now + t) ((channels * k + j) % channels)) (frame_behind channels k j some)
-    ∙ ap (heard_sample channels accepted (now + (k + j / channels))) (channel_behind channels k j)
+    ∙ ap (λ t. heard_sample channels accepted (now + t) ((channels * k + j) % channels)) (frame_after channels k j some)
+    ∙ ap (heard_sample channels accepted (now + (k + j / channels))) (channel_after channels k j)
     ∙ ap (λ t. heard_sample channels accepted t (j % channels)) (omega arith)
 
 -- what is handed out
@@ -125,7 +125,7 @@ hears_hand_out b c channels accepted now given h o whole =
       count = h.count;
       channels = o.channels ∙ h.channels;
       size = size_hand_out b c given o ∙ h.size ∙ ap (λ n. channels * n) (sym o.horizon);
-      each = λ j. next_behind b c given j o ∙ h.each (length given + j) ∙ heard_behind channels accepted now (frame_count channels given) (length given) j (some_channel channels h.count) whole;
+      each = λ j. next_after b c given j o ∙ h.each (length given + j) ∙ heard_after channels accepted now (frame_count channels given) (length given) j (some_channel channels h.count) whole;
       within = λ k d low t past. h.within k d low t (omega arith);
     }
 

@@ -52,9 +52,9 @@ get_or-cells_from : (cells : List ℤ) (p h j : ℕ) → j < h → get_or (cells
 get_or-cells_from cells p h j low = get_or-map-range_with_len (λ j. cell cells (p + j)) 0 h j j (pos 0) low (omega arith)
 
 -- h cells up to a place q, from which samples are put, and the h cells up to the end of these
-put_behind : (old new samples : List ℤ) (p p' q h : ℕ) → IsSize (length old) → h ≤ length old → length samples ≤ h → (p + h) % 2 ^ 32 ≡ q % 2 ^ 32 → p' % 2 ^ 32 ≡ (p + length samples) % 2 ^ 32 →
+put_after : (old new samples : List ℤ) (p p' q h : ℕ) → IsSize (length old) → h ≤ length old → length samples ≤ h → (p + h) % 2 ^ 32 ≡ q % 2 ^ 32 → p' % 2 ^ 32 ≡ (p + length samples) % 2 ^ 32 →
     ChangesRun old new q (length samples) (λ k _. get_or samples k (pos 0)) → cells_from new p' h ≡ drop (length samples) (cells_from old p h ++ samples)
-put_behind old new samples p p' q h power enough count from to run =
+put_after old new samples p p' q h power enough count from to run =
     let size' : IsSize (length new) = subst IsSize (sym run.size) power in
     let before : length (cells_from old p h) ≡ h = length-cells_from old p h in
     let after : length (cells_from new p' h) ≡ h = length-cells_from new p' h in
@@ -100,7 +100,7 @@ captures old new samples t channels n room few whole run =
       time = refl;
       channels = refl;
       horizon = refl;
-      last = put_behind old new samples (channels * (whole_time t - n)) (channels * (whole_time ((t + frame_count channels samples) % 2 ^ 32) - n)) (channels * t % 2 ^ 32) (channels * n)
+      last = put_after old new samples (channels * (whole_time t - n)) (channels * (whole_time ((t + frame_count channels samples) % 2 ^ 32) - n)) (channels * t % 2 ^ 32) (channels * n)
           room.room.power room.room.enough few' (place_end t channels n room.count bounds.1)
           (first_place_later t channels n (frame_count channels samples) room.count bounds.1 ∙ ap (λ m. (channels * (whole_time t - n) + m) % 2 ^ 32) (sym whole))
           run;

@@ -182,9 +182,9 @@ part-lost shape run left sound count rest frames is most less whole fits =
     let few : frames < all.0 + 1 = lt_of_mul-lt-mul_right width (let next = add-mul all.0 1 width in let all-is = all.1 in omega arith) in
     let split : all.0 ≡ frames + (all.0 - frames) = omega arith in
     let parts : all.0 * width ≡ frames * width + (all.0 - frames) * width = ap (λ n. n * width) split ∙ add-mul frames (all.0 - frames) width in
-    let behind = length-drop count sound in
+    let later = length-drop count sound in
     let owes : length (take (min rest (length sound - count)) (drop count sound)) ≡ rest =
-    length-take (min rest (length sound - count)) (drop count sound) ∙ omega (arith, behind, all.1) in
+    length-take (min rest (length sound - count)) (drop count sound) ∙ omega (arith, later, all.1) in
     let front : length (take count sound) ≡ count = length-take count sound ∙ omega arith in
     let long = length-append run.taken (take count sound) in
     let more = lost-more width (length (sound_of run.emitted)) (length run.taken) 0 lost.0 (length sound) (length (run.taken ++ take count sound)) rest (all.0 - frames) (omega arith) less

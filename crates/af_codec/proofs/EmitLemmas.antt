@@ -8,10 +8,10 @@ use Rattle.af_io.proofs.AppendedLemmas.{appended_on}
 use Rattle.af_process.specs.declared.act.BeganGot.{BeganGot}
 use Rattle.af_process.specs.Acts.{Told, noted, began, given, finished}
 use Rattle.af_codec.specs.declared.feeding.Feeding.{Feeding}
-use Rattle.af_codec.specs.Fed.{Emit, OrdersState, emit_acts, fed_behind, feeding_after, feeding_start, give_acts, give_acts_for, give_for, put_of, start_acts_for, start_for, behind_start, after_start_with}
+use Rattle.af_codec.specs.Fed.{Emit, OrdersState, emit_acts, fed_after, feeding_after, feeding_start, give_acts, give_acts_for, give_for, put_of, start_acts_for, start_for, after_start, after_start_with}
 use Rattle.af_codec.specs.Codec.{TellsThese, ChildRuns, Feeds, Gives, HasStart, IsFed, Starts}
-use Rattle.af_codec.proofs.FedLemmas.{TellsThese-appended, acts_of-one_more, fed_behind-one_more}
-use Rattle.af_codec.proofs.StartLemmas.{HasStart-fed_behind}
+use Rattle.af_codec.proofs.FedLemmas.{TellsThese-appended, acts_of-one_more, fed_after-one_more}
+use Rattle.af_codec.proofs.StartLemmas.{HasStart-fed_after}
 
 none_of : {A : Type 0} (r : Option A) → false ≡ is_some r → r ≡ None
 none_of None e = refl
@@ -45,7 +45,7 @@ Gives-lost o f child most sound status a b c runs is gave ended = record {
 pub Feeds-made : (o : OrdersState) (f g h : Feeding) (sound : List ℕ) (a b c d : Option (List Told)) (put : Put) → Appended a (noted sound ∷ []) b → Starts o f g b c →
     Gives o g h sound c d → put ≡ put_of h → Feeds o f h sound a d put
 Feeds-made o f g h sound a b c d put told starts gives answer =
-    let next = behind_start o.restarts f starts.got in
+    let next = after_start o.restarts f starts.got in
     let give : Appended c (give_acts next sound gives.done gives.status) d = subst (λ x. Appended c (give_acts x sound gives.done gives.status) d) starts.feeding gives.told in
     record {
       answers = record { start = starts.got; give = gives.done; finish = gives.status };
@@ -59,12 +59,12 @@ pub IsFed-on : (o : OrdersState) (f h : Feeding) (emitted : Bool) (sound : List 
     Feeds o f h sound a d put → ChildRuns h.running d → IsFed o h true d
 IsFed-on o f h emitted sound a d put live is feeds runs =
     let e : Emit = record { sound = sound; answers = feeds.answers } in
-    let behind = fed_behind o feeding_start is.emits in
-    let still : behind.failed ≡ false = sym (ap (λ (x : Feeding). x.failed) is.behind) ∙ live in
-    let acts : Appended a (emit_acts o behind sound feeds.answers) d = subst (λ x. Appended a (emit_acts o x sound feeds.answers) d) is.behind feeds.told in
+    let after = fed_after o feeding_start is.emits in
+    let still : after.failed ≡ false = sym (ap (λ (x : Feeding). x.failed) is.after) ∙ live in
+    let acts : Appended a (emit_acts o after sound feeds.answers) d = subst (λ x. Appended a (emit_acts o x sound feeds.answers) d) is.after feeds.told in
     record {
       emits = is.emits ++ e ∷ [];
-      behind = feeds.feeding ∙ ap (λ x. feeding_after o x feeds.answers) is.behind ∙ sym (fed_behind-one_more o feeding_start is.emits e still);
+      after = feeds.feeding ∙ ap (λ x. feeding_after o x feeds.answers) is.after ∙ sym (fed_after-one_more o feeding_start is.emits e still);
       told = subst (λ x. TellsThese x d) (sym (acts_of-one_more o feeding_start is.emits e still)) (TellsThese-appended _ _ a d is.told acts);
       none = λ no. grind arith;
       runs = runs;
@@ -72,4 +72,4 @@ IsFed-on o f h emitted sound a d put live is feeds runs =
 
 -- what is fed has a start left
 pub IsFed-starts : (o : OrdersState) (f : Feeding) (emitted : Bool) (acts : Option (List Told)) → IsFed o f emitted acts → HasStart o f
-IsFed-starts o f emitted acts is = subst (λ x. HasStart o x) (sym is.behind) (HasStart-fed_behind o is.emits)
+IsFed-starts o f emitted acts is = subst (λ x. HasStart o x) (sym is.after) (HasStart-fed_after o is.emits)

@@ -6,10 +6,10 @@ use Rattle.af_process.specs.declared.act.BeganGot.{BeganGot}
 use Rattle.af_process.specs.declared.act.BeganGot.TheVariants.{Child, Failed, NoMemory}
 use Rattle.af_process.specs.Acts.{Told}
 use Rattle.af_codec.specs.declared.feeding.Feeding.{Feeding}
-use Rattle.af_codec.specs.Fed.{CallAnswers, Emit, OrdersState, acts_of, run_of_start_for, emit_acts, fed_runs, fed_behind, feeding_after, feeding_start, rest_of_run, sounds_of, taken_by_child}
+use Rattle.af_codec.specs.Fed.{CallAnswers, Emit, OrdersState, acts_of, run_of_start_for, emit_acts, fed_runs, fed_after, feeding_after, feeding_start, rest_of_run, sounds_of, taken_by_child}
 use Rattle.af_codec.specs.Codec.{TellsThese, IsFed}
 use Rattle.af_codec.specs.Runs.{ArePartsInOrder, FeedsOnce, pieces_told, runs_told, sounds_told, starts_told}
-use Rattle.af_codec.proofs.StartLemmas.{HasStart-fed_behind}
+use Rattle.af_codec.proofs.StartLemmas.{HasStart-fed_after}
 
 -- a codec with no failed emit
 abbrev live_feeding : Option ℕ → ℕ → Feeding
@@ -84,28 +84,28 @@ tells o r n false (e ∷ emits) =
 pub runs_told-fed_runs : (o : OrdersState) (emits : List Emit) → runs_told (acts_of o feeding_start emits) ≡ fed_runs o feeding_start emits
 runs_told-fed_runs o emits = (tells o None 0 false emits).1
 
-starts_behind : (o : OrdersState) (r : Option ℕ) (n : ℕ) (b : Bool) (emits : List Emit) → let f : Feeding = record { running = r; starts = n; failed = b } in
-    n + starts_told (acts_of o f emits) ≡ (fed_behind o f emits).starts
-starts_behind o r n b [] = omega arith
-starts_behind o r n true (e ∷ emits) = omega arith
-starts_behind o r n false (e ∷ emits) =
+starts_after : (o : OrdersState) (r : Option ℕ) (n : ℕ) (b : Bool) (emits : List Emit) → let f : Feeding = record { running = r; starts = n; failed = b } in
+    n + starts_told (acts_of o f emits) ≡ (fed_after o f emits).starts
+starts_after o r n b [] = omega arith
+starts_after o r n true (e ∷ emits) = omega arith
+starts_after o r n false (e ∷ emits) =
     let g = feeding_after o (live_feeding r n) e.answers in
-    starts_on o r n e.sound e.answers.start e.answers.give e.answers.finish (acts_of o g emits) ∙ starts_behind o g.running g.starts g.failed emits
+    starts_on o r n e.sound e.answers.start e.answers.give e.answers.finish (acts_of o g emits) ∙ starts_after o g.running g.starts g.failed emits
 
-pub starts_told-fed_runs : (o : OrdersState) (emits : List Emit) → starts_told (acts_of o feeding_start emits) ≡ (fed_behind o feeding_start emits).starts
-starts_told-fed_runs o emits = omega (arith, starts_behind o None 0 false emits)
+pub starts_told-fed_runs : (o : OrdersState) (emits : List Emit) → starts_told (acts_of o feeding_start emits) ≡ (fed_after o feeding_start emits).starts
+starts_told-fed_runs o emits = omega (arith, starts_after o None 0 false emits)
 
 -- Parts
 
 -- parts of a rest are parts of the whole
-parts_behind : {A : Type 0} (parts : List (List A)) (front xs : List A) → ArePartsInOrder parts xs → ArePartsInOrder parts (front ++ xs)
-parts_behind [] front xs are = tt
-parts_behind (part ∷ parts) front xs are =
+parts_later : {A : Type 0} (parts : List (List A)) (front xs : List A) → ArePartsInOrder parts xs → ArePartsInOrder parts (front ++ xs)
+parts_later [] front xs are = tt
+parts_later (part ∷ parts) front xs are =
     (front ++ are.0, are.1, ap (λ ys. front ++ ys) are.2 ∙ sym (append_assoc front are.0 (part ++ are.1)), are.3)
 
 -- the runs from here on are parts of these sounds, after the rest of the run that goes on
 AreRunsFrom : List (List ℕ) → List (List (List ℕ)) → List (List ℕ) → Type 0
-AreRunsFrom later runs sounds = (behind : List (List ℕ)) × (sounds ≡ later ++ behind) × ArePartsInOrder runs behind
+AreRunsFrom later runs sounds = (after : List (List ℕ)) × (sounds ≡ later ++ after) × ArePartsInOrder runs after
 
 run_before : (r : Option ℕ) (got : BeganGot) (sound : List ℕ) (later : List (List ℕ)) (runs : List (List (List ℕ))) (sounds : List (List ℕ)) →
     AreRunsFrom later runs sounds → AreRunsFrom (taken_by_child r sound later) (run_of_start_for r got (sound ∷ later) ++ runs) (sound ∷ sounds)
@@ -113,9 +113,9 @@ unfolding AreRunsFrom
 run_before (Some c) got sound later runs sounds are = (are.0, ap (λ x. sound ∷ x) are.1, are.2)
 run_before None (Child c) sound later runs sounds are = (sound ∷ sounds, refl, ([], are.0, ap (λ x. sound ∷ x) are.1, are.2))
 run_before None Failed sound later runs sounds are =
-    (sound ∷ sounds, refl, subst (λ x. ArePartsInOrder runs (sound ∷ x)) (sym are.1) (parts_behind runs (sound ∷ later) are.0 are.2))
+    (sound ∷ sounds, refl, subst (λ x. ArePartsInOrder runs (sound ∷ x)) (sym are.1) (parts_later runs (sound ∷ later) are.0 are.2))
 run_before None NoMemory sound later runs sounds are =
-    (sound ∷ sounds, refl, subst (λ x. ArePartsInOrder runs (sound ∷ x)) (sym are.1) (parts_behind runs (sound ∷ later) are.0 are.2))
+    (sound ∷ sounds, refl, subst (λ x. ArePartsInOrder runs (sound ∷ x)) (sym are.1) (parts_later runs (sound ∷ later) are.0 are.2))
 
 runs_of_noted : (o : OrdersState) (r : Option ℕ) (n : ℕ) (b : Bool) (emits : List Emit) → let f : Feeding = record { running = r; starts = n; failed = b } in
     AreRunsFrom (rest_of_run o f emits) (fed_runs o f emits) (sounds_told (acts_of o f emits))
@@ -139,20 +139,20 @@ runs_of_emitted o r n false (e ∷ emits) =
     let g = feeding_after o (live_feeding r n) e.answers in
     run_before r e.answers.start e.sound (rest_of_run o g emits) (fed_runs o g emits) (sounds_of emits) (runs_of_emitted o g.running g.starts g.failed emits)
 
-behind_none : (runs : List (List (List ℕ))) (later sounds : List (List ℕ)) → later ≡ [] → AreRunsFrom later runs sounds → ArePartsInOrder runs sounds
+none_after : (runs : List (List (List ℕ))) (later sounds : List (List ℕ)) → later ≡ [] → AreRunsFrom later runs sounds → ArePartsInOrder runs sounds
 unfolding AreRunsFrom
-behind_none runs later sounds none are = subst (λ x. ArePartsInOrder runs x) (sym (are.1 ∙ ap (λ x. x ++ are.0) none)) are.2
+none_after runs later sounds none are = subst (λ x. ArePartsInOrder runs x) (sym (are.1 ∙ ap (λ x. x ++ are.0) none)) are.2
 
 -- the runs are parts of what is emitted
 pub fed_runs-parts : (o : OrdersState) (emits : List Emit) → ArePartsInOrder (fed_runs o feeding_start emits) (sounds_of emits)
-fed_runs-parts o emits = behind_none _ _ _ (idle_rest o 0 false emits) (runs_of_emitted o None 0 false emits)
+fed_runs-parts o emits = none_after _ _ _ (idle_rest o 0 false emits) (runs_of_emitted o None 0 false emits)
 
 -- and so the acts show
 pub FeedsOnce-fed_runs : (o : OrdersState) (emits : List Emit) → FeedsOnce o.restarts (acts_of o feeding_start emits)
 FeedsOnce-fed_runs o emits = record {
   parts = subst (λ runs. ArePartsInOrder runs (sounds_told (acts_of o feeding_start emits))) (sym (runs_told-fed_runs o emits))
-      (behind_none _ _ _ (idle_rest o 0 false emits) (runs_of_noted o None 0 false emits));
-  starts = rw (starts_told-fed_runs o emits) (HasStart-fed_behind o emits).within;
+      (none_after _ _ _ (idle_rest o 0 false emits) (runs_of_noted o None 0 false emits));
+  starts = rw (starts_told-fed_runs o emits) (HasStart-fed_after o emits).within;
 }
 
 once_where_told : (o : OrdersState) (emits : List Emit) (acts : Option (List Told)) → TellsThese (acts_of o feeding_start emits) acts →

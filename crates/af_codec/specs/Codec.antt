@@ -7,7 +7,7 @@ use Rattle.af_io.specs.Observed.{Appended}
 use Rattle.af_process.specs.declared.act.BeganGot.{BeganGot}
 use Rattle.af_process.specs.Acts.{Told, finished, RunsWhereTold}
 use Rattle.af_codec.specs.declared.feeding.Feeding.{Feeding}
-use Rattle.af_codec.specs.Fed.{CallAnswers, Emit, OrdersState, acts_of, emit_acts, fed_behind, feeding_after, feeding_start, give_acts, after_give, put_of, start_acts, behind_start}
+use Rattle.af_codec.specs.Fed.{CallAnswers, Emit, OrdersState, acts_of, emit_acts, fed_after, feeding_after, feeding_start, give_acts, after_give, put_of, start_acts, after_start}
 
 -- a codec: its spawner, its orders, what its children were fed, and whether a sound was emitted
 pub record CodecState (S : Type 0) : Type 0 where
@@ -30,7 +30,7 @@ ChildRuns (Some child) acts = RunsWhereTold child acts
 -- before the first.
 pub record IsFed (orders : OrdersState) (feeding : Feeding) (emitted : Bool) (acts : Option (List Told)) : Type 0 where
   pub emits : List Emit
-  pub behind : feeding ≡ fed_behind orders feeding_start emits
+  pub after : feeding ≡ fed_after orders feeding_start emits
   pub told : TellsThese (acts_of orders feeding_start emits) acts
   pub none : emitted ≡ false → emits ≡ []
   pub runs : ChildRuns feeding.running acts
@@ -46,7 +46,7 @@ pub record Feeds (orders : OrdersState) (before after : Feeding) (sound : List �
 pub record Starts (orders : OrdersState) (before after : Feeding) (acts acts' : Option (List Told)) : Type 0 where
   pub got : BeganGot
   pub told : Appended acts (start_acts orders.words before got) acts'
-  pub feeding : after ≡ behind_start orders.restarts before got
+  pub feeding : after ≡ after_start orders.restarts before got
 
 -- what a give of a sound adds to the acts, and leaves fed
 pub record Gives (orders : OrdersState) (before after : Feeding) (sound : List ℕ) (acts acts' : Option (List Told)) : Type 0 where

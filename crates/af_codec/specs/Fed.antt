@@ -43,8 +43,8 @@ abbrev pub start_for : Option ℕ → ℕ → Feeding → BeganGot → Feeding
 start_for None restarts f got = after_start_with restarts f got
 start_for (Some child) restarts f got = f
 
-abbrev pub behind_start : ℕ → Feeding → BeganGot → Feeding
-behind_start restarts f got = start_for f.running restarts f got
+abbrev pub after_start : ℕ → Feeding → BeganGot → Feeding
+after_start restarts f got = start_for f.running restarts f got
 
 abbrev pub start_acts_for : Option ℕ → List (List ℕ) → BeganGot → List Told
 start_acts_for None words got = began words got ∷ []
@@ -83,12 +83,12 @@ give_acts f sound done status = give_acts_for f.running sound done status
 
 -- what is fed after an emit
 abbrev pub feeding_after : OrdersState → Feeding → CallAnswers → Feeding
-feeding_after orders f answers = after_give orders.restarts (behind_start orders.restarts f answers.start) answers.give
+feeding_after orders f answers = after_give orders.restarts (after_start orders.restarts f answers.start) answers.give
 
 -- the acts of an emit: the sound, and the calls that are made for it
 abbrev pub emit_acts : OrdersState → Feeding → List ℕ → CallAnswers → List Told
 emit_acts orders f sound answers =
-    noted sound ∷ (start_acts orders.words f answers.start ++ give_acts (behind_start orders.restarts f answers.start) sound answers.give answers.finish)
+    noted sound ∷ (start_acts orders.words f answers.start ++ give_acts (after_start orders.restarts f answers.start) sound answers.give answers.finish)
 
 -- the answer of an emit: Failed if its start or its give failed and no start is left
 abbrev pub put_of : Feeding → Put
@@ -96,9 +96,9 @@ put_of f = if f.failed then put.Failed else put.Done
 
 -- All sounds, up to the first emit that failed
 
-abbrev pub fed_behind : OrdersState → Feeding → List Emit → Feeding
-fed_behind orders f [] = f
-fed_behind orders f (emit ∷ emits) = if f.failed then f else fed_behind orders (feeding_after orders f emit.answers) emits
+abbrev pub fed_after : OrdersState → Feeding → List Emit → Feeding
+fed_after orders f [] = f
+fed_after orders f (emit ∷ emits) = if f.failed then f else fed_after orders (feeding_after orders f emit.answers) emits
 
 abbrev pub acts_of : OrdersState → Feeding → List Emit → List Told
 acts_of orders f [] = []

@@ -10,7 +10,7 @@ use Rattle.af_text.specs.Lines.{is_nil, lines, words, with_first}
 use Rattle.af_text.specs.Reading.{Entry, go_on, read_on}
 use Rattle.af_text.proofs.LineByLine.{entry, entries_over, entries_read}
 use Rattle.af_config.specs.Stating.{Settings, Configured, LineProgram, has_codec, is_codec, is_phone_line}
-use Rattle.af_config.specs.Configuration.{is_idle, config_entries, placed_of, states_codec, placed_behind, placed_within, device_lines, phone_lines, program_after, stated_program, programs_within, settings_with, settings_within, settings_of, settings_by, config_of}
+use Rattle.af_config.specs.Configuration.{is_idle, config_entries, placed_of, states_codec, placed_after, placed_within, device_lines, phone_lines, program_after, stated_program, programs_within, settings_with, settings_within, settings_of, settings_by, config_of}
 use Rattle.af_config.specs.Reading.{with_configured, with_program, with_device_line, with_phone_line, expects_program, with_config_line, lacks_configured}
 use Rattle.af_config.proofs.ProgramLemmas.{stated_alone, none_free}
 
@@ -143,7 +143,7 @@ one_more kinds d has more had is =
     fold-append (λ b kind. b || is_codec kind) false kinds (d.kind ∷ []) ∙ ap (λ b. b || is_codec d.kind) had ∙ ap (λ b. has || b) (sym is)
 
 -- a line that is allowed states a device
-placed_alone : (has : Bool) (line : List ℕ) (d : Configured) → placed_behind has line ≡ Some d → states_codec line ≡ is_codec d.kind
+placed_alone : (has : Bool) (line : List ℕ) (d : Configured) → placed_after has line ≡ Some d → states_codec line ≡ is_codec d.kind
 placed_alone has line d is =
     elim (has && states_codec line) as (λ t. cond t None (placed_of line) ≡ Some d → states_codec line ≡ is_codec d.kind) [
       | true ↦ λ none. cc none
@@ -175,21 +175,21 @@ module _ (config : List DeviceSpec) (kinds : List ToldKind) (n : ℕ) (has : Boo
   full_line states device full =
       let es = config_entries (suc n) rest in
       ap (go_on (λ t. read_from t (suc n) rest) n) (device_read (devices_alone config kinds) line states device)
-      ∙ ap (λ t. go_on (λ t. read_from t (suc n) rest) n (cond t (option_map (with_configured (devices_alone config kinds)) (placed_behind (has_codec kinds) line)) None)) full
+      ∙ ap (λ t. go_on (λ t. read_from t (suc n) rest) n (cond t (option_map (with_configured (devices_alone config kinds)) (placed_after (has_codec kinds) line)) None)) full
       ∙ device_first config kinds zero has (line_of line n) es device
       ∙ ap (stated_settings config kinds zero has) (sym (read n line rest states))
 
   -- it may state a device, and reading goes on as the lines after it do
   device_line : (room : ℕ) → is_idle line ≡ false → is_phone_line (words line) ≡ false → nat_lt (length config) most_devices ≡ true → has_codec kinds ≡ has →
-      ((d : Configured) → placed_behind has line ≡ Some d → read_from (devices_alone (config ++ d.spec ∷ []) (kinds ++ d.kind ∷ [])) (suc n) rest ≡ stated_settings (config ++ d.spec ∷ []) (kinds ++ d.kind ∷ []) room (has || states_codec line) (config_entries (suc n) rest)) →
+      ((d : Configured) → placed_after has line ≡ Some d → read_from (devices_alone (config ++ d.spec ∷ []) (kinds ++ d.kind ∷ [])) (suc n) rest ≡ stated_settings (config ++ d.spec ∷ []) (kinds ++ d.kind ∷ []) room (has || states_codec line) (config_entries (suc n) rest)) →
       reads_as (suc room)
   device_line room states device few had go =
       let es = config_entries (suc n) rest in
       let later = placed_within room (has || states_codec line) (device_lines es) in
       ap (go_on (λ t. read_from t (suc n) rest) n) (device_read (devices_alone config kinds) line states device)
-      ∙ ap (λ t. go_on (λ t. read_from t (suc n) rest) n (cond t (option_map (with_configured (devices_alone config kinds)) (placed_behind (has_codec kinds) line)) None)) few
-      ∙ ap (λ b. go_on (λ t. read_from t (suc n) rest) n (option_map (with_configured (devices_alone config kinds)) (placed_behind b line))) had
-      ∙ elim (placed_behind has line) as (λ o. placed_behind has line ≡ o → go_on (λ t. read_from t (suc n) rest) n (option_map (with_configured (devices_alone config kinds)) o) ≡ with_devices config kinds (phone_lines es) (with_first n o later)) [
+      ∙ ap (λ t. go_on (λ t. read_from t (suc n) rest) n (cond t (option_map (with_configured (devices_alone config kinds)) (placed_after (has_codec kinds) line)) None)) few
+      ∙ ap (λ b. go_on (λ t. read_from t (suc n) rest) n (option_map (with_configured (devices_alone config kinds)) (placed_after b line))) had
+      ∙ elim (placed_after has line) as (λ o. placed_after has line ≡ o → go_on (λ t. read_from t (suc n) rest) n (option_map (with_configured (devices_alone config kinds)) o) ≡ with_devices config kinds (phone_lines es) (with_first n o later)) [
         | None ↦ λ none. refl
         | Some d ↦ λ is. go d is ∙ more_device config kinds d n (phone_lines es) later
       ] refl

@@ -28,14 +28,14 @@ abbrev pub states_codec : List ℕ → Bool
 states_codec line = unwrap_or (option_map (λ device. is_codec device.kind) (placed_of line)) false
 
 -- the device that a line states; it has no codec if a device before it has one
-abbrev pub placed_behind : Bool → List ℕ → Option Configured
-placed_behind has line = if has && states_codec line then None else placed_of line
+abbrev pub placed_after : Bool → List ℕ → Option Configured
+placed_after has line = if has && states_codec line then None else placed_of line
 
 -- the devices of these lines, at most so many; at most one of all devices has a codec
 abbrev pub placed_within : ℕ → Bool → List (Entry (List ℕ)) → Result (List Configured) ℕ
 placed_within most has [] = Ok []
 placed_within zero has (e ∷ es) = Err e.number
-placed_within (suc most) has (e ∷ es) = with_first e.number (placed_behind has e.said) (placed_within most (has || states_codec e.said) es)
+placed_within (suc most) has (e ∷ es) = with_first e.number (placed_after has e.said) (placed_within most (has || states_codec e.said) es)
 
 -- the lines before the first phone line: they state devices
 abbrev pub device_lines : List (Entry (List ℕ)) → List (Entry (List ℕ))

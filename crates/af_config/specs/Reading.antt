@@ -7,7 +7,7 @@ use Rattle.af_text.specs.Lines.{words, is_nil}
 use Rattle.af_world.specs.declared.script.DeviceSpec.{DeviceSpec}
 use Rattle.af_world.specs.Outside.{spec_has_line}
 use Rattle.af_config.specs.Stating.{Settings, Configured, LineProgram, has_codec, has_program, is_phone_line}
-use Rattle.af_config.specs.Configuration.{is_idle, placed_behind, program_after}
+use Rattle.af_config.specs.Configuration.{is_idle, placed_after, program_after}
 
 -- the configuration so far with one more device
 abbrev pub with_configured : Settings → Configured → Settings
@@ -20,7 +20,7 @@ with_program s program = record s { phones = s.phones ++ program ∷ [] }
 -- the configuration so far with the device that a further line states, if it is allowed there
 abbrev pub with_device_line : Settings → List ℕ → Option Settings
 with_device_line s line =
-    if nat_lt (length s.config) most_devices then option_map (with_configured s) (placed_behind (has_codec s.kinds) line) else None
+    if nat_lt (length s.config) most_devices then option_map (with_configured s) (placed_after (has_codec s.kinds) line) else None
 
 -- the configuration so far with the program that a further line states, if it is allowed there
 abbrev pub with_phone_line : Settings → List ℕ → Option Settings

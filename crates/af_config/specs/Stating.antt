@@ -3,7 +3,7 @@ use Rattle.std.specs.Prelude.{ℕ, ◌-◌, ◌^◌, Bool, true, false, not, nat
 use Rattle.af_limits.specs.Limits.{most_devices}
 use Rattle.af_sample.specs.declared.sample_type.SampleType.{SampleType}
 use Rattle.af_text.specs.Words.{number_within, only_if}
-use Rattle.af_text.specs.Sound.{type_of, rate_of, channels_stated, behind_channels}
+use Rattle.af_text.specs.Sound.{type_of, rate_of, channels_stated, after_channels}
 use Rattle.af_world.specs.declared.card_kind.CardKind.{CardKind}
 use Rattle.af_world.specs.declared.card_kind.CardKind.TheVariants as card_kind
 use Rattle.af_world.specs.declared.script.DeviceSpec.{DeviceSpec}
@@ -113,7 +113,7 @@ placed_at device ending = record { spec = record device { line = ending.line }; 
 -- backend; the words are those after `device`
 abbrev pub configured_with : List (List ℕ) → Option Configured
 configured_with (ty ∷ rate ∷ start ∷ rest) =
-    option_and_then (λ t. option_and_then (λ r. option_and_then (λ s. option_map (placed_at (configured_at t r s (channels_stated rest))) (ending_of (behind_channels rest))) (number_within 0 (2 ^ 32 - 1) start)) (rate_of rate)) (type_of ty)
+    option_and_then (λ t. option_and_then (λ r. option_and_then (λ s. option_map (placed_at (configured_at t r s (channels_stated rest))) (ending_of (after_channels rest))) (number_within 0 (2 ^ 32 - 1) start)) (rate_of rate)) (type_of ty)
 configured_with _ = None
 
 -- the device that the words of a line state

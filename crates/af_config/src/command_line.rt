@@ -27,12 +27,12 @@ pub(crate) fn command_line_stated(line: &[u8]) -> Option<CommandLine>
 {
     let mut command = Words::new();
     let mut rest = line;
-    while let Some((word, behind)) = next_word(rest) {
+    while let Some((word, after)) = next_word(rest) {
         if word.len() > LONGEST_WORD || command.len() == MOST_WORDS {
             return None;
         }
         command.push(copied(word));
-        rest = behind;
+        rest = after;
     }
     if command.is_empty() {
         return None;

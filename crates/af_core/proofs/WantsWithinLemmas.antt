@@ -55,7 +55,7 @@ pub within_set : (from below k : ℕ) (ks ks' : List KeptDeferral) (links : List
     ((j : ℕ) → j ≢ k → has_waiting ks' j ≡ has_waiting ks j) → WantsWithin from below ks links → WantsWithin from below ks' (slice_set links k link)
 within_set from below k ks ks' links link low high others h = record {
   before = λ j less. others_same ks ks' links k link others j (λ same. absurd (omega (arith, same, less, low))) ∙ h.before j less;
-  behind = λ j more. others_same ks ks' links k link others j (λ same. absurd (omega (arith, same, more, high))) ∙ h.behind j more;
+  after = λ j more. others_same ks ks' links k link others j (λ same. absurd (omega (arith, same, more, high))) ∙ h.after j more;
 }
 
 -- A link that wants nothing takes nothing off a log
@@ -124,11 +124,11 @@ with_wants : (k : ℕ) (b : WantingSpan) (ks ks' : List KeptDeferral) (links lin
     WantsWithin b.wants_from b.wants_below ks links → WantsWithin (bounds_with k b).wants_from (bounds_with k b).wants_below ks' links'
 with_wants k b ks ks' links links' only h = record {
   before = λ j less. only j (λ same. absurd (omega (arith, same, less))) ∙ h.before j (omega (arith, less));
-  behind = λ j more. only j (λ same. absurd (omega (arith, same, more))) ∙ h.behind j (omega (arith, more));
+  after = λ j more. only j (λ same. absurd (omega (arith, same, more))) ∙ h.after j (omega (arith, more));
 }
 
 all_wants : (n : ℕ) (ks : List KeptDeferral) (links : List (Option LinkState)) → NoneOpenFrom n links → WantsWithin 0 n ks links
-all_wants n ks links none = record { before = λ j less. absurd (omega (arith, less)); behind = λ j more. closed_wants n ks links none j more }
+all_wants n ks links none = record { before = λ j less. absurd (omega (arith, less)); after = λ j more. closed_wants n ks links none j more }
 
 pub all_bounds : (b : WantingSpan) (ks : List KeptDeferral) (links : List (Option LinkState)) → b.open_below ≤ most_links → NoneOpenFrom b.open_below links → AreBounds (bounds_of_all b) ks links
 all_bounds b ks links most none = record { most = most; none_open = none; from = omega arith; within = omega arith; wants = all_wants b.open_below ks links none }
@@ -141,7 +141,7 @@ same_bounds b ks ks' links links' h same none = record {
   none_open = none;
   from = h.from;
   within = h.within;
-  wants = record { before = λ j less. same j ∙ h.wants.before j less; behind = λ j more. same j ∙ h.wants.behind j more };
+  wants = record { before = λ j less. same j ∙ h.wants.before j less; after = λ j more. same j ∙ h.wants.after j more };
 }
 
 pub woken_bounds : (wake : Wake) (b : WantingSpan) (kept : Kept) (ks' : List KeptDeferral) (links' : List (Option LinkState)) → fits (outline_of kept) wake ≡ true → AreBounds b kept.waits kept.links →
@@ -205,7 +205,7 @@ none_want from below ks links empty h = wants_none 0 (has_waiting ks) links (λ 
     let same : n ≡ 0 + n = omega arith in
     subst (λ i. open_wants (has_waiting ks i) (option_and_then (λ link. link) (slice_get links n)) ≡ false) same (elim (cases_lt n from) [
       | inl less ↦ h.before n less
-      | inr more ↦ h.behind n (omega (arith, empty, more))
+      | inr more ↦ h.after n (omega (arith, empty, more))
     ]))
 
 -- what the link at a number wants
@@ -233,7 +233,7 @@ starts_bounds b ks links is e = subst (λ (x : WantingSpan). AreBounds x ks link
   none_open = none_open_starts links e;
   from = omega arith;
   within = omega arith;
-  wants = record { before = λ k less. closed_wants 0 ks links (none_open_starts links e) k (omega arith); behind = λ k more. closed_wants 0 ks links (none_open_starts links e) k (omega arith) };
+  wants = record { before = λ k less. closed_wants 0 ks links (none_open_starts links e) k (omega arith); after = λ k more. closed_wants 0 ks links (none_open_starts links e) k (omega arith) };
 })
 
 -- one more link that wants nothing, below the others or above them

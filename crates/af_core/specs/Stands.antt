@@ -115,7 +115,7 @@ wants_at ks links k = open_wants (has_waiting ks k) (option_and_then (λ link. l
 -- each link that is to be read, written or closed has one of these numbers: from the first on, and below the second
 pub record WantsWithin (from below : ℕ) (ks : List KeptDeferral) (links : List (Option LinkState)) : Type 0 where
   pub before : (k : ℕ) → k < from → wants_at ks links k ≡ false
-  pub behind : (k : ℕ) → below ≤ k → wants_at ks links k ≡ false
+  pub after : (k : ℕ) → below ≤ k → wants_at ks links k ≡ false
 
 -- the bounds hold for these links
 pub record AreBounds (b : WantingSpan) (ks : List KeptDeferral) (links : List (Option LinkState)) : Type 0 where

@@ -94,7 +94,7 @@ becomes_unmoved k d f a b device there l (inr acts) (inr same) = inl (acted_at k
 own_keeps : (k : ℕ) (a : EnvironmentState) → Keeps k (λ closing. Unit {0}) (λ p. Unmoved k a p.environment)
 own_keeps k a = record {
   may = λ closing e. tt;
-  link = λ p l open' behind same rest set ordered h. h;
+  link = λ p l open' after same rest set ordered h. h;
   takes = λ p n open' set e asked h. h;
   sets_up = λ p order open' unset e h. h;
   stops = λ p cause open' bad h. h;

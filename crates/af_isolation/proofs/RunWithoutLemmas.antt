@@ -26,8 +26,8 @@ use Rattle.af_isolation.proofs.TickWithoutLemmas.{still_silent}
 
 -- A turn
 
-behind_wake : (k : ℕ) (s : State) (log : Log) (b : Parsed State) → serve_and_hook s log ≡ Some b → acted_on k b.state.devices ≡ false → serve_and_hook (state_without k s) (without k log) ≡ accept (state_without k b.state) (without k b.log)
-behind_wake k s log b e silent =
+wake_after : (k : ℕ) (s : State) (log : Log) (b : Parsed State) → serve_and_hook s log ≡ Some b → acted_on k b.state.devices ≡ false → serve_and_hook (state_without k s) (without k log) ≡ accept (state_without k b.state) (without k b.log)
+wake_after k s log b e silent =
     let i = then_inv (serve_all s log) hook_all b e in
     let c = i.0 in
     let quiet = still_silent k c.state b.state (λ acted. laters_acted k c.state.devices b.state.devices (hooked_from (length c.state.devices) 0 c.state c.log b i.2).holds.goes.devices acted) silent in
@@ -49,7 +49,7 @@ turn_without k s (Woke w ∷ log) b e silent =
     let quiet = still_silent k c.state b.state (λ acted. laters_acted k c.state.devices b.state.devices (after_wake c.state c.log b i.2).holds.goes.devices acted) silent in
     ap (λ f. cond f (parse_then (wake_phase (wake_without k w) (state_without k s) (without k log)) serve_and_hook) None) (fits_without k w s t.0)
     ∙ ap (λ x. parse_then x serve_and_hook) (wake_phase_without k w s log c i.1 quiet)
-    ∙ behind_wake k c.state c.log b i.2 silent
+    ∙ wake_after k c.state c.log b i.2 silent
 
 -- A run
 

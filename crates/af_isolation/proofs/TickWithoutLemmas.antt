@@ -145,22 +145,22 @@ few_due_alike n d device x ws same few = subst (λ m. m ≤ n) (sym (count_alike
 module _ (n k d : ℕ) (device : DeviceState) (s : State) (x : DeviceState) (w : Deferral) (there : slice_get s.devices d ≡ Some x) (clock : SameClock device x) (found : find (falls_due d x) s.waiting ≡ Some w)
     (h : Few (suc n) d device s.devices s.waiting)
     (more : (m : ℕ) (t : State) → Few n d device t.devices t.waiting → Few m d device (state_without k t).devices (state_without k t).waiting → acted_on k (complete_by n d t).devices ≡ false → state_without k (complete_by n d t) ≡ complete_by m d (state_without k t)) where
-  abbrev behind : State
-  behind = complete w (record s { waiting = without_first (falls_due d x) s.waiting })
+  abbrev after : State
+  after = complete w (record s { waiting = without_first (falls_due d x) s.waiting })
 
-  few_behind : Few n d device behind.devices behind.waiting
-  few_behind = few_completed n d device x s w clock found h
+  few_after : Few n d device after.devices after.waiting
+  few_after = few_completed n d device x s w clock found h
 
   -- it is link k's
-  first_own : (m : ℕ) → (w.link == k) ≡ true → Few m d device (state_without k s).devices (state_without k s).waiting → acted_on k (complete_by n d behind).devices ≡ false → state_without k (complete_by n d behind) ≡ complete_by m d (state_without k s)
+  first_own : (m : ℕ) → (w.link == k) ≡ true → Few m d device (state_without k s).devices (state_without k s).waiting → acted_on k (complete_by n d after).devices ≡ false → state_without k (complete_by n d after) ≡ complete_by m d (state_without k s)
   first_own m own i silent =
-      let quiet : acted_on k behind.devices ≡ false = still_silent k behind (complete_by n d behind) (λ acted. laters_acted k behind.devices (complete_by n d behind).devices (by_goes n d behind).devices acted) silent in
-      let same : state_without k behind ≡ state_without k s =
+      let quiet : acted_on k after.devices ≡ false = still_silent k after (complete_by n d after) (λ acted. laters_acted k after.devices (complete_by n d after).devices (by_goes n d after).devices acted) silent in
+      let same : state_without k after ≡ state_without k s =
       own_completes k w (record s { waiting = without_first (falls_due d x) s.waiting }) (eqb-true w.link k own) quiet ∙ ap (λ ws. record (state_without k s) { waiting = ws }) (own_due k (falls_due d x) s.waiting w own found) in
-      more m behind few_behind (subst (λ (u : State). Few m d device u.devices u.waiting) (sym same) i) silent ∙ ap (complete_by m d) same
+      more m after few_after (subst (λ (u : State). Few m d device u.devices u.waiting) (sym same) i) silent ∙ ap (complete_by m d) same
 
   -- it is another's
-  first_other : (m : ℕ) → (w.link == k) ≡ false → Few m d device (state_without k s).devices (state_without k s).waiting → acted_on k (complete_by n d behind).devices ≡ false → state_without k (complete_by n d behind) ≡ complete_by m d (state_without k s)
+  first_other : (m : ℕ) → (w.link == k) ≡ false → Few m d device (state_without k s).devices (state_without k s).waiting → acted_on k (complete_by n d after).devices ≡ false → state_without k (complete_by n d after) ≡ complete_by m d (state_without k s)
   first_other zero other i silent =
       let first = other_due k (falls_due d x) s.waiting w other found in
       let left = count_left (falls_due d x) (without_waiter k s.waiting) w first.0 in
@@ -168,14 +168,14 @@ module _ (n k d : ℕ) (device : DeviceState) (s : State) (x : DeviceState) (w :
       absurd (omega (arith, left, none))
   first_other (suc m) other i silent =
       let first = other_due k (falls_due d x) s.waiting w other found in
-      let same : complete w (record (state_without k s) { waiting = without_first (falls_due d x) (without_waiter k s.waiting) }) ≡ state_without k behind =
+      let same : complete w (record (state_without k s) { waiting = without_first (falls_due d x) (without_waiter k s.waiting) }) ≡ state_without k after =
       ap (λ ws. complete w (record (state_without k s) { waiting = ws })) first.1 ∙ other_completes k w (record s { waiting = without_first (falls_due d x) s.waiting }) other in
-      more m behind few_behind (subst (λ (u : State). Few m d device u.devices u.waiting) same (few_completed m d device (device_without k x) (state_without k s) w clock first.0 i)) silent
+      more m after few_after (subst (λ (u : State). Few m d device u.devices u.waiting) same (few_completed m d device (device_without k x) (state_without k s) w clock first.0 i)) silent
       ∙ sym (goes_on m d (state_without k s) (device_without k x) w (there_without k d s x there) first.0 ∙ ap (complete_by m d) same)
 
-  first_completes : (m : ℕ) → Few m d device (state_without k s).devices (state_without k s).waiting → acted_on k (complete_by n d behind).devices ≡ false → state_without k (complete_by n d behind) ≡ complete_by m d (state_without k s)
+  first_completes : (m : ℕ) → Few m d device (state_without k s).devices (state_without k s).waiting → acted_on k (complete_by n d after).devices ≡ false → state_without k (complete_by n d after) ≡ complete_by m d (state_without k s)
   first_completes m i silent =
-      elim (w.link == k) as (λ b. (w.link == k) ≡ b → state_without k (complete_by n d behind) ≡ complete_by m d (state_without k s)) [
+      elim (w.link == k) as (λ b. (w.link == k) ≡ b → state_without k (complete_by n d after) ≡ complete_by m d (state_without k s)) [
         | true ↦ λ own. first_own m own i silent
         | false ↦ λ other. first_other m other i silent
       ] refl

@@ -13,7 +13,7 @@ use Rattle.af_lib.specs.declared.fault.ConnFault.TheVariants as fault
 use Rattle.af_lib.specs.declared.receive.Taken.{Taken}
 use Rattle.af_lib.specs.declared.receive.Taken.TheVariants as taken
 use Rattle.af_lib.specs.Ring.{RingState, with_event}
-use Rattle.af_lib.specs.Incoming.{Incoming, Awaited, event, other, awaited_message, awaited_by, bad_reply, incoming, incoming_at, message_in, rest_at, behind_message}
+use Rattle.af_lib.specs.Incoming.{Incoming, Awaited, event, other, awaited_message, awaited_by, bad_reply, incoming, incoming_at, message_in, rest_at, after_message}
 use Rattle.af_lib.specs.Receive.{IsWhole, IsCut, IsTakenWithin, taken_as}
 use Rattle.af_lib.specs.Observed.{BothTold}
 use Rattle.af_lib.proofs.LinkByteLemmas.{BothTold-map}
@@ -41,30 +41,30 @@ module _ (order : Order) where
   unfolding incoming
   incoming_front b n w = ap (λ f. incoming_at order f b) w.front
 
-  rest_front : (b : List ℕ) (n : ℕ) → IsWhole order b n → behind_message order b ≡ drop n b
-  unfolding behind_message
+  rest_front : (b : List ℕ) (n : ℕ) → IsWhole order b n → after_message order b ≡ drop n b
+  unfolding after_message
   rest_front b n w = ap (λ f. rest_at f b) w.front
 
   incoming_bad : (b : List ℕ) → message_front order b ≡ BadMessage → incoming order b ≡ Err (bad_reply (take 8 b))
   unfolding incoming
   incoming_bad b front = ap (λ f. incoming_at order f b) front
 
-  rest_bad : (b : List ℕ) → message_front order b ≡ BadMessage → behind_message order b ≡ drop 8 b
-  unfolding behind_message
+  rest_bad : (b : List ℕ) → message_front order b ≡ BadMessage → after_message order b ≡ drop 8 b
+  unfolding after_message
   rest_bad b front = ap (λ f. rest_at f b) front
 
   incoming_cut : (b : List ℕ) → IsCut order b → incoming order b ≡ Err fault.LinkEnded
   unfolding incoming
   incoming_cut b cut = ap (λ f. incoming_at order f b) cut.front
 
-  rest_cut : (b : List ℕ) → IsCut order b → behind_message order b ≡ []
-  unfolding behind_message
+  rest_cut : (b : List ℕ) → IsCut order b → after_message order b ≡ []
+  unfolding after_message
   rest_cut b cut = ap (λ f. rest_at f b) cut.front
 
   -- a whole message is taken as what it is
   pub taken_whole : (before after : Option (List ℕ)) (result : Result Taken ConnFault) (into : List ℕ) (n : ℕ) → n ≤ length into →
       BothTold before after (λ b a. IsWhole order b n × (b ≡ take n into ++ a)) → taken_as result (take n into) ≡ message_in order (take n into) → IsTakenWithin result (length (take n into)) →
-      BothTold before after (λ b a. (taken_as result into ≡ incoming order b) × (a ≡ behind_message order b))
+      BothTold before after (λ b a. (taken_as result into ≡ incoming order b) × (a ≡ after_message order b))
   taken_whole before after result into n fits told is within =
       let len = length-take-le n into fits in
       BothTold-map before after _ _ told (λ b a t.
@@ -75,7 +75,7 @@ module _ (order : Order) where
   -- a bad header is taken alone
   pub taken_bad : (before after : Option (List ℕ)) (fault : ConnFault) (into : List ℕ) → 8 ≤ length into →
       BothTold before after (λ b a. (message_front order b ≡ BadMessage) × (b ≡ take 8 into ++ a)) → fault ≡ bad_reply (take 8 into) →
-      BothTold before after (λ b a. (Err fault ≡ incoming order b) × (a ≡ behind_message order b))
+      BothTold before after (λ b a. (Err fault ≡ incoming order b) × (a ≡ after_message order b))
   taken_bad before after fault into fits told is =
       let len = length-take-le 8 into fits in
       BothTold-map before after _ _ told (λ b a t.
@@ -85,34 +85,34 @@ module _ (order : Order) where
 
   -- all of a message that is cut off is taken
   pub taken_cut : (before after : Option (List ℕ)) → BothTold before after (λ b a. IsCut order b × (a ≡ [])) →
-      BothTold before after (λ b a. (Err fault.LinkEnded ≡ incoming order b) × (a ≡ behind_message order b))
+      BothTold before after (λ b a. (Err fault.LinkEnded ≡ incoming order b) × (a ≡ after_message order b))
   taken_cut before after told = BothTold-map before after _ _ told (λ b a t. (sym (incoming_cut b t.0), t.1 ∙ sym (rest_cut b t.0)))
 
   -- an event more
-  awaited_event : (n : ℕ) (ring : RingState) (now next : List ℕ) (e : Event) → 0 < n → Ok (event e) ≡ incoming order now → next ≡ behind_message order now →
+  awaited_event : (n : ℕ) (ring : RingState) (now next : List ℕ) (e : Event) → 0 < n → Ok (event e) ≡ incoming order now → next ≡ after_message order now →
       awaited_message order n ring now ≡ awaited_message order (n - 1) (with_event e ring) next
   unfolding awaited_message
   awaited_event zero ring now next e some is rest = absurd (omega (arith, some))
   awaited_event (suc m) ring now next e some is rest =
-      ap (λ (i : Result Incoming ConnFault). awaited_by i ring (behind_message order now) (λ r. awaited_message order m r (behind_message order now))) (sym is)
+      ap (λ (i : Result Incoming ConnFault). awaited_by i ring (after_message order now) (λ r. awaited_message order m r (after_message order now))) (sym is)
       ∙ ap₂ (λ (k : ℕ) (input : List ℕ). awaited_message order k (with_event e ring) input) (let same : m ≡ suc m - 1 = omega arith in same) (sym rest)
 
   -- a message that is no event
-  awaited_other : (n : ℕ) (ring : RingState) (now next bytes : List ℕ) → 0 < n → Ok (other bytes) ≡ incoming order now → next ≡ behind_message order now →
+  awaited_other : (n : ℕ) (ring : RingState) (now next bytes : List ℕ) → 0 < n → Ok (other bytes) ≡ incoming order now → next ≡ after_message order now →
       awaited_message order n ring now ≡ record { found = Ok bytes; ring = ring; rest = next }
   unfolding awaited_message
   awaited_other zero ring now next bytes some is rest = absurd (omega (arith, some))
   awaited_other (suc m) ring now next bytes some is rest =
-      ap (λ (i : Result Incoming ConnFault). awaited_by i ring (behind_message order now) (λ r. awaited_message order m r (behind_message order now))) (sym is)
+      ap (λ (i : Result Incoming ConnFault). awaited_by i ring (after_message order now) (λ r. awaited_message order m r (after_message order now))) (sym is)
       ∙ ap (λ (input : List ℕ). (let w : Awaited = record { found = Ok bytes; ring = ring; rest = input } in w)) (sym rest)
 
   -- no message
-  awaited_fault : (n : ℕ) (ring : RingState) (now next : List ℕ) (fault : ConnFault) → 0 < n → Err fault ≡ incoming order now → next ≡ behind_message order now →
+  awaited_fault : (n : ℕ) (ring : RingState) (now next : List ℕ) (fault : ConnFault) → 0 < n → Err fault ≡ incoming order now → next ≡ after_message order now →
       awaited_message order n ring now ≡ record { found = Err fault; ring = ring; rest = next }
   unfolding awaited_message
   awaited_fault zero ring now next fault some is rest = absurd (omega (arith, some))
   awaited_fault (suc m) ring now next fault some is rest =
-      ap (λ (i : Result Incoming ConnFault). awaited_by i ring (behind_message order now) (λ r. awaited_message order m r (behind_message order now))) (sym is)
+      ap (λ (i : Result Incoming ConnFault). awaited_by i ring (after_message order now) (λ r. awaited_message order m r (after_message order now))) (sym is)
       ∙ ap (λ (input : List ℕ). (let w : Awaited = record { found = Err fault; ring = ring; rest = input } in w)) (sym rest)
 
   awaited_none : (n : ℕ) (ring : RingState) (now : List ℕ) → n ≡ 0 → awaited_message order n ring now ≡ record { found = Err fault.EventFlood; ring = ring; rest = now }
@@ -121,15 +121,15 @@ module _ (order : Order) where
   awaited_none (suc m) ring now none = absurd (omega (arith, none))
 
   module _ (before now after : Option (List ℕ)) (most n : ℕ) (ring0 ring : RingState) (first : BothTold before now (λ b m. awaited_message order most ring0 b ≡ awaited_message order n ring m)) where
-    pub await_event : (e : Event) → 0 < n → BothTold now after (λ m a. (Ok (event e) ≡ incoming order m) × (a ≡ behind_message order m)) →
+    pub await_event : (e : Event) → 0 < n → BothTold now after (λ m a. (Ok (event e) ≡ incoming order m) × (a ≡ after_message order m)) →
         BothTold before after (λ b a. awaited_message order most ring0 b ≡ awaited_message order (n - 1) (with_event e ring) a)
     await_event e some second = BothTold-trans before now after _ _ _ first second (λ b m a p q. p ∙ awaited_event n ring m a e some q.0 q.1)
 
-    pub await_other : (bytes : List ℕ) → 0 < n → BothTold now after (λ m a. (Ok (other bytes) ≡ incoming order m) × (a ≡ behind_message order m)) →
+    pub await_other : (bytes : List ℕ) → 0 < n → BothTold now after (λ m a. (Ok (other bytes) ≡ incoming order m) × (a ≡ after_message order m)) →
         BothTold before after (λ b a. awaited_message order most ring0 b ≡ record { found = Ok bytes; ring = ring; rest = a })
     await_other bytes some second = BothTold-trans before now after _ _ _ first second (λ b m a p q. p ∙ awaited_other n ring m a bytes some q.0 q.1)
 
-    pub await_fault : (fault : ConnFault) → 0 < n → BothTold now after (λ m a. (Err fault ≡ incoming order m) × (a ≡ behind_message order m)) →
+    pub await_fault : (fault : ConnFault) → 0 < n → BothTold now after (λ m a. (Err fault ≡ incoming order m) × (a ≡ after_message order m)) →
         BothTold before after (λ b a. awaited_message order most ring0 b ≡ record { found = Err fault; ring = ring; rest = a })
     await_fault fault some second = BothTold-trans before now after _ _ _ first second (λ b m a p q. p ∙ awaited_fault n ring m a fault some q.0 q.1)
 

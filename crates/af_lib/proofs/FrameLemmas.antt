@@ -10,7 +10,7 @@ use Rattle.af_wire.specs.MessageFront.{message_front}
 use Rattle.af_lib.specs.Observed.{BothTold}
 use Rattle.af_lib.specs.Receive.{IsWhole, IsCut}
 use Rattle.af_io.proofs.ConsumedLemmas.{consumed_on}
-use Rattle.af_lib.proofs.LinkByteLemmas.{BothTold-map, BothTold-Consumed, BothTold-behind}
+use Rattle.af_lib.proofs.LinkByteLemmas.{BothTold-map, BothTold-Consumed, BothTold-later}
 use Rattle.af_lib.proofs.MessageFrontLemmas.{whole-longer, cut-longer, bad-longer, head-longer, short-cut}
 
 module _ (order : Order) where
@@ -60,5 +60,5 @@ module _ (order : Order) where
       BothTold now after (λ b a. (length b < room) × (a ≡ [])) → NeedMore n ≡ message_front order (take 8 (head ++ rest)) → BothTold before after (λ b a. IsCut order b × (a ≡ []))
   head_and_cut before now after head rest n room eight least size first cut is =
       let front = front_of head rest (NeedMore n) eight is in
-      BothTold-behind before now after head _ _ first cut
+      BothTold-later before now after head _ _ first cut
       (λ b a t. (let fewer : length b < room = t.0 in cut-longer order head b n eight front (omega (arith, length-append head b)), t.1))

@@ -42,9 +42,9 @@ BothTold-Consumed None (Some z) part consumed = consumed
 BothTold-Consumed (Some x) (Some z) part consumed = consumed
 
 -- a statement on a second stretch, after what was given in a first
-pub BothTold-behind : (before now after : Option (List ℕ)) (part : List ℕ) (P Q : List ℕ → List ℕ → Type 0) → Consumed before part now → BothTold now after P →
+pub BothTold-later : (before now after : Option (List ℕ)) (part : List ℕ) (P Q : List ℕ → List ℕ → Type 0) → Consumed before part now → BothTold now after P →
     ((b a : List ℕ) → P b a → Q (part ++ b) a) → BothTold before after Q
-BothTold-behind before now None part P Q consumed told f = tt
-BothTold-behind before None (Some z) part P Q consumed told f = absurd told
-BothTold-behind None (Some y) (Some z) part P Q consumed told f = absurd consumed
-BothTold-behind (Some x) (Some y) (Some z) part P Q consumed told f = let R : List ℕ → Type 0 = λ b. Q b z in subst R (sym consumed) (f y z told)
+BothTold-later before now None part P Q consumed told f = tt
+BothTold-later before None (Some z) part P Q consumed told f = absurd told
+BothTold-later None (Some y) (Some z) part P Q consumed told f = absurd consumed
+BothTold-later (Some x) (Some y) (Some z) part P Q consumed told f = let R : List ℕ → Type 0 = λ b. Q b z in subst R (sym consumed) (f y z told)

@@ -26,7 +26,7 @@ use Rattle.af_lib.specs.declared.fault.Cause.TheVariants as cause
 use Rattle.af_lib.specs.declared.fault.ConnFault.{ConnFault}
 use Rattle.af_lib.specs.declared.fault.ConnFault.TheVariants as fault
 use Rattle.af_lib.specs.Ring.{Gained, RingState}
-use Rattle.af_lib.specs.Incoming.{Incoming, event, other, awaited_message, bad_reply, incoming, behind_message}
+use Rattle.af_lib.specs.Incoming.{Incoming, event, other, awaited_message, bad_reply, incoming, after_message}
 use Rattle.af_lib.specs.Answers.{and_then, answer_to, value_or_bad}
 use Rattle.af_lib.specs.Observed.{BothTold}
 
@@ -265,7 +265,7 @@ pub record EventAwaited {L : Type 0} (left sent : L → Option (List ℕ)) (faul
       (result ≡ Ok e) × (new ≡ record old { ring = record old.ring { events = drop 1 old.ring.events } })
   -- exactly one message was taken
   pub next : old.cause ≡ None → slice_get old.ring.events 0 ≡ None → result ≢ Err fault.LinkFault →
-      BothTold (left old.link) (left new.link) (λ b a. (result ≡ event_of old.order b) × (a ≡ behind_message old.order b))
+      BothTold (left old.link) (left new.link) (λ b a. (result ≡ event_of old.order b) × (a ≡ after_message old.order b))
   -- except for Spent, the answer is an event, LinkFault, LinkEnded or BadReply
   pub answer : old.cause ≡ None → IsOfMessage result
   -- bytes that are observable stay so

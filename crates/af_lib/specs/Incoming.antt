@@ -52,8 +52,8 @@ unfoldable pub incoming : Order → List ℕ → Result Incoming ConnFault
 incoming order input = incoming_at order (message_front order input) input
 
 -- the input after its first message
-unfoldable pub behind_message : Order → List ℕ → List ℕ
-behind_message order input = rest_at (message_front order input) input
+unfoldable pub after_message : Order → List ℕ → List ℕ
+after_message order input = rest_at (message_front order input) input
 
 -- where a client that awaits a message has come to: what it found, its ring of events, and the input that is left
 pub record Awaited : Type 0 where
@@ -71,4 +71,4 @@ awaited_by (Err fault) ring rest more = record { found = Err fault; ring = ring;
 unfoldable pub awaited_message : Order → ℕ → RingState → List ℕ → Awaited
 awaited_message order zero ring input = record { found = Err fault.EventFlood; ring = ring; rest = input }
 awaited_message order (suc n) ring input =
-    awaited_by (incoming order input) ring (behind_message order input) (λ r. awaited_message order n r (behind_message order input))
+    awaited_by (incoming order input) ring (after_message order input) (λ r. awaited_message order n r (after_message order input))

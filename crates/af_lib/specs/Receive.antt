@@ -14,7 +14,7 @@ use Rattle.af_lib.specs.declared.receive.Framed.TheVariants as framed
 use Rattle.af_lib.specs.declared.receive.Taken.{Taken}
 use Rattle.af_lib.specs.declared.receive.Taken.TheVariants as taken
 use Rattle.af_lib.specs.Ring.{RingState}
-use Rattle.af_lib.specs.Incoming.{Incoming, event, other, incoming, behind_message, awaited_message}
+use Rattle.af_lib.specs.Incoming.{Incoming, event, other, incoming, after_message, awaited_message}
 use Rattle.af_lib.specs.Observed.{BothTold}
 
 -- a slice was filled; or fewer bytes than it has room for were left, and were all given
@@ -67,7 +67,7 @@ IsTakenWithin _ most = ⊤
 -- the first message was taken, and nothing after it
 abbrev pub Takes : Order → Result Taken ConnFault → List ℕ → Option (List ℕ) → Option (List ℕ) → Type 0
 Takes order result into before after =
-    BothTold before after (λ b a. (taken_as result into ≡ incoming order b) × (a ≡ behind_message order b))
+    BothTold before after (λ b a. (taken_as result into ≡ incoming order b) × (a ≡ after_message order b))
 
 -- the message that was found and is in a buffer
 abbrev pub found_as : Result ℕ ConnFault → List ℕ → Result (List ℕ) ConnFault

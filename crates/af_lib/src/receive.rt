@@ -1,7 +1,7 @@
 // Receiving messages: bytes, one message, and the first message that is no event.
 ghost use Rattle.std.specs.Prelude.{◌≡◌, ◌≢◌, ◌≤◌, ◌<◌, length, IfOk, Ok, Err};
 ghost use Rattle.af_limits.specs.Limits.{longest_message};
-ghost use Rattle.af_lib.specs.Incoming.{bad_reply, first_bytes, message_in, behind_message};
+ghost use Rattle.af_lib.specs.Incoming.{bad_reply, first_bytes, message_in, after_message};
 ghost use Rattle.af_lib.specs.Calls.{event_of, event_only, IsFresh, IsOfMessage};
 ghost use Rattle.af_lib.specs.Observed.{BothTold, OnlyRead};
 ghost use Rattle.af_lib.specs.Ring.{Gained};
@@ -164,7 +164,7 @@ pub fn await_message<L: Link>(
 pub fn take_event<L: Link>(order: Order, link: &mut L, input: &mut [u8]) -> Result<Event, ConnFault>
     requires { longest_message ≤ length input.old }
     ensures takes { result ≢ Err ConnFault.LinkFault →
-        BothTold (L.left link.old) (L.left link.new) (λ b a. (result ≡ event_of order b) × (a ≡ behind_message order b)) }
+        BothTold (L.left link.old) (L.left link.new) (λ b a. (result ≡ event_of order b) × (a ≡ after_message order b)) }
     ensures message { IsOfMessage result }
     ensures reads { OnlyRead L.left L.sent L.faults (result ≡ Err ConnFault.LinkFault) link.old link.new }
 {

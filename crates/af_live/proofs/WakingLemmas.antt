@@ -23,15 +23,15 @@ kept_links (wake.Ticked d n) old new fits h = absurd fits
 kept_links (wake.Line d change) old new fits h = absurd fits
 kept_links wake.Stop old new fits h = absurd fits
 
-pub kept_round : (w : Wake) (old new : List (Option LinkEntry)) (round : RoundState) (behind : List (Option BackendState)) →
-    LinkWakeFits old w → GivesFirst old (Some w) new → LeadsRound (Some w) old round behind new round behind
-kept_round (wake.Opened k) old new round behind fits h = inl ((h, refl), refl)
-kept_round (wake.Readable k) old new round behind fits h = inl ((h, refl), refl)
-kept_round (wake.Writable k) old new round behind fits h = inl ((h, refl), refl)
-kept_round wake.Idle old new round behind fits h = inl ((h, refl), refl)
-kept_round (wake.Ticked d n) old new round behind fits h = absurd fits
-kept_round (wake.Line d change) old new round behind fits h = absurd fits
-kept_round wake.Stop old new round behind fits h = absurd fits
+pub kept_round : (w : Wake) (old new : List (Option LinkEntry)) (round : RoundState) (backends : List (Option BackendState)) →
+    LinkWakeFits old w → GivesFirst old (Some w) new → LeadsRound (Some w) old round backends new round backends
+kept_round (wake.Opened k) old new round backends fits h = inl ((h, refl), refl)
+kept_round (wake.Readable k) old new round backends fits h = inl ((h, refl), refl)
+kept_round (wake.Writable k) old new round backends fits h = inl ((h, refl), refl)
+kept_round wake.Idle old new round backends fits h = inl ((h, refl), refl)
+kept_round (wake.Ticked d n) old new round backends fits h = absurd fits
+kept_round (wake.Line d change) old new round backends fits h = absurd fits
+kept_round wake.Stop old new round backends fits h = absurd fits
 
 pub kept_lines : (w : Wake) (old new : List (Option LinkEntry)) (round : RoundState) (lines : LinesState) →
     LinkWakeFits old w → GivesFirst old (Some w) new → LeadsLines (Some w) old round lines new round lines

@@ -15,4 +15,4 @@ IsReadingBy (Some taken) last nanos = nanos ≡ taken
 -- How many nanoseconds a poll waits at most. It does not wait if there is more to do, if a device ticked or a line changed in the
 -- round, or if the server is a whole step late.
 abbrev pub pause_of : Bool → Bool → Bool → ℕ
-pause_of more went_on behind = if more || went_on || behind then 0 else 10000000
+pause_of more went_on is_late = if more || went_on || is_late then 0 else 10000000

@@ -27,7 +27,7 @@ use Rattle.af_backend.specs.Asked.{GoesOver}
 pub record RealState : Type 0 where
   pub listens : Bool
   pub links : List (Option LinkEntry)
-  pub behind : List (Option BackendState)
+  pub backends : List (Option BackendState)
   pub codec : CodecUse
   pub round : RoundState
   pub lines : LinesState
@@ -38,12 +38,12 @@ pub record RealState : Type 0 where
 
 -- it was just made, over a spawner with these acts
 abbrev pub begun_world : Option (List Told) → RealState
-begun_world acts = record { listens = false; links = replicate most_links free_entry; behind = none_attached; codec = begun_codec acts; round = new_round; lines = no_lines; link_faults = 0; device_faults = 0; listen_faults = 0; wait_faults = 0 }
+begun_world acts = record { listens = false; links = replicate most_links free_entry; backends = none_attached; codec = begun_codec acts; round = new_round; lines = no_lines; link_faults = 0; device_faults = 0; listen_faults = 0; wait_faults = 0 }
 
 -- what the server's calls leave alone, and the counts that they may raise
 pub record RealLeadsTo (old new : RealState) : Type 0 where
   pub listens : new.listens ≡ old.listens
-  pub behind : all_without_bytes new.behind ≡ all_without_bytes old.behind
+  pub backends : all_without_bytes new.backends ≡ all_without_bytes old.backends
   pub orders : new.codec.orders ≡ old.codec.orders
   pub round : new.round ≡ old.round
   pub lines : (all_line_orders new.lines.lines ≡ all_line_orders old.lines.lines) × (new.lines.next ≡ old.lines.next)
@@ -53,12 +53,12 @@ pub record RealLeadsTo (old new : RealState) : Type 0 where
   pub wait_faults : new.wait_faults ≡ old.wait_faults
 
 pub RealLeadsTo-refl : (a : RealState) → RealLeadsTo a a
-RealLeadsTo-refl a = record { listens = refl; behind = refl; orders = refl; round = refl; lines = (refl, refl); link_faults = le_refl a.link_faults; device_faults = le_refl a.device_faults; listen_faults = refl; wait_faults = refl }
+RealLeadsTo-refl a = record { listens = refl; backends = refl; orders = refl; round = refl; lines = (refl, refl); link_faults = le_refl a.link_faults; device_faults = le_refl a.device_faults; listen_faults = refl; wait_faults = refl }
 
 pub RealLeadsTo-trans : (a b c : RealState) → RealLeadsTo a b → RealLeadsTo b c → RealLeadsTo a c
 RealLeadsTo-trans a b c p q = record {
   listens = q.listens ∙ p.listens;
-  behind = q.behind ∙ p.behind;
+  backends = q.backends ∙ p.backends;
   orders = q.orders ∙ p.orders;
   round = q.round ∙ p.round;
   lines = (q.lines.0 ∙ p.lines.0, q.lines.1 ∙ p.lines.1);
@@ -82,21 +82,21 @@ GivesKept (Some w) links round links' round' = GivesFirst links (Some w) links' 
 
 -- Each device that the round has left is asked at its one reading, and none has a frame due.
 abbrev pub PassesAll : RoundState → List (Option BackendState) → RoundState → List (Option BackendState) → Type 0
-PassesAll old behind past behind' =
-    (nanos : ℕ) × IsReadingBy old.reading old.last nanos × GoesOn nanos old None past × GoesOver nanos old None past behind behind'
+PassesAll old backends past backends' =
+    (nanos : ℕ) × IsReadingBy old.reading old.last nanos × GoesOn nanos old None past × GoesOver nanos old None past backends backends'
 
 -- A tick is that of the next device of the round with frames due, at the one reading of the round: by the system's clock, or by
 -- its program. A line changes once the round has left the last device. Any other wake was kept ready, and the round and the
 -- devices stay as they are; or it comes after the last device, when none has a frame due, and a new round begins. A wait that
 -- failed begins none.
 abbrev pub LeadsRound : Option Wake → List (Option LinkEntry) → RoundState → List (Option BackendState) → List (Option LinkEntry) → RoundState → List (Option BackendState) → Type 0
-LeadsRound None links old behind links' new behind' = ((new ≡ old) × (behind' ≡ behind)) ⊎ PassesAll old behind new behind'
-LeadsRound (Some (wake.Ticked d n)) links old behind links' new behind' =
-    (nanos : ℕ) × IsReadingBy old.reading old.last nanos × GoesOn nanos old (Some (d, n)) new × GoesOver nanos old (Some (d, n)) new behind behind'
-LeadsRound (Some (wake.Line d change)) links old behind links' new behind' = PassesAll old behind new behind'
-LeadsRound (Some w) links old behind links' new behind' =
-    (GivesKept (Some w) links old links' new × (behind' ≡ behind))
-    ⊎ ((past : RoundState) × PassesAll old behind past behind' × (new ≡ next_round past))
+LeadsRound None links old backends links' new backends' = ((new ≡ old) × (backends' ≡ backends)) ⊎ PassesAll old backends new backends'
+LeadsRound (Some (wake.Ticked d n)) links old backends links' new backends' =
+    (nanos : ℕ) × IsReadingBy old.reading old.last nanos × GoesOn nanos old (Some (d, n)) new × GoesOver nanos old (Some (d, n)) new backends backends'
+LeadsRound (Some (wake.Line d change)) links old backends links' new backends' = PassesAll old backends new backends'
+LeadsRound (Some w) links old backends links' new backends' =
+    (GivesKept (Some w) links old links' new × (backends' ≡ backends))
+    ⊎ ((past : RoundState) × PassesAll old backends past backends' × (new ≡ next_round past))
 
 -- Each line that the round has left is asked at its one reading, and none changes.
 abbrev pub PassesLines : RoundState → LinesState → LinesState → Type 0
@@ -124,9 +124,9 @@ abbrev pub LosesNoFrame : Option Wake → RoundState → RoundState → Type 0
 LosesNoFrame w old new = (d nanos : ℕ) → due_of nanos (source_at old d) ≤ frames_ticked_by w d + due_of nanos (source_at new d)
 
 -- whether it listens after a listen
-abbrev pub listens_behind : Ready → Bool → Bool
-listens_behind ready.Done before = true
-listens_behind _ before = before
+abbrev pub listens_after : Ready → Bool → Bool
+listens_after ready.Done before = true
+listens_after _ before = before
 
 -- the wake that the answer of a wait gives
 abbrev pub given_wake : Waited → Option Wake

@@ -21,7 +21,7 @@ pub(crate) fn read_link(
     ensures open { KeepsOpen links.old links.new }
     ensures unheld { is_free (link_at links.old link) ≡ true → result ≡ LinkGot.Failed }
     ensures drained { is_some sockets.old ≡ true → is_drained (link_at links.old link) ≡ true → result ≡ LinkGot.NotYet }
-    ensures behind { AfterRead link (length into.new) result links.old links.new }
+    ensures after { AfterRead link (length into.new) result links.old links.new }
     ensures listens { is_some sockets.new ≡ is_some sockets.old }
 {
     let (Some(sockets), Some(held)) = (sockets, links.get(link)) else {
@@ -59,7 +59,7 @@ pub(crate) fn write_link(
     ensures bound { TookFits result (length piece.now) }
     ensures open { KeepsOpen links.old links.new }
     ensures unheld { is_free (link_at links.old link) ≡ true → result ≡ LinkTook.Failed }
-    ensures behind { AfterWrite link result links.old links.new }
+    ensures after { AfterWrite link result links.old links.new }
     ensures listens { is_some sockets.new ≡ is_some sockets.old }
 {
     let (Some(sockets), Some(held)) = (sockets, links.get(link)) else {

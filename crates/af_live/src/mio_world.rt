@@ -14,12 +14,12 @@ ghost use Rattle.af_live.specs.LinkTable.{is_drained, is_free, link_at, somethin
 ghost use Rattle.af_live.specs.Counting.{CountsOne, CountsStand};
 ghost use Rattle.af_codec.specs.Codec.{TellsThese};
 ghost use Rattle.af_backend.specs.Backends.{may_be_refused, round_after, CapturesAt, EmitsAt, AttachesAt};
-ghost use Rattle.af_backend.specs.CodecUse.{codec_allows, codec_behind};
+ghost use Rattle.af_backend.specs.CodecUse.{codec_allows, codec_after};
 ghost use Rattle.af_backend.specs.Rounds.{is_attached};
 ghost use Rattle.af_process.specs.Acts.{words_of};
 ghost use Rattle.af_lines.specs.HeldLines.{is_quiet, line_at, lines_after, AttachesLine, HooksAt};
 ghost use Rattle.af_live.specs.Polls.{LeadsLinks, TakesLeast};
-ghost use Rattle.af_live.specs.RealWorld.{RealLeadsTo, begun_world, given_wake, listens_behind, GivesKept, LeadsLines, LeadsRound, LosesNoFrame, WakeFits};
+ghost use Rattle.af_live.specs.RealWorld.{RealLeadsTo, begun_world, given_wake, listens_after, GivesKept, LeadsLines, LeadsRound, LosesNoFrame, WakeFits};
 
 use crate::counting::{count_got, count_put, count_ready, count_took, count_waited};
 use crate::held_links::HeldLinks;
@@ -77,7 +77,7 @@ impl<R: Net + Clock + Files + Drop, S: Spawner + Drop, G: Programs + Drop> Model
     ghost view = { λ w. record {
       listens = is_some w.sockets;
       links = w.links;
-      behind = w.devices.attached;
+      backends = w.devices.attached;
       codec = w.devices.codec;
       round = w.devices.round;
       lines = w.lines;
@@ -182,7 +182,7 @@ impl<R: Net + Clock + Files + Drop, S: Spawner + Drop, G: Programs + Drop> World
         ensures open { KeepsOpen self.old.links self.new.links }
         ensures unheld { is_free (link_at self.old.links link) ≡ true → result ≡ LinkGot.Failed }
         ensures drained { self.old.listens ≡ true → is_drained (link_at self.old.links link) ≡ true → result ≡ LinkGot.NotYet }
-        ensures behind { AfterRead link (length into.new) result self.old.links self.new.links }
+        ensures after { AfterRead link (length into.new) result self.old.links self.new.links }
         ensures rest { self.new ≡ record self.old { links = self.new.links; link_faults = self.new.link_faults } }
     {
         let got = read_link(&mut self.sockets, &mut self.links, link, into);
@@ -198,7 +198,7 @@ impl<R: Net + Clock + Files + Drop, S: Spawner + Drop, G: Programs + Drop> World
         ensures leads { RealLeadsTo self.old self.new }
         ensures open { KeepsOpen self.old.links self.new.links }
         ensures unheld { is_free (link_at self.old.links link) ≡ true → result ≡ LinkTook.Failed }
-        ensures behind { AfterWrite link result self.old.links self.new.links }
+        ensures after { AfterWrite link result self.old.links self.new.links }
         ensures rest { self.new ≡ record self.old { links = self.new.links; link_faults = self.new.link_faults } }
     {
         let took = write_link(&mut self.sockets, &mut self.links, link, piece);
@@ -218,8 +218,8 @@ impl<R: Net + Clock + Files + Drop, S: Spawner + Drop, G: Programs + Drop> World
         requires { 0 < length into.old }
         ensures faults { CountsOne (result ≡ Put.Failed) self.old.device_faults self.new.device_faults }
         ensures leads { RealLeadsTo self.old self.new }
-        ensures behind { CapturesAt device result into.new self.old.behind self.new.behind }
-        ensures rest { self.new ≡ record self.old { behind = self.new.behind; device_faults = self.new.device_faults } }
+        ensures backends { CapturesAt device result into.new self.old.backends self.new.backends }
+        ensures rest { self.new ≡ record self.old { backends = self.new.backends; device_faults = self.new.device_faults } }
     {
         let put = self.devices.capture(device, into);
         count_put(put, &mut self.device_faults);
@@ -230,9 +230,9 @@ impl<R: Net + Clock + Files + Drop, S: Spawner + Drop, G: Programs + Drop> World
         requires { 0 < length sound.now }
         ensures faults { CountsOne (result ≡ Put.Failed) self.old.device_faults self.new.device_faults }
         ensures leads { RealLeadsTo self.old self.new }
-        ensures behind { EmitsAt device result sound.now self.old.behind self.new.behind self.old.codec self.new.codec }
+        ensures backends { EmitsAt device result sound.now self.old.backends self.new.backends self.old.codec self.new.codec }
         ensures rest { self.new
-            ≡ record self.old { behind = self.new.behind; codec = self.new.codec; device_faults = self.new.device_faults } }
+            ≡ record self.old { backends = self.new.backends; codec = self.new.codec; device_faults = self.new.device_faults } }
     {
         let put = self.devices.emit(device, sound);
         count_put(put, &mut self.device_faults);
@@ -269,7 +269,7 @@ impl<R: Net + Clock + Files + Drop, S: Spawner + Drop, G: Programs + Drop> Live
 
     fn listen(&mut self, alloc: Global, address: &str) -> Ready
         ensures faults { CountsOne (result ≡ Ready.Failed) self.old.listen_faults self.new.listen_faults }
-        ensures listens { self.new.listens ≡ listens_behind result self.old.listens }
+        ensures listens { self.new.listens ≡ listens_after result self.old.listens }
         ensures again { self.old.listens ≡ true → result ≡ Ready.Failed }
         ensures rest { self.new ≡ record self.old { listens = self.new.listens; listen_faults = self.new.listen_faults } }
         ensures counts { CountsStand self.old self.new }
@@ -286,11 +286,11 @@ impl<R: Net + Clock + Files + Drop, S: Spawner + Drop, G: Programs + Drop> Live
         ensures allowed { result ≡ Ready.Done → codec_allows self.old.codec kind.entry ≡ true }
         ensures done { device < most_devices → is_attached self.old.round device ≡ false →
             codec_allows self.old.codec kind.entry ≡ true → may_be_refused kind.entry ≡ false → result ≡ Ready.Done }
-        ensures behind { AttachesAt result kind.entry device spec.now self.old.behind self.new.behind }
-        ensures codec { self.new.codec ≡ codec_behind result kind.entry self.old.codec }
+        ensures backends { AttachesAt result kind.entry device spec.now self.old.backends self.new.backends }
+        ensures codec { self.new.codec ≡ codec_after result kind.entry self.old.codec }
         ensures lines { self.new.lines ≡ lines_after result device spec.now.line self.old.lines }
         ensures rest { self.new ≡ record self.old
-            { behind = self.new.behind; codec = self.new.codec; round = self.new.round; lines = self.new.lines; device_faults = self.new.device_faults } }
+            { backends = self.new.backends; codec = self.new.codec; round = self.new.round; lines = self.new.lines; device_faults = self.new.device_faults } }
         ensures counts { CountsStand self.old self.new }
     {
         let asked = NewDevice {
@@ -331,11 +331,11 @@ impl<R: Net + Clock + Files + Drop, S: Spawner + Drop, G: Programs + Drop> Live
             (λ wake. Opens wake self.old.links self.new.links) }
         ensures links { LeadsLinks (given_wake result) self.old.links self.new.links }
         ensures least { TakesLeast self.old.links self.new.links }
-        ensures round { LeadsRound (given_wake result) self.old.links self.old.round self.old.behind self.new.links self.new.round self.new.behind }
+        ensures round { LeadsRound (given_wake result) self.old.links self.old.round self.old.backends self.new.links self.new.round self.new.backends }
         ensures frames { LosesNoFrame (given_wake result) self.old.round self.new.round }
         ensures lines { LeadsLines (given_wake result) self.old.links self.old.round self.old.lines self.new.links self.new.round self.new.lines }
         ensures rest { self.new ≡ record self.old
-            { links = self.new.links; behind = self.new.behind; round = self.new.round; lines = self.new.lines; wait_faults = self.new.wait_faults } }
+            { links = self.new.links; backends = self.new.backends; round = self.new.round; lines = self.new.lines; wait_faults = self.new.wait_faults } }
         ensures counts { CountsStand self.old self.new }
     {
         let next = next_wake(
@@ -360,7 +360,7 @@ fn begin_to_listen<R: Net>(
     address: &str,
     sockets: &mut Option<Sockets>,
 ) -> Ready
-    ensures listens { is_some sockets.new ≡ listens_behind result (is_some sockets.old) }
+    ensures listens { is_some sockets.new ≡ listens_after result (is_some sockets.old) }
     ensures again { is_some sockets.old ≡ true → result ≡ Ready.Failed }
 {
     if sockets.is_some() {

@@ -37,7 +37,7 @@ const NANOS_A_MILLISECOND: u64 = 1_000_000;
 pub(crate) struct Step {
     shown: u64,
     reading: u64,
-    is_behind: bool,
+    is_late: bool,
 }
 
 /// What a clock shows, rounded down to whole milliseconds: no frame ticks before its time, and a round that follows another
@@ -69,15 +69,15 @@ fn reading<R: Clock>(rt: &R, round: &Round, has_links: bool, step: &mut Step) ->
     }
     let shown = shown_by(rt)?;
     let next = round.reading_after(whole_millis(shown));
-    let is_behind = shown.saturating_sub(next) >= LONGEST_STEP_NANOS;
+    let is_late = shown.saturating_sub(next) >= LONGEST_STEP_NANOS;
     let is_served = shown.saturating_sub(step.shown) >= CATCHING_UP_PAUSE_NANOS;
-    if is_behind && has_links && !is_served {
+    if is_late && has_links && !is_served {
         return Some(round.reading_after(whole_millis(step.reading)));
     }
     *step = Step {
         shown,
         reading: next,
-        is_behind,
+        is_late,
     };
     Some(next)
 }
@@ -145,7 +145,7 @@ pub(crate) fn next_wake<R: Clock, F: Read + Write + Drop, S: Spawner + Drop, P: 
     }
     watch_programs(sockets, devices);
     let went_on = devices.round.has_ticked() || lines.has_changed();
-    let pause = pause(more, went_on, step.is_behind);
+    let pause = pause(more, went_on, step.is_late);
     poll_once(sockets, pause, nanos, links, &mut devices.round, lines)
 }
 
@@ -176,10 +176,10 @@ pub(crate) fn answer(next: Option<Wake>) -> Waited
 }
 
 /// How long a poll waits at most.
-fn pause(more: bool, went_on: bool, behind: bool) -> Duration
-    ensures { as_nanos result ≡ pause_of more went_on behind }
+fn pause(more: bool, went_on: bool, is_late: bool) -> Duration
+    ensures { as_nanos result ≡ pause_of more went_on is_late }
 {
-    if more || went_on || behind {
+    if more || went_on || is_late {
         Duration::ZERO
     } else {
         Duration::from_millis(LONGEST_PAUSE_MILLIS)

@@ -48,13 +48,13 @@ front_none false k p e = setup_none (setup_front p.link.rest) p e
 step_none : (k : ℕ) (p : OpenLink) → advance_step k p ≡ None → IsAdvanced k p.link p.environment.waiting
 step_none k p e more = front_none p.link.is_set_up k p (sym (ap (λ t. cond t (after_front k p) None) more) ∙ e)
 
-pub advanced_behind : (k : ℕ) (p : OpenLink) → IsAdvanced k (advance k p).link (advance k p).environment.waiting
-advanced_behind k p = step_none k (advance k p) (advance_ends k p)
+pub advanced_after : (k : ℕ) (p : OpenLink) → IsAdvanced k (advance k p).link (advance k p).environment.waiting
+advanced_after k p = step_none k (advance k p) (advance_ends k p)
 
 -- so is a link whose request completes
 pub advanced_complete : (w : Deferral) (o : Option DeviceState) (device : DeviceState) (p : OpenLink) → o ≡ Some device → IsAdvanced w.link (complete_for w o p).link (complete_for w o p).environment.waiting
 advanced_complete w None device p e = absurd (none_some e)
-advanced_complete w (Some device) x p e = advanced_behind w.link (answer_deferred w.deferred device (in_devices w.device (complete_deferred w.link w.deferred) p))
+advanced_complete w (Some device) x p e = advanced_after w.link (answer_deferred w.deferred device (in_devices w.device (complete_deferred w.link w.deferred) p))
 
 -- nothing may be taken off a link that is closing
 pub advanced_closing : (k : ℕ) (l : LinkState) (waiting : List Deferral) (cause : Why) → l.closing ≡ Some cause → IsAdvanced k l waiting

@@ -114,7 +114,7 @@ not_due_yet d device is x ds k e deferred there same_clock is_there w =
 few_keeps : (k n d : ℕ) (device : DeviceState) → Keeps k (λ closing. Unit {0}) (λ p. Few n d device p.environment.devices p.environment.waiting)
 few_keeps k n d device = record {
   may = λ closing e. tt;
-  link = λ p l open' behind same rest set ordered h. h;
+  link = λ p l open' after same rest set ordered h. h;
   takes = λ p n open' set e asked h. h;
   sets_up = λ p order open' unset e h. h;
   stops = λ p cause open' bad h. h;

@@ -76,12 +76,12 @@ inner_wakes (Hooked d off done ∷ log) e = inner_wakes log e
 
 -- an emit comes after a part
 record Past (part log front : Log) (emit : Happening) (rest : Log) : Type 0 where
-  behind : Log
-  is : front ≡ part ++ behind
-  log_is : log ≡ behind ++ emit ∷ rest
+  after : Log
+  is : front ≡ part ++ after
+  log_is : log ≡ after ++ emit ∷ rest
 
 past_inner : (part log front : Log) (emit : Happening) (rest : Log) → is_inner emit ≡ false → inner part ≡ true → part ++ log ≡ front ++ emit ∷ rest → Past part log front emit rest
-past_inner [] log front emit rest out inside e = record { behind = front; is = refl; log_is = e }
+past_inner [] log front emit rest out inside e = record { after = front; is = refl; log_is = e }
 past_inner (x ∷ part) log [] emit rest out inside e =
     let same : x ≡ emit = cc in
     let first : is_inner x ≡ true = (both-true (is_inner x) (inner part) inside).0 in
@@ -94,7 +94,7 @@ past_inner (x ∷ part) log (y ∷ front) emit rest out inside e =
     let same : x ≡ y = cc in
     let tails : part ++ log ≡ front ++ emit ∷ rest = cc in
     let p = past_inner part log front emit rest out (both-true (is_inner x) (inner part) inside).1 tails in
-    record { behind = p.behind; is = ap (λ h. h ∷ front) (sym same) ∙ ap (λ l. x ∷ l) p.is; log_is = p.log_is }
+    record { after = p.after; is = ap (λ h. h ∷ front) (sym same) ∙ ap (λ l. x ∷ l) p.is; log_is = p.log_is }
 
 -- an emit of a turn
 record InTurn (s t : State) (front : Log) (d : ℕ) (sent : List ℕ) : Type 0 where
@@ -131,9 +131,9 @@ module _ (s t : State) (log rest : Log) (d : ℕ) (sent : List ℕ) (done : Bool
       let tails : second ++ log ≡ front ++ emit ∷ rest = cc in
       let p = past_inner second log front emit rest refl inside tails in
       inl (record {
-        behind = p.behind;
+        after = p.after;
         is = ap (λ l. Woke w ∷ l) (ap (λ z. z ∷ y ∷ front) capture ∙ ap (λ z. Captured h.d h.frames (Some h.captured) ∷ z ∷ front) sound ∙ ap (λ l. Captured h.d h.frames (Some h.captured) ∷ Emitted h.d h.sent h.done ∷ l) p.is
-            ∙ sym (ap (λ l. (l ++ second) ++ p.behind) h.is));
+            ∙ sym (ap (λ l. (l ++ second) ++ p.after) h.is));
         log_is = p.log_is;
       })
 
@@ -143,7 +143,7 @@ module _ (s t : State) (log rest : Log) (d : ℕ) (sent : List ℕ) (done : Bool
       let wake : x ≡ Woke w = cc in
       let tails : (first ++ second) ++ log ≡ front ++ emit ∷ rest = cc in
       let p = past_inner (first ++ second) log front emit rest refl (inner-append first second none inside) tails in
-      inl (record { behind = p.behind; is = ap (λ z. z ∷ front) wake ∙ ap (λ l. Woke w ∷ l) p.is; log_is = p.log_is })
+      inl (record { after = p.after; is = ap (λ z. z ∷ front) wake ∙ ap (λ l. Woke w ∷ l) p.is; log_is = p.log_is })
   past_turn (x ∷ front) w first second (inr h) inside e =
       let wake : x ≡ Woke w = cc in
       let tails : (first ++ second) ++ log ≡ front ++ emit ∷ rest = cc in
@@ -178,7 +178,7 @@ found_by (suc n) s e log front rest d sent done r is =
     let whole : (Woke h.wake ∷ (h.first ++ h.second)) ++ b.log ≡ front ++ Emitted d sent done ∷ rest = sym (ap (λ l. l ++ b.log) h.is) ∙ sym a.whole ∙ is in
     elim (past_turn s b.state b.log rest d sent done front h.wake h.first h.second h.emits h.inside whole) [
       | inl p ↦
-          let f = found_by n b.state e b.log p.behind rest d sent done i.2 p.log_is in
+          let f = found_by n b.state e b.log p.after rest d sent done i.2 p.log_is in
           let one = one_wake s b.state a.part h in
           let count : wakes (a.part ++ f.before) ≡ suc (wakes f.before) = wakes-append a.part f.before ∙ ap (λ m. m + wakes f.before) one ∙ omega arith in
           record {
@@ -187,7 +187,7 @@ found_by (suc n) s e log front rest d sent done r is =
             to = ap (λ m. end_by m s (a.part ++ f.before)) count ∙ ap (λ x. then_end x (end_by (wakes f.before))) (a.again f.before) ∙ f.to;
             frames = f.frames;
             captured = f.captured;
-            is = p.is ∙ ap (λ l. l ++ p.behind) (sym h.is) ∙ ap (λ l. a.part ++ l) f.is ∙ sym (append_assoc a.part f.before (Woke (Ticked d f.frames) ∷ Captured d f.frames (Some f.captured) ∷ []));
+            is = p.is ∙ ap (λ l. l ++ p.after) (sym h.is) ∙ ap (λ l. a.part ++ l) f.is ∙ sym (append_assoc a.part f.before (Woke (Ticked d f.frames) ∷ Captured d f.frames (Some f.captured) ∷ []));
             out = f.out;
           }
       | inr t ↦ record {

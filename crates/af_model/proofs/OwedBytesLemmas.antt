@@ -169,16 +169,16 @@ unended k g p none h = subst (ShowsBy g h.rest p.link.is_set_up p.link.order p.l
 
 -- a link that is not closing becomes another that is not, and the same waits to be sent
 becomes_unended : (k : ℕ) (g : LinkHistory) (p : OpenLink) (l : LinkState) → p.link.closing ≡ None → l.closing ≡ None → l.pending ≡ p.link.pending → IsUnended g l.is_set_up l.order l.rest → Owing k g p → Owing k g (open_link p.environment l)
-becomes_unended k g p l none behind same input h =
-    let undropped = open_undropped l.closing behind in
+becomes_unended k g p l none after same input h =
+    let undropped = open_undropped l.closing after in
     record {
       rest = h.rest;
       whole = h.whole;
       queued = λ e. h.queued (open_undropped p.link.closing none) ∙ sym same;
       sends = λ e. not_both (is_dropped l.closing) undropped e;
       waits = λ e. not_both (is_dropped l.closing) undropped e;
-      wants = λ e. not_both (is_none l.closing) e (ap is_none behind);
-      shows = subst (ShowsBy g h.rest l.is_set_up l.order l.rest) (sym behind) input;
+      wants = λ e. not_both (is_none l.closing) e (ap is_none after);
+      shows = subst (ShowsBy g h.rest l.is_set_up l.order l.rest) (sym after) input;
       unclosed = h.unclosed;
     }
 
@@ -208,8 +208,8 @@ bad_undropped why.Overrun l bad = absurd bad
 pub queueing_keeps : (k : ℕ) (g : LinkHistory) → Keeps k (λ closing. is_dropped closing ≡ false) (Owing k g)
 queueing_keeps k g = record {
   may = λ closing e. e;
-  link = λ p l none behind same rest set ordered h.
-      becomes_unended k g p l none behind same (subst (λ b. IsUnended g b l.order l.rest) (sym set) (subst (λ o. IsUnended g p.link.is_set_up o l.rest) (sym ordered) (subst (IsUnended g p.link.is_set_up p.link.order) (sym rest) (unended k g p none h)))) h;
+  link = λ p l none after same rest set ordered h.
+      becomes_unended k g p l none after same (subst (λ b. IsUnended g b l.order l.rest) (sym set) (subst (λ o. IsUnended g p.link.is_set_up o l.rest) (sym ordered) (subst (IsUnended g p.link.is_set_up p.link.order) (sym rest) (unended k g p none h)))) h;
   takes = λ p n none set e asked h.
       let u = unended k g p none h in
       let served : IsServedTo p.link.order g.gave p.link.rest = subst (λ b. IsInput b p.link.order g.gave p.link.rest) set u.input in
@@ -380,7 +380,7 @@ sending_undropped k g said l ws e h =
 pub grows_keeps : (k : ℕ) (ds : List DeviceState) → Keeps k (λ closing. Unit {0}) (λ p. AllLive ds p.environment.devices)
 grows_keeps k ds = record {
   may = λ closing e. tt;
-  link = λ p l open' behind same rest set ordered h. h;
+  link = λ p l open' after same rest set ordered h. h;
   takes = λ p n open' set e asked h. h;
   sets_up = λ p order open' unset e h. h;
   stops = λ p cause open' bad h. h;
@@ -399,7 +399,7 @@ SameOthers k ws vs = without_waiter k vs ≡ without_waiter k ws
 pub others_keep : (k : ℕ) (ws : List Deferral) → Keeps k (λ closing. Unit {0}) (λ p. SameOthers k ws p.environment.waiting)
 others_keep k ws = record {
   may = λ closing e. tt;
-  link = λ p l open' behind same rest set ordered h. h;
+  link = λ p l open' after same rest set ordered h. h;
   takes = λ p n open' set e asked h. h;
   sets_up = λ p order open' unset e h. h;
   stops = λ p cause open' bad h. h;

@@ -110,7 +110,7 @@ loses_alike d e rate completed h = record {
 pub safe_keeps : (k slack d : ℕ) → Keeps k (λ closing. Unit {0}) (λ p. SafeIn slack d p.environment)
 safe_keeps k slack c = record {
   may = λ closing e. tt;
-  link = λ p l open' behind same rest set ordered h. h;
+  link = λ p l open' after same rest set ordered h. h;
   takes = λ p n open' set e asked h. h;
   sets_up = λ p order open' unset e h. h;
   stops = λ p cause open' bad h. h;

@@ -28,7 +28,7 @@ use Rattle.af_model.proofs.BoolTestLemmas.{both-true, cond-some, none_some, same
 use Rattle.af_model.proofs.ListLemmas.{get-set_other, get-set_same}
 use Rattle.af_model.proofs.DeviceHistoryLemmas.{AllLive, Laters, all_live_refl, all_live_trans, laters_refl, laters_trans, live_laters}
 use Rattle.af_model.proofs.DeadLemmas.{DeadAs, DeadIn, NoneFails, died, died_device, died_line, lives_dead, none_fails-append}
-use Rattle.af_model.proofs.AdvancedLemmas.{advanced_behind, advanced_closing}
+use Rattle.af_model.proofs.AdvancedLemmas.{advanced_after, advanced_closing}
 use Rattle.af_model.proofs.LinkInvariantLemmas.{advance_keeps, takes_more_open}
 use Rattle.af_model.proofs.PendingLemmas.{IsPending, RoomIn, RoomOf, RoomOfSlot, advance_room, room_dropped, waiters, waiters_same}
 use Rattle.af_model.proofs.SafeLemmas.{SafeIn, SafeState, safe_dropped}
@@ -111,9 +111,9 @@ has_read : (k : ℕ) (p : OpenLink) (got : ReadGot) → wants_read (has_deferral
 has_read k p (Given bytes) w =
     let none = read_open k p w in
     let q : OpenLink = open_link p.environment (record p.link { rest = p.link.rest ++ bytes }) in
-    let m : Moved k q (advance k q) = moved_of k q (advance k q) (advanced_behind k q) (advance_room k q) (λ May I kept h. advance_keeps k May I kept q h) in
+    let m : Moved k q (advance k q) = moved_of k q (advance k q) (advanced_after k q) (advance_room k q) (λ May I kept h. advance_keeps k May I kept q h) in
     let same : absorb k bytes p ≡ advance k q = ap (λ t. cond t (advance k q) p) (ap is_none none) in
-    subst (HasRead k p (Given bytes)) (sym same) (record { devices = m.devices; own = λ g h. (m.own (note_read (Given bytes) g) (queued_given k g bytes p none h.0), advanced_behind k q); waits = m.others; safe = m.safe; room = λ h. m.room h })
+    subst (HasRead k p (Given bytes)) (sym same) (record { devices = m.devices; own = λ g h. (m.own (note_read (Given bytes) g) (queued_given k g bytes p none h.0), advanced_after k q); waits = m.others; safe = m.safe; room = λ h. m.room h })
 has_read k p NotYet w =
     let none = read_open k p w in
     record {
@@ -169,7 +169,7 @@ served_wrote : (k : ℕ) (p : OpenLink) (offered : ℕ) (bytes : List ℕ) (part
     Served k (enter (after_write k bytes p)) part r → Served k (enter p) (Wrote k offered (Some bytes) ∷ part) r
 served_wrote k p offered bytes part r w all front s =
     let left : OpenLink = open_link p.environment (send_pending (length bytes) p.link) in
-    let m : Moved k left (advance k left) = moved_of k left (advance k left) (advanced_behind k left) (advance_room k left) (λ May I kept h. advance_keeps k May I kept left h) in
+    let m : Moved k left (advance k left) = moved_of k left (advance k left) (advanced_after k left) (advance_room k left) (λ May I kept h. advance_keeps k May I kept left h) in
     let some = (both-true (not (length p.link.pending == 0)) (not p.link.is_stuck) w).0 in
     record {
       inside = s.inside;
@@ -178,7 +178,7 @@ served_wrote k p offered bytes part r w all front s =
       own = λ g h.
           let f = note_write (Some bytes) g in
           let undropped = sending_undropped k g p.environment.said p.link p.environment.waiting some h.0 in
-          subst (λ t. QueuedSlot k (fold (note_happening k) (cond t f g) part) r) (sym (same_number k)) (s.own f (m.own f (queued_taken k g bytes p left.link undropped refl refl refl refl refl (front_back bytes p.link.pending front) h.0), advanced_behind k left));
+          subst (λ t. QueuedSlot k (fold (note_happening k) (cond t f g) part) r) (sym (same_number k)) (s.own f (m.own f (queued_taken k g bytes p left.link undropped refl refl refl refl refl (front_back bytes p.link.pending front) h.0), advanced_after k left));
       others = λ j other g. ap (λ t. fold (note_happening j) (cond t (note_write (Some bytes) g) g) part) other ∙ s.others j other g;
       waits = s.waits ∙ m.others;
       safe = λ h. s.safe (m.safe h);

@@ -72,8 +72,8 @@ fn read_frames(asked: Record, device: &Device, samples: &mut [i16], message: &mu
     let n = asked.frames as usize * usize::from(device.channels());
     let size = n * asked.context.ty.width();
     let samples = &mut samples[..n];
-    let (_, behind) = message.split_at_mut(RECORDED_AT);
-    device.record(&asked.context, asked.start, samples, &mut behind[..size]);
+    let (_, after) = message.split_at_mut(RECORDED_AT);
+    device.record(&asked.context, asked.start, samples, &mut after[..size]);
 }
 
 /// A record is answered with its frames.

@@ -84,7 +84,7 @@ fn seeded(seed: u64) -> Pcg32
 #[tactic(auto, unfolding(crate::specs::Exercise::drawn_word, crate::specs::Exercise::generator_after))]
 fn draw(generator: &mut Pcg32) -> u32
     ensures value { result ≡ drawn_word generator.old }
-    ensures behind { generator.new ≡ generator_after generator.old }
+    ensures after { generator.new ≡ generator_after generator.old }
 {
     generator.next_word()
 }

@@ -34,20 +34,20 @@ passes_next zero job pace passed v w next some = absurd (omega (arith, some))
 passes_next (suc n) job pace passed v w next some = let less : suc n - 1 ≡ n = omega arith in rw less (passes_some n job pace passed v w next)
 
 -- what follows the recorded samples, and the other server's time
-abbrev pub behind_time : PassJob → RelayPace → RelayProgress → Recorded → DevTime → ClientState → ClientState → RelayPart RelayProgress
-behind_time job pace passed r now v w = λ next.
+abbrev pub after_time : PassJob → RelayPace → RelayProgress → Recorded → DevTime → ClientState → ClientState → RelayPart RelayProgress
+after_time job pace passed r now v w = λ next.
     let place = moment_of passed.due now pace.delay pace.slack in
     asks_to (play_run false 1 place.time.0 r.samples) as_time w (λ _ w. next (after_block passed place pace.frames) v w)
 
-abbrev pub behind_record : PassJob → RelayPace → RelayProgress → Recorded → ClientState → ClientState → RelayPart RelayProgress
-behind_record job pace passed r v w = λ next. asks_to (get_time job.to_device) as_word w (λ now w. behind_time job pace passed r now v w next)
+abbrev pub after_record : PassJob → RelayPace → RelayProgress → Recorded → ClientState → ClientState → RelayPart RelayProgress
+after_record job pace passed r v w = λ next. asks_to (get_time job.to_device) as_word w (λ now w. after_time job pace passed r now v w next)
 
 -- the second context, and what follows it
-abbrev pub behind_first : PassJob → SampleType → (channels : ℕ) → ClientState → ClientState → RelayPart DevTime
-behind_first job ty channels v w = λ next. asks_to (to_context job ty channels) as_done w (λ _ w. asks_from (get_time job.from_device) as_time v (λ now v. next now v w))
+abbrev pub after_first : PassJob → SampleType → (channels : ℕ) → ClientState → ClientState → RelayPart DevTime
+after_first job ty channels v w = λ next. asks_to (to_context job ty channels) as_done w (λ _ w. asks_from (get_time job.from_device) as_time v (λ now v. next now v w))
 
-abbrev pub behind_second : PassJob → ClientState → ClientState → RelayPart DevTime
-behind_second job v w = λ next. asks_from (get_time job.from_device) as_time v (λ now v. next now v w)
+abbrev pub after_second : PassJob → ClientState → ClientState → RelayPart DevTime
+after_second job v w = λ next. asks_from (get_time job.from_device) as_time v (λ now v. next now v w)
 
 -- the beginning of a relay, by other names of its type and of its channels
 pub begins_named : (job : PassJob) {ty ty' : SampleType} {from to : ℕ} (channels : ℕ) (v w : ClientState) {r : Result DevTime ToolEnd}
@@ -63,12 +63,12 @@ pub pace_named : (job : PassJob) (rate channels : ℕ) {n : ℕ} {ty ty' : Sampl
 pace_named job rate channels is bytes same = is ∙ ap (λ n. pace_of job n rate) (bytes ∙ ap (λ t. frame_bytes t channels) same)
 
 -- the second context is freed
-abbrev pub behind_freed : ClientState → ClientState → RelayPart (Unit {0})
-behind_freed v w = λ next. asks_to (free_ac 1) as_done w (λ _ w. next tt v w)
+abbrev pub after_freed : ClientState → ClientState → RelayPart (Unit {0})
+after_freed v w = λ next. asks_to (free_ac 1) as_done w (λ _ w. next tt v w)
 
 -- all blocks are passed, and what follows them
-abbrev pub behind_passed : RelayProgress → ClientState → ClientState → RelayPart ℕ
-behind_passed passed v w = λ next. ends_contexts v w (λ _ v w. next passed.resynced v w)
+abbrev pub after_passed : RelayProgress → ClientState → ClientState → RelayPart ℕ
+after_passed passed v w = λ next. ends_contexts v w (λ _ v w. next passed.resynced v w)
 
-abbrev pub behind_begun : PassJob → RelayPace → DevTime → ClientState → ClientState → RelayPart ℕ
-behind_begun job pace now v w = λ next. passes job.blocks job pace (record { at = now; due = None; resynced = 0 }) v w (λ passed v w. behind_passed passed v w next)
+abbrev pub after_begun : PassJob → RelayPace → DevTime → ClientState → ClientState → RelayPart ℕ
+after_begun job pace now v w = λ next. passes job.blocks job pace (record { at = now; due = None; resynced = 0 }) v w (λ passed v w. after_passed passed v w next)

@@ -24,7 +24,7 @@ use Rattle.af_relay.specs.Pass.{RelayTrace, apass_trace, asks_by, asks_from, ask
 use Rattle.af_relay.specs.Results.{ApassRan}
 use Rattle.af_relay.specs.Relayed.{IsRelayed}
 use Rattle.af_io.proofs.AppendedLemmas.{appended_none, appended_on}
-use Rattle.af_toolkit.proofs.TracePartLemmas.{ended_at_once, ended_behind}
+use Rattle.af_toolkit.proofs.TracePartLemmas.{ended_at_once, ended_then}
 use Rattle.af_toolkit.proofs.ToolEndLemmas.{IsDoneOrRefused, done_where_answered, reply_of}
 use Rattle.af_relay.proofs.RelayPartLemmas.{doing_both}
 
@@ -144,8 +144,8 @@ both_followed_on {relay} part next x text {how} {wf} {s} {s'} {wt} {t} {t'} is l
       sends_from = g.sends_from ++ f.sends;
       sends_to = g.sends_to ++ f.sends;
       output = f.output;
-      recorded = ended_behind (writes_first text (ends done)) (on_from relay) how g.sends_from [] f.sends f.output (ap on_from whole) f.ended;
-      played = ended_behind (writes_first text (ends done)) (on_to relay) how g.sends_to [] f.sends f.output (ap on_to whole) f.ended;
+      recorded = ended_then (writes_first text (ends done)) (on_from relay) how g.sends_from [] f.sends f.output (ap on_from whole) f.ended;
+      played = ended_then (writes_first text (ends done)) (on_to relay) how g.sends_to [] f.sends f.output (ap on_to whole) f.ended;
       link_from = appended_on s s' s' g.sends_from f.sends g.link_from f.link;
       link_to = appended_on t t' t' g.sends_to f.sends g.link_to (subst (λ (l : List ℕ). Appended t' l t') (sym none) (appended_none t'));
       sink = f.sink;

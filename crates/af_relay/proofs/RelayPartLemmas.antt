@@ -19,7 +19,7 @@ use Rattle.af_toolkit.specs.Ends.{MatchesTrace, client_of}
 use Rattle.af_relay.specs.RelayParts.{RelayPart, RelayPartMatches, MatchesRelayTrace, ObservedRelayPart}
 use Rattle.af_relay.specs.Pass.{RelayTrace, asks_by, asks_from, asks_to, ends_both, on_from, on_to, relay_after_answer, sends_first_from, sends_first_to}
 use Rattle.af_io.proofs.AppendedLemmas.{appended_none, appended_on}
-use Rattle.af_toolkit.proofs.TracePartLemmas.{Known, asked_known, part_answer, ended_at_once, ended_behind, ended_early}
+use Rattle.af_toolkit.proofs.TracePartLemmas.{Known, asked_known, part_answer, ended_at_once, ended_then, ended_early}
 
 -- what is sent before a relay goes on
 abbrev pub doing_both : List ℕ → List ℕ → RelayTrace → RelayTrace
@@ -29,10 +29,10 @@ pub doing_both_twice : (s t s' t' : List ℕ) (r : RelayTrace) → doing_both s 
 doing_both_twice s t s' t' r = simp append_assoc
 
 -- the whole relay, when it ends after what was sent
-pub both_behind : (r d : RelayTrace) (how : ToolEnd) (s t s' t' : List ℕ) → d ≡ doing_both s t r → MatchesRelayTrace r how s' t' → MatchesRelayTrace d how (s ++ s') (t ++ t')
-both_behind r d how s t s' t' is e = record {
-  from = ended_behind (on_from r) (on_from d) how s [] s' [] (ap on_from is) e.from;
-  to = ended_behind (on_to r) (on_to d) how t [] t' [] (ap on_to is) e.to;
+pub both_after : (r d : RelayTrace) (how : ToolEnd) (s t s' t' : List ℕ) → d ≡ doing_both s t r → MatchesRelayTrace r how s' t' → MatchesRelayTrace d how (s ++ s') (t ++ t')
+both_after r d how s t s' t' is e = record {
+  from = ended_then (on_from r) (on_from d) how s [] s' [] (ap on_from is) e.from;
+  to = ended_then (on_to r) (on_to d) how t [] t' [] (ap on_to is) e.to;
 }
 
 -- an end within the first of two parts
@@ -42,10 +42,10 @@ both_stop first second g =
     record { sends_from = g.sends_from; sends_to = g.sends_to; came = λ next. g.came (λ x v w. second x v w next); link_from = g.link_from; link_to = g.link_to }
 
 -- how a part went, by how what is left of it went
-pub both_behind_came : {X : Type 0} (part now : RelayPart X) (r : Result X ToolEnd) (lf : Option (List ℕ)) (wf : List ℕ → ClientState) (lt : Option (List ℕ)) (wt : List ℕ → ClientState) (s t s' t' : List ℕ) →
+pub both_after_came : {X : Type 0} (part now : RelayPart X) (r : Result X ToolEnd) (lf : Option (List ℕ)) (wf : List ℕ → ClientState) (lt : Option (List ℕ)) (wt : List ℕ → ClientState) (s t s' t' : List ℕ) →
     ((next : X → ClientState → ClientState → RelayTrace) → part next ≡ doing_both s t (now next)) → RelayPartMatches now r lf wf lt wt s' t' → RelayPartMatches part r lf wf lt wt (s ++ s') (t ++ t')
-both_behind_came part now (Ok x) lf wf lt wt s t s' t' goes came = (came.0, came.1, came.2, came.3, λ next. goes next ∙ ap (doing_both s t) (came.4 next) ∙ doing_both_twice s t s' t' (next x (wf came.0) (wt came.1)))
-both_behind_came part now (Err how) lf wf lt wt s t s' t' goes came = λ next. both_behind (now next) (part next) how s t s' t' (goes next) (came next)
+both_after_came part now (Ok x) lf wf lt wt s t s' t' goes came = (came.0, came.1, came.2, came.3, λ next. goes next ∙ ap (doing_both s t) (came.4 next) ∙ doing_both_twice s t s' t' (next x (wf came.0) (wt came.1)))
+both_after_came part now (Err how) lf wf lt wt s t s' t' goes came = λ next. both_after (now next) (part next) how s t s' t' (goes next) (came next)
 
 -- a part of a relay has come to another, which is what is left of it
 pub record ReachesBoth {X : Type 0} (part : RelayPart X) (now : ClientState → ClientState → RelayPart X)
@@ -68,7 +68,7 @@ module _ {X : Type 0} {part : RelayPart X} {now : ClientState → ClientState �
   reached_both result {lf'} {wf'} {s''} {lt'} {wt'} {t''} g = record {
     sends_from = r.sends_from ++ g.sends_from;
     sends_to = r.sends_to ++ g.sends_to;
-    came = both_behind_came part (now (wf r.v) (wt r.w)) result lf' wf' lt' wt' r.sends_from r.sends_to g.sends_from g.sends_to r.goes g.came;
+    came = both_after_came part (now (wf r.v) (wt r.w)) result lf' wf' lt' wt' r.sends_from r.sends_to g.sends_from g.sends_to r.goes g.came;
     link_from = appended_on s s' s'' r.sends_from g.sends_from r.link_from g.link_from;
     link_to = appended_on t t' t'' r.sends_to g.sends_to r.link_to g.link_to;
   }

@@ -10,7 +10,7 @@ use af_cli::PassJob;
 use af_io::Link;
 use af_lib::Conn;
 use af_time::DevTime;
-use af_toolkit::{CONTEXT, ToolEnd, time_behind};
+use af_toolkit::{CONTEXT, ToolEnd, time_after_frames};
 
 /// The pace of a relay: the frames and the bytes of a block, and in frames how far ahead of the other server's time it plays, and
 /// by how much it may drift from that.
@@ -59,7 +59,7 @@ fn in_step(now: DevTime, delay: u64, resynced: bool) -> PlayMoment
     ensures { result ≡ in_step now delay resynced }
 {
     PlayMoment {
-        time: time_behind(now, delay),
+        time: time_after_frames(now, delay),
         resynced,
     }
 }

@@ -69,8 +69,8 @@ place_past channels start t c k from same =
     past_by channels start (t - start) t c k apart same
 
 -- samples after whole frames are of frames that much later, and of the same channels
-pub frame_behind : (channels k j : ℕ) → 0 < channels → (channels * k + j) / channels ≡ k + j / channels
-frame_behind channels k j some = mul-add-div some k j
+pub frame_after : (channels k j : ℕ) → 0 < channels → (channels * k + j) / channels ≡ k + j / channels
+frame_after channels k j some = mul-add-div some k j
 
-pub channel_behind : (channels k j : ℕ) → (channels * k + j) % channels ≡ j % channels
-channel_behind channels k j = mul-add-mod_self_left channels k j
+pub channel_after : (channels k j : ℕ) → (channels * k + j) % channels ≡ j % channels
+channel_after channels k j = mul-add-mod_self_left channels k j

@@ -162,25 +162,25 @@ first_device : (d : DeviceSpec) (n : ℕ) (r : Result (List DeviceSpec) ℕ) (es
 first_device d n (Ok more) es = refl
 first_device d n (Err m) es = refl
 
-some_lines : (k : ℕ) (es : List ScriptLine) (behind : ℕ) → script_by (suc k) es behind ≡ with_config (each_says device_of (take (suc k) es)) (drop (suc k) es)
-some_lines k es behind =
+some_lines : (k : ℕ) (es : List ScriptLine) (after : ℕ) → script_by (suc k) es after ≡ with_config (each_says device_of (take (suc k) es)) (drop (suc k) es)
+some_lines k es after =
     let e : nat_eq (suc k) 0 ≡ false = grind (arith, nat_tests) in
-    ap (λ t. cond t (Err (first_number es behind)) (with_config (each_says device_of (take (suc k) es)) (drop (suc k) es))) e
+    ap (λ t. cond t (Err (first_number es after)) (with_config (each_says device_of (take (suc k) es)) (drop (suc k) es))) e
 
 pub read_all : (n : ℕ) (ls : List (List ℕ)) → read_from (no_steps []) n ls ≡ script_by (device_lines most_devices (entries n ls)) (entries n ls) (n + length ls)
 read_all n [] = ap Err (omega arith)
 read_all n (line ∷ rest) =
     let s = no_steps [] in
     let es = entries (suc n) rest in
-    let behind = n + length (line ∷ rest) in
-    let one : suc n + length rest ≡ behind = omega arith in
-    elim (is_passed_over line) as (λ t. is_passed_over line ≡ t → read_from s n (line ∷ rest) ≡ script_by (device_lines most_devices (entries n (line ∷ rest))) (entries n (line ∷ rest)) behind) [
+    let after = n + length (line ∷ rest) in
+    let one : suc n + length rest ≡ after = omega arith in
+    elim (is_passed_over line) as (λ t. is_passed_over line ≡ t → read_from s n (line ∷ rest) ≡ script_by (device_lines most_devices (entries n (line ∷ rest))) (entries n (line ∷ rest)) after) [
       | true ↦ λ passed.
           ap (go_on (λ t. read_from t (suc n) rest) n) (line_over s line passed)
           ∙ read_all (suc n) rest ∙ ap (script_by (device_lines most_devices es) es) one
-          ∙ ap (λ xs. script_by (device_lines most_devices xs) xs behind) (sym (over n line rest passed))
+          ∙ ap (λ xs. script_by (device_lines most_devices xs) xs after) (sym (over n line rest passed))
       | false ↦ λ states.
-          (elim (is_device_line (words line)) as (λ d. is_device_line (words line) ≡ d → read_from s n (line ∷ rest) ≡ script_by (cond d (suc (device_lines more_devices es)) 0) (entry n line ∷ es) behind) [
+          (elim (is_device_line (words line)) as (λ d. is_device_line (words line) ≡ d → read_from s n (line ∷ rest) ≡ script_by (cond d (suc (device_lines more_devices es)) 0) (entry n line ∷ es) after) [
             | true ↦ λ device.
                 let k = device_lines more_devices es in
                 ap (go_on (λ t. read_from t (suc n) rest) n) (line_read s line states ∙ words_device s (words line) refl device)
@@ -188,10 +188,10 @@ read_all n (line ∷ rest) =
                   | None ↦ refl
                   | Some d ↦ devices_too (d ∷ []) more_devices (suc n) rest refl refl ∙ first_device d n (each_says device_of (take k es)) (drop k es)
                 ]
-                ∙ sym (some_lines k (entry n line ∷ es) behind)
+                ∙ sym (some_lines k (entry n line ∷ es) after)
             | false ↦ λ device. ap (go_on (λ t. read_from t (suc n) rest) n) (line_read s line states ∙ words_none s (words line) device refl)
           ] refl)
-          ∙ ap (λ xs. script_by (device_lines most_devices xs) xs behind) (sym (read n line rest states))
+          ∙ ap (λ xs. script_by (device_lines most_devices xs) xs after) (sym (read n line rest states))
     ] refl
 
 -- a text that is read from its first line on gives the script that it is

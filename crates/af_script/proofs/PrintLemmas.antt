@@ -84,24 +84,24 @@ unfolding encode_with
 hex_start bytes before = record { front = []; is_front = refl; added = added_none before }
 
 -- one more chunk is printed
-pub hex_more : (whole rest chunk behind : List ℕ) (a b c : Printer) (n : ℕ) → PrintedFront encode_lower whole rest a b → chunk ≡ take n rest → behind ≡ drop n rest → Added b (encode_lower chunk) c → PrintedFront encode_lower whole behind a c
-hex_more whole rest chunk behind a b c n p is_chunk is_behind x =
-    let parts : rest ≡ chunk ++ behind = sym (take-append-drop n rest) ∙ ap (λ l. l ++ drop n rest) (sym is_chunk) ∙ ap (λ l. chunk ++ l) (sym is_behind) in
+pub hex_more : (whole rest chunk beyond : List ℕ) (a b c : Printer) (n : ℕ) → PrintedFront encode_lower whole rest a b → chunk ≡ take n rest → beyond ≡ drop n rest → Added b (encode_lower chunk) c → PrintedFront encode_lower whole beyond a c
+hex_more whole rest chunk beyond a b c n p is_chunk is_after x =
+    let parts : rest ≡ chunk ++ beyond = sym (take-append-drop n rest) ∙ ap (λ l. l ++ drop n rest) (sym is_chunk) ∙ ap (λ l. chunk ++ l) (sym is_after) in
     record {
       front = p.front ++ chunk;
-      is_front = p.is_front ∙ ap (λ l. p.front ++ l) parts ∙ sym (append_assoc p.front chunk behind);
+      is_front = p.is_front ∙ ap (λ l. p.front ++ l) parts ∙ sym (append_assoc p.front chunk beyond);
       added = subst (λ t. Added a t c) (sym (encode_append lower_digits p.front chunk)) (added_on a b c (encode_lower p.front) (encode_lower chunk) p.added x);
     }
 
 -- a chunk is cut off
-pub hex_cut : (whole rest chunk behind : List ℕ) (a b c : Printer) (n : ℕ) → PrintedFront encode_lower whole rest a b → chunk ≡ take n rest → behind ≡ drop n rest → CutOff b (encode_lower chunk) c → CutOff a (encode_lower whole) c
-hex_cut whole rest chunk behind a b c n p is_chunk is_behind x =
-    let parts : rest ≡ chunk ++ behind = sym (take-append-drop n rest) ∙ ap (λ l. l ++ drop n rest) (sym is_chunk) ∙ ap (λ l. chunk ++ l) (sym is_behind) in
-    let is_whole : whole ≡ (p.front ++ chunk) ++ behind = p.is_front ∙ ap (λ l. p.front ++ l) parts ∙ sym (append_assoc p.front chunk behind) in
-    let text : encode_lower whole ≡ (encode_lower p.front ++ encode_lower chunk) ++ encode_lower behind =
-    ap encode_lower is_whole ∙ encode_append lower_digits (p.front ++ chunk) behind ∙ ap (λ l. l ++ encode_lower behind) (encode_append lower_digits p.front chunk) in
+pub hex_cut : (whole rest chunk beyond : List ℕ) (a b c : Printer) (n : ℕ) → PrintedFront encode_lower whole rest a b → chunk ≡ take n rest → beyond ≡ drop n rest → CutOff b (encode_lower chunk) c → CutOff a (encode_lower whole) c
+hex_cut whole rest chunk beyond a b c n p is_chunk is_after x =
+    let parts : rest ≡ chunk ++ beyond = sym (take-append-drop n rest) ∙ ap (λ l. l ++ drop n rest) (sym is_chunk) ∙ ap (λ l. chunk ++ l) (sym is_after) in
+    let is_whole : whole ≡ (p.front ++ chunk) ++ beyond = p.is_front ∙ ap (λ l. p.front ++ l) parts ∙ sym (append_assoc p.front chunk beyond) in
+    let text : encode_lower whole ≡ (encode_lower p.front ++ encode_lower chunk) ++ encode_lower beyond =
+    ap encode_lower is_whole ∙ encode_append lower_digits (p.front ++ chunk) beyond ∙ ap (λ l. l ++ encode_lower beyond) (encode_append lower_digits p.front chunk) in
     subst (λ t. CutOff a t c) (sym text)
-    (cut_more a c (encode_lower p.front ++ encode_lower chunk) (encode_lower behind) (cut_on a b c (encode_lower p.front) (encode_lower chunk) p.added x))
+    (cut_more a c (encode_lower p.front ++ encode_lower chunk) (encode_lower beyond) (cut_on a b c (encode_lower p.front) (encode_lower chunk) p.added x))
 
 -- the line of a happening is cut off
 pub log_cut : (log : Log) (i : ℕ) (h : Happening) (a b c : Printer) → i < length log → h ≡ get_or log i h → Added a (transcript (take i log)) b → CutOff b (line_for h) c → CutOff a (transcript log) c

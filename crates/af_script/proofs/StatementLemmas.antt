@@ -20,7 +20,7 @@ use Rattle.hex.specs.Hex.{decode_of}
 use Rattle.af_script.specs.declared.statement.LineKind.{LineKind}
 use Rattle.af_script.specs.declared.statement.LineKind.TheVariants as kind
 use Rattle.af_script.specs.Words.{number_of, number_within, only_if, then_some, bytes_within}
-use Rattle.af_script.specs.Statement.{last_link, line_kind_of, is_device_kind, type_of, rate_of, channels_stated, behind_channels, line_stated, device_at, device_with, device_of, link_of, device_number, line_number, switch_of, digit_of, with_link, send_of, room_stated, room_of, capture_of, tick_of, switch_step, dial_of, with_number, fail_hook_of, idle_of, step_of_kind, step_of, is_device_line}
+use Rattle.af_script.specs.Statement.{last_link, line_kind_of, is_device_kind, type_of, rate_of, channels_stated, after_channels, line_stated, device_at, device_with, device_of, link_of, device_number, line_number, switch_of, digit_of, with_link, send_of, room_stated, room_of, capture_of, tick_of, switch_step, dial_of, with_number, fail_hook_of, idle_of, step_of_kind, step_of, is_device_line}
 use Rattle.af_script.specs.Script.{StatedScript, ScriptLine, most_devices, device_lines, with_first, each_says, first_number, with_steps, with_config, script_by, script_of, entries}
 use Rattle.af_script.specs.Lines.{lines}
 
@@ -83,7 +83,7 @@ device_with_from (ty ∷ []) d e = cc e
 device_with_from (ty ∷ rate ∷ []) d e = cc e
 device_with_from (ty ∷ rate ∷ start ∷ rest) d e =
     let n = channels_stated rest in
-    let line = line_stated (behind_channels rest) in
+    let line = line_stated (after_channels rest) in
     let a = and_then_from (λ t. option_and_then (λ r. option_and_then (λ s. option_map (device_at t r s n) line) (number_within 0 4294967295 start)) (rate_of rate)) (type_of ty) d e in
     let b = and_then_from (λ r. option_and_then (λ s. option_map (device_at a.0 r s n) line) (number_within 0 4294967295 start)) (rate_of rate) d a.2 in
     let c = and_then_from (λ s. option_map (device_at a.0 b.0 s n) line) (number_within 0 4294967295 start) d b.2 in
@@ -299,13 +299,13 @@ few_lines (suc most) (e ∷ es) =
       | false ↦ (omega arith, omega arith)
     ]
 
-sound : (k : ℕ) (es : List ScriptLine) (behind : ℕ) (s : StatedScript) → k ≤ most_devices → k ≤ length es → script_by k es behind ≡ Ok s → IsSound s
-sound zero es behind s few there e = cc e
-sound (suc k) es behind s few there e =
+sound : (k : ℕ) (es : List ScriptLine) (after : ℕ) (s : StatedScript) → k ≤ most_devices → k ≤ length es → script_by k es after ≡ Ok s → IsSound s
+sound zero es after s few there e = cc e
+sound (suc k) es after s few there e =
     let some_lines : nat_eq (suc k) 0 ≡ false = grind (arith, nat_tests) in
     let devices = take (suc k) es in
     let rest = drop (suc k) es in
-    let whole : with_config (each_says device_of devices) rest ≡ Ok s = ap (λ t. cond t (Err (first_number es behind)) (with_config (each_says device_of devices) rest)) (sym some_lines) ∙ e in
+    let whole : with_config (each_says device_of devices) rest ≡ Ok s = ap (λ t. cond t (Err (first_number es after)) (with_config (each_says device_of devices) rest)) (sym some_lines) ∙ e in
     (elim (each_says device_of devices) as (λ r. each_says device_of devices ≡ r → with_config r rest ≡ Ok s → IsSound s) [
       | Err n ↦ λ was h. cc h
       | Ok config ↦ λ was h.

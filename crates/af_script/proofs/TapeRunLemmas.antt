@@ -120,8 +120,8 @@ replayed_part before o part (Some log) o' t g a =
 -- a part that begins with a step's wake and is replayed after it is answered as the step states
 part_answered : (o o' : Outside) (step : Step) (part rest : Log) → part ≡ Woke (wake_of o step) ∷ rest → wakes rest ≡ 0 → outside_after_log (outside_after_step o step) part ≡ Some o' → AnswersTo o part (step ∷ []) o'
 part_answered o o' step part rest e w r =
-    let behind_wake : outside_after_log (outside_after_step o step) rest ≡ Some o' = subst (λ p. outside_after_log (outside_after_step o step) p ≡ Some o') e r in
-    subst (λ p. AnswersTo o p (step ∷ []) o') (sym e) (refl, replayed_answers (outside_after_step o step) o' rest w behind_wake)
+    let wake_after : outside_after_log (outside_after_step o step) rest ≡ Some o' = subst (λ p. outside_after_log (outside_after_step o step) p ≡ Some o') e r in
+    subst (λ p. AnswersTo o p (step ∷ []) o') (sym e) (refl, replayed_answers (outside_after_step o step) o' rest w wake_after)
 
 -- after a turn the same links are open inside and outside
 agree_turn : (s next : State) (o o' : Outside) (step : Step) (part : Log) → Agree s o → ((more : Log) → turn s (part ++ more) ≡ accept next more) → AnswersTo o part (step ∷ []) o' → Agree next o'

@@ -35,8 +35,8 @@ device_lines (suc most) (e ∷ es) = if is_device_line e.said then suc (device_l
 
 -- the number of the first of these lines, or the one after the last line of the text
 abbrev pub first_number : List ScriptLine → ℕ → ℕ
-first_number [] behind = behind
-first_number (e ∷ es) behind = e.number
+first_number [] after = after
+first_number (e ∷ es) after = e.number
 
 -- these devices with their steps
 abbrev pub with_steps : List DeviceSpec → Result (List Step) ℕ → Result StatedScript ℕ
@@ -50,8 +50,8 @@ with_config (Err n) es = Err n
 
 -- so many device lines, at least one, and then steps
 abbrev pub script_by : ℕ → List ScriptLine → ℕ → Result StatedScript ℕ
-script_by devices es behind =
-    if devices == 0 then Err (first_number es behind) else with_config (each_says device_of (take devices es)) (drop devices es)
+script_by devices es after =
+    if devices == 0 then Err (first_number es after) else with_config (each_says device_of (take devices es)) (drop devices es)
 
 -- the script that a text is, or the number of the first line that is not allowed where it stands
 unfoldable pub script_of : List ℕ → Result StatedScript ℕ

@@ -11,7 +11,7 @@ use Rattle.af_world.specs.declared.script.Step.TheVariants as step
 use Rattle.af_world.specs.Outside.{spec_has_line, frame_bytes_at}
 use Rattle.af_script.specs.declared.statement.LineKind.{LineKind}
 use Rattle.af_script.specs.declared.statement.LineKind.TheVariants as kind
-pub use Rattle.af_text.specs.Sound.{type_of, rate_of, channels_stated, behind_channels}
+pub use Rattle.af_text.specs.Sound.{type_of, rate_of, channels_stated, after_channels}
 use Rattle.af_script.specs.Words.{number_of, number_within, only_if, bytes_within}
 
 -- the kind of a line by its first word
@@ -78,7 +78,7 @@ device_at ty rate start channels line = record { ty = ty; rate = rate; start = s
 -- after `device`
 abbrev pub device_with : List (List ℕ) → Option DeviceSpec
 device_with (ty ∷ rate ∷ start ∷ rest) =
-    option_and_then (λ t. option_and_then (λ r. option_and_then (λ s. option_map (device_at t r s (channels_stated rest)) (line_stated (behind_channels rest))) (number_within 0 (2 ^ 32 - 1) start)) (rate_of rate)) (type_of ty)
+    option_and_then (λ t. option_and_then (λ r. option_and_then (λ s. option_map (device_at t r s (channels_stated rest)) (line_stated (after_channels rest))) (number_within 0 (2 ^ 32 - 1) start)) (rate_of rate)) (type_of ty)
 device_with _ = None
 
 -- the device that a line of this kind states, by the words that follow its name

@@ -172,9 +172,9 @@ fn print_hex<K: Sink>(bytes: &[u8], sink: &mut K) -> Result<(), Broken>
 {
     let mut rest = bytes;
     while !rest.is_empty() {
-        let (chunk, behind) = rest.split_at(rest.len().min(CHUNK));
+        let (chunk, after) = rest.split_at(rest.len().min(CHUNK));
         print_chunk(chunk, sink)?;
-        rest = behind;
+        rest = after;
     }
     Ok(())
 }

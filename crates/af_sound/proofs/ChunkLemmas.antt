@@ -15,7 +15,7 @@ use Rattle.af_sound.specs.declared.wave.ChunkKind.TheVariants as kind
 use Rattle.af_sound.specs.declared.wave.Format.{Format}
 use Rattle.af_sound.specs.Fields.{IsLittle}
 use Rattle.af_sound.specs.Wave.{AreOthers, Chunk, chunk_bytes, chunks_bytes, IsChunk, IsOther}
-use Rattle.af_sound.specs.Reading.{before_rest, field_start, behind_name, chunk_start, chunk_kind, is_inside, place_after_bytes}
+use Rattle.af_sound.specs.Reading.{before_rest, field_start, after_name, chunk_start, chunk_kind, is_inside, place_after_bytes}
 use Rattle.af_sound.proofs.ReachedLemmas.{different, field_read}
 
 -- before the name of a chunk
@@ -65,7 +65,7 @@ other_passes chunk more format other =
     let r1 : List ℕ = chunk.size ++ r2 in
     ap (λ (b : List ℕ). place_after_bytes (at_name format) b) (pieces chunk more)
     ∙ field_read (field.Wave (wave.ChunkName format)) chunk.name r1 other.is.is_name
-    ∙ ap (λ (k : ChunkKind). place_after_bytes (behind_name k format) r1) (other_kind chunk.name other.no_format other.no_data)
+    ∙ ap (λ (k : ChunkKind). place_after_bytes (after_name k format) r1) (other_kind chunk.name other.no_format other.no_data)
     ∙ field_read (field.Wave (wave.ChunkSize format)) chunk.size r2 other.is.is_size.size
     ∙ ap (λ (n : ℕ). place_after_bytes (chunk_start n format) r2) other.is.is_size.is
     ∙ body_passes (length chunk.body) chunk.body chunk.pad more format refl other.is.is_pad
@@ -183,7 +183,7 @@ chunks_end (suc most) (a ∷ b ∷ c ∷ d ∷ bytes) format place few e =
       sized rest shorter no_format no_data f next = inl (inside_of _ place f refl)
 
       by : (t : Bool) → bytes_eq name (codes "fmt ") ≡ t → (u : Bool) → bytes_eq name (codes "data") ≡ u →
-          place_after_bytes (behind_name (if t then kind.Format else if u then kind.Data else kind.Other) format) bytes ≡ Some place →
+          place_after_bytes (after_name (if t then kind.Format else if u then kind.Data else kind.Other) format) bytes ≡ Some place →
           ((l : List ℕ) → length l ≤ most → place_after_bytes (at_name format) l ≡ Some place → (is_inside place ≡ true) ⊎ Skips format l place) →
           (is_inside place ≡ true) ⊎ Skips format (a ∷ b ∷ c ∷ d ∷ bytes) place
       by true is_format u test f next =

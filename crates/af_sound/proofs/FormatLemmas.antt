@@ -80,7 +80,7 @@ format_passes chunk coding rate channels more f =
     let left : ℕ = length chunk.body - 16 in
     let fields : FormatFields = record { more = left; tag = f.tag; channels = channels; rate = rate } in
     let format : Format = record { coding = coding; rate = rate; channels = channels } in
-    let behind : List ℕ = f.more ++ (chunk.pad ++ more) in
+    let after : List ℕ = f.more ++ (chunk.pad ++ more) in
     let sizes : length chunk.body ≡ length f.front + length f.more = ap length f.is_body ∙ length-append f.front f.more in
     let sixteen : length f.front ≡ 16 = sixteen_bytes f.tag channels rate f.bits f.front f.states in
     let whole : length f.more ≡ left = omega arith in
@@ -90,6 +90,6 @@ format_passes chunk coding rate channels more f =
     ∙ size_read (length chunk.body) chunk.size (chunk.body ++ (chunk.pad ++ more)) f.is.is_size (omega arith)
     ∙ ap (λ (b : List ℕ). place_after_bytes (field_start (field.Wave (wave.FormatTag left))) (b ++ (chunk.pad ++ more))) f.is_body
     ∙ ap (λ (b : List ℕ). place_after_bytes (field_start (field.Wave (wave.FormatTag left))) b) (append_assoc f.front f.more (chunk.pad ++ more))
-    ∙ sixteen_read fields f.bits f.front behind f.states
-    ∙ ap (λ (r : Result Format SoundFault). place_after_bytes (format_end fields r) behind) (good_format fields f.bits coding f.is_coding f.is_shape)
+    ∙ sixteen_read fields f.bits f.front after f.states
+    ∙ ap (λ (r : Result Format SoundFault). place_after_bytes (format_end fields r) after) (good_format fields f.bits coding f.is_coding f.is_shape)
     ∙ body_passes left f.more chunk.pad more (Some format) whole pad

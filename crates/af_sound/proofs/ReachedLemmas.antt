@@ -11,7 +11,7 @@ use Rattle.af_sound.specs.declared.head_reader.Place.{Place}
 use Rattle.af_sound.specs.declared.head_reader.Place.TheVariants.{Field, Annotation, Chunk, Head, Bad}
 use Rattle.af_sound.specs.declared.head_reader.Field as fields
 use Rattle.af_sound.specs.Heads.{IsHead, HasFault}
-use Rattle.af_sound.specs.Reading.{field_start, place_after_byte, behind_field, is_inside, place_after_bytes, step_at}
+use Rattle.af_sound.specs.Reading.{field_start, place_after_byte, after_field, is_inside, place_after_bytes, step_at}
 
 -- what a place says of the bytes that lead to it
 abbrev pub Says : SoundForm → List ℕ → Place → Type 0
@@ -72,7 +72,7 @@ unsaid form bytes inner place e inside =
     subst (λ (p : Place). Says form bytes p) same (inside_says form bytes inner inside)
 
 -- four bytes are a field
-pub field_read : (of : fields.Field) (field rest : List ℕ) → length field ≡ 4 → place_after_bytes (field_start of) (field ++ rest) ≡ place_after_bytes (behind_field of field) rest
+pub field_read : (of : fields.Field) (field rest : List ℕ) → length field ≡ 4 → place_after_bytes (field_start of) (field ++ rest) ≡ place_after_bytes (after_field of field) rest
 field_read of (a ∷ b ∷ c ∷ d ∷ []) rest four = refl
 field_read of _ rest four = absurd (omega arith)
 

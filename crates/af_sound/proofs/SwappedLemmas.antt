@@ -50,7 +50,7 @@ swapped_on first bytes next n s size at = record {
         let left : k ≢ 2 * n = omega arith in
         let right : k ≢ 2 * n + 1 = omega arith in
         at.2 k 0 left right ∙ s.front k before
-    | inr behind ↦ elim (cases_lt k (2 * n + 1)) [
+    | inr after ↦ elim (cases_lt k (2 * n + 1)) [
       | inl is ↦
           let place : k ≡ 2 * n = omega arith in
           let other : partner (2 * n) ≡ 2 * n + 1 = grind (arith, nat_tests) in

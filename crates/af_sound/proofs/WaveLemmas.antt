@@ -15,7 +15,7 @@ use Rattle.af_sound.specs.declared.head_reader.Field.TheVariants as field
 use Rattle.af_sound.specs.declared.wave.WaveField.TheVariants as wave
 use Rattle.af_sound.specs.declared.wave.Format.{Format}
 use Rattle.af_sound.specs.declared.wave.FormatFields.{FormatFields}
-use Rattle.af_sound.specs.Wave.{chunk_bytes, chunks_bytes, HasDataFirst, HasSecondFormat, HasShortFormat, HasWaveFault, IsBeforeFormat, IsBehindFormat, IsRiff, IsWaveHead, StatesSound}
+use Rattle.af_sound.specs.Wave.{chunk_bytes, chunks_bytes, HasDataFirst, HasSecondFormat, HasShortFormat, HasWaveFault, IsBeforeFormat, IsAfterFormat, IsRiff, IsWaveHead, StatesSound}
 use Rattle.af_sound.specs.Reading.{field_start, format_coded, format_end, format_of, format_size, head_with, place_after_bytes, start, wave_name}
 use Rattle.af_sound.proofs.ReachedLemmas.{field_read}
 use Rattle.af_sound.proofs.ChunkLemmas.{at_name, others_pass}
@@ -34,22 +34,22 @@ before_passes front more b =
     ap (λ (l : List ℕ). place_after_bytes (start form.Wave) l) spelled ∙ riff_passes b.riff (chunks_bytes b.chunks ++ more) b.is_riff
     ∙ others_pass b.chunks more None b.others
 
-behind_passes : (coding : Coding) (rate channels : ℕ) (front more : List ℕ) → IsBehindFormat coding rate channels front →
+after_passes : (coding : Coding) (rate channels : ℕ) (front more : List ℕ) → IsAfterFormat coding rate channels front →
     place_after_bytes (start form.Wave) (front ++ more) ≡ place_after_bytes (at_name (Some (record { coding = coding; rate = rate; channels = channels }))) more
-behind_passes coding rate channels front more b =
-    let rest : List ℕ = chunks_bytes b.behind ++ more in
+after_passes coding rate channels front more b =
+    let rest : List ℕ = chunks_bytes b.after ++ more in
     let spelled : front ++ more ≡ b.before ++ (chunk_bytes b.format ++ rest) =
-    ap (λ (l : List ℕ). l ++ more) b.is ∙ append_assoc b.before (chunk_bytes b.format ++ chunks_bytes b.behind) more
-    ∙ ap (λ (l : List ℕ). b.before ++ l) (append_assoc (chunk_bytes b.format) (chunks_bytes b.behind) more) in
+    ap (λ (l : List ℕ). l ++ more) b.is ∙ append_assoc b.before (chunk_bytes b.format ++ chunks_bytes b.after) more
+    ∙ ap (λ (l : List ℕ). b.before ++ l) (append_assoc (chunk_bytes b.format) (chunks_bytes b.after) more) in
     ap (λ (l : List ℕ). place_after_bytes (start form.Wave) l) spelled ∙ before_passes b.before (chunk_bytes b.format ++ rest) b.is_before
     ∙ format_passes b.format coding rate channels rest b.is_format
-    ∙ others_pass b.behind more (Some (record { coding = coding; rate = rate; channels = channels })) b.others
+    ∙ others_pass b.after more (Some (record { coding = coding; rate = rate; channels = channels })) b.others
 
 -- a header is read as that
 pub wave_head_read : (bytes : List ℕ) (head : SoundHead) → IsWaveHead bytes head → place_after_bytes (start form.Wave) bytes ≡ Some (at.Head head)
 wave_head_read bytes head h =
     let format : Format = record { coding = head.coding; rate = head.rate; channels = head.channels } in
-    ap (λ (l : List ℕ). place_after_bytes (start form.Wave) l) h.is ∙ behind_passes head.coding head.rate head.channels h.front (codes "data" ++ h.size_field) h.is_front
+    ap (λ (l : List ℕ). place_after_bytes (start form.Wave) l) h.is ∙ after_passes head.coding head.rate head.channels h.front (codes "data" ++ h.size_field) h.is_front
     ∙ ap (λ (l : List ℕ). place_after_bytes (field_start (field.Wave (wave.DataSize format))) l) (sym (append-nil h.size_field))
     ∙ field_read (field.Wave (wave.DataSize format)) h.size_field [] h.is_size.size
     ∙ ap (λ (n : ℕ). Some (at.Head (head_with format n))) h.is_size.is
@@ -60,7 +60,7 @@ data_first_read bytes h = ap (λ (l : List ℕ). place_after_bytes (start form.W
 
 second_format_read : (bytes : List ℕ) → HasSecondFormat bytes → place_after_bytes (start form.Wave) bytes ≡ Some (at.Bad BadHead)
 second_format_read bytes h =
-    ap (λ (l : List ℕ). place_after_bytes (start form.Wave) l) h.is ∙ behind_passes h.coding h.rate h.channels h.front (codes "fmt ") h.is_front
+    ap (λ (l : List ℕ). place_after_bytes (start form.Wave) l) h.is ∙ after_passes h.coding h.rate h.channels h.front (codes "fmt ") h.is_front
 
 short_format_read : (bytes : List ℕ) → HasShortFormat bytes → place_after_bytes (start form.Wave) bytes ≡ Some (at.Bad BadHead)
 short_format_read bytes h =

@@ -18,7 +18,7 @@ use Rattle.af_sound.specs.declared.wave.WaveField.TheVariants as wave
 use Rattle.af_sound.specs.declared.wave.Format.{Format}
 use Rattle.af_sound.specs.declared.wave.FormatFields.{FormatFields}
 use Rattle.af_sound.specs.Fields.{has_shape, IsLittle, IsLittle16}
-use Rattle.af_sound.specs.Wave.{Chunk, chunk_bytes, chunks_bytes, HasSecondFormat, HasShortFormat, HasWaveFault, IsBeforeFormat, IsBehindFormat, IsChunk, IsFormat, IsRiff, IsWaveHead, StatesFormat, StatesSound, wave_coding}
+use Rattle.af_sound.specs.Wave.{Chunk, chunk_bytes, chunks_bytes, HasSecondFormat, HasShortFormat, HasWaveFault, IsBeforeFormat, IsAfterFormat, IsChunk, IsFormat, IsRiff, IsWaveHead, StatesFormat, StatesSound, wave_coding}
 use Rattle.af_sound.specs.Reading.{field_start, format_coded, format_end, format_of, head_with, place_after_bytes, start, wave_name}
 use Rattle.af_sound.proofs.ReachedLemmas.{bad_ends, head_ends, inside_says, Says, unsaid}
 use Rattle.af_sound.proofs.ChunkLemmas.{at_name, BeginsWith, body_ends, chunks_end, Passes, pieces, Skips}
@@ -35,7 +35,7 @@ regrouped : (a b c : List ℕ) (place : Place) → Says form.Wave ((a ++ b) ++ c
 regrouped a b c place said = subst (λ (l : List ℕ). Says form.Wave l place) (append_assoc a b c) said
 
 -- after a name `data` that came after `fmt `
-data_says : (front : List ℕ) (format : Format) (rest : List ℕ) (place : Place) → IsBehindFormat format.coding format.rate format.channels front →
+data_says : (front : List ℕ) (format : Format) (rest : List ℕ) (place : Place) → IsAfterFormat format.coding format.rate format.channels front →
     place_after_bytes (field_start (field.Wave (wave.DataSize format))) rest ≡ Some place → Says form.Wave (front ++ (codes "data" ++ rest)) place
 data_says front format (a ∷ b ∷ c ∷ d ∷ more) place is_front e =
     let size : List ℕ = a ∷ b ∷ c ∷ d ∷ [] in
@@ -55,16 +55,16 @@ data_says front format (a ∷ b ∷ c ∷ d ∷ more) place is_front e =
 data_says front format rest place is_front e = unsaid form.Wave (front ++ (codes "data" ++ rest)) _ place e refl
 
 -- after a whole `fmt `
-behind_says : (front : List ℕ) (format : Format) (rest : List ℕ) (place : Place) → (before : List ℕ) (chunk : Chunk) → IsBeforeFormat before →
+after_format_says : (front : List ℕ) (format : Format) (rest : List ℕ) (place : Place) → (before : List ℕ) (chunk : Chunk) → IsBeforeFormat before →
     IsFormat format.coding format.rate format.channels chunk → front ≡ before ++ chunk_bytes chunk →
     place_after_bytes (at_name (Some format)) rest ≡ Some place → Says form.Wave (front ++ rest) place
-behind_says front format rest place before chunk is_before is_format is e =
+after_format_says front format rest place before chunk is_before is_format is e =
     elim (chunks_end (length rest) rest (Some format) place (omega arith) e) [ inl inside ↦ inside_says form.Wave (front ++ rest) place inside | inr s ↦ by s s.begins ] where
-      passed : (s : Skips (Some format) rest place) → IsBehindFormat format.coding format.rate format.channels (front ++ chunks_bytes s.chunks)
+      passed : (s : Skips (Some format) rest place) → IsAfterFormat format.coding format.rate format.channels (front ++ chunks_bytes s.chunks)
       passed s = record {
         before = before;
         format = chunk;
-        behind = s.chunks;
+        after = s.chunks;
         is = ap (λ (l : List ℕ). l ++ chunks_bytes s.chunks) is ∙ append_assoc before (chunk_bytes chunk) (chunks_bytes s.chunks);
         is_before = is_before;
         is_format = is_format;
@@ -169,7 +169,7 @@ sixteen_say before size sixteen after fields bits place is_before is_size states
         | inl inside ↦ inside_says form.Wave (before ++ (codes "fmt " ++ (size ++ (sixteen ++ after)))) place inside
         | inr p ↦ let c = format_chunk size sixteen fields.more after format place fields.tag bits is_size states_it coding shape p in
             subst (λ (l : List ℕ). Says form.Wave l place) (append_assoc before (chunk_bytes c.0) p.rest ∙ ap (λ (l : List ℕ). before ++ l) (sym c.2))
-            (behind_says (before ++ chunk_bytes c.0) format p.rest place before c.0 is_before c.1 refl p.reaches)
+            (after_format_says (before ++ chunk_bytes c.0) format p.rest place before c.0 is_before c.1 refl p.reaches)
       ]
 
   by_shape : (coding : Coding) → wave_coding fields.tag bits ≡ Some coding → (t : Bool) → has_shape fields.channels ≡ t →

@@ -10,7 +10,7 @@ use Rattle.af_sound.specs.declared.head.Coding.{Coding}
 use Rattle.af_sound.specs.declared.head.Coding.TheVariants as coding
 use Rattle.af_sound.specs.Fields.{IsBig, IsLittle, IsLittle16, length_of, has_shape}
 use Rattle.af_sound.specs.Au.{IsAuHead, StatesAu, au_coding}
-use Rattle.af_sound.specs.Wave.{Chunk, IsBeforeFormat, IsBehindFormat, IsFormat, IsWaveHead, StatesFormat, wave_coding}
+use Rattle.af_sound.specs.Wave.{Chunk, IsBeforeFormat, IsAfterFormat, IsFormat, IsWaveHead, StatesFormat, wave_coding}
 use Rattle.af_sound.specs.Written.{IsWritableHead, IsStatable, au_bytes, wave_bytes, size_of, encoding_of, is_written, big_bytes, little_bytes, little16_bytes, tag_of, sample_size, frame_size, riff_size}
 
 big_is : (number : ℕ) → number < 2 ^ 32 → IsBig number (big_bytes number)
@@ -146,14 +146,14 @@ before_is head = record {
   others = tt;
 }
 
-behind_is : (head : SoundHead) → IsWritableHead Wave head → head.rate < 2 ^ 32 →
-    IsBehindFormat head.coding head.rate head.channels
+after_is : (head : SoundHead) → IsWritableHead Wave head → head.rate < 2 ^ 32 →
+    IsAfterFormat head.coding head.rate head.channels
     ((codes "RIFF" ++ (little_bytes (riff_size head.length) ++ codes "WAVE")) ++ (codes "fmt " ++ (little_bytes 16 ++ sixteen head)))
 unfolding format sixteen
-behind_is head writable rate = record {
+after_is head writable rate = record {
   before = codes "RIFF" ++ (little_bytes (riff_size head.length) ++ codes "WAVE");
   format = format head;
-  behind = [];
+  after = [];
   is = refl;
   is_before = before_is head;
   is_format = format_is head writable rate;
@@ -167,7 +167,7 @@ wave_written head bytes is writable rate = record {
   size_field = little_bytes (size_of head.length);
   size = size_of head.length;
   is = is;
-  is_front = behind_is head writable rate;
+  is_front = after_is head writable rate;
   is_size = little_is (size_of head.length) (low_size head.length writable.length);
   is_length = stated_again head.length writable.length;
 }

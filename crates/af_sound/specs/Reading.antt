@@ -67,21 +67,21 @@ au_number (au.Rate offset size encoding) number =
     field_start (field.Au (au.Channels (record { offset = offset; size = size; encoding = encoding; rate = number })))
 au_number (au.Channels numbers) number = au_end numbers (au_head numbers number)
 
-abbrev pub au_behind : AuField → List ℕ → Place
-au_behind au.Name bytes = au_name (bytes_eq bytes (codes ".snd"))
-au_behind of bytes = au_number of (from_be_bytes w32 bytes)
+abbrev pub au_after : AuField → List ℕ → Place
+au_after au.Name bytes = au_name (bytes_eq bytes (codes ".snd"))
+au_after of bytes = au_number of (from_be_bytes w32 bytes)
 
 -- the kind of a chunk, by its name
 abbrev pub chunk_kind : List ℕ → ChunkKind
 chunk_kind name =
     if bytes_eq name (codes "fmt ") then kind.Format else if bytes_eq name (codes "data") then kind.Data else kind.Other
 
-abbrev pub behind_name : ChunkKind → Option Format → Place
-behind_name kind.Format None = field_start (field.Wave wave.FormatSize)
-behind_name kind.Format (Some format) = Bad BadHead
-behind_name kind.Data None = Bad BadHead
-behind_name kind.Data (Some format) = field_start (field.Wave (wave.DataSize format))
-behind_name kind.Other format = field_start (field.Wave (wave.ChunkSize format))
+abbrev pub after_name : ChunkKind → Option Format → Place
+after_name kind.Format None = field_start (field.Wave wave.FormatSize)
+after_name kind.Format (Some format) = Bad BadHead
+after_name kind.Data None = Bad BadHead
+after_name kind.Data (Some format) = field_start (field.Wave (wave.DataSize format))
+after_name kind.Other format = field_start (field.Wave (wave.ChunkSize format))
 
 -- before so many bytes of a chunk and its pad byte
 abbrev pub before_rest : ℕ → Option Format → Place
@@ -126,30 +126,30 @@ abbrev pub format_size : ℕ → Place
 format_size size = if nat_lt size 16 then Bad BadHead else field_start (field.Wave (wave.FormatTag (size - 16)))
 
 -- after four bytes of a WAVE file
-abbrev pub wave_behind : WaveField → List ℕ → Place
-wave_behind wave.Riff bytes = field_start (field.Wave (wave.RiffSize (bytes_eq bytes (codes "RIFF"))))
-wave_behind (wave.RiffSize riff) bytes = field_start (field.Wave (wave.Wave riff))
-wave_behind (wave.Wave riff) bytes = wave_name (riff && bytes_eq bytes (codes "WAVE"))
-wave_behind (wave.ChunkName format) bytes = behind_name (chunk_kind bytes) format
-wave_behind (wave.ChunkSize format) bytes = chunk_start (from_le_bytes w32 bytes) format
-wave_behind wave.FormatSize bytes = format_size (from_le_bytes w32 bytes)
-wave_behind (wave.FormatTag more) bytes = field_start (field.Wave (wave.FormatRate more (low_half bytes) (high_half bytes)))
-wave_behind (wave.FormatRate more tag channels) bytes =
+abbrev pub wave_after : WaveField → List ℕ → Place
+wave_after wave.Riff bytes = field_start (field.Wave (wave.RiffSize (bytes_eq bytes (codes "RIFF"))))
+wave_after (wave.RiffSize riff) bytes = field_start (field.Wave (wave.Wave riff))
+wave_after (wave.Wave riff) bytes = wave_name (riff && bytes_eq bytes (codes "WAVE"))
+wave_after (wave.ChunkName format) bytes = after_name (chunk_kind bytes) format
+wave_after (wave.ChunkSize format) bytes = chunk_start (from_le_bytes w32 bytes) format
+wave_after wave.FormatSize bytes = format_size (from_le_bytes w32 bytes)
+wave_after (wave.FormatTag more) bytes = field_start (field.Wave (wave.FormatRate more (low_half bytes) (high_half bytes)))
+wave_after (wave.FormatRate more tag channels) bytes =
     field_start (field.Wave (wave.FormatIgnored (record { more = more; tag = tag; channels = channels; rate = from_le_bytes w32 bytes })))
-wave_behind (wave.FormatIgnored fields) bytes = field_start (field.Wave (wave.FormatBits fields))
-wave_behind (wave.FormatBits fields) bytes = format_end fields (format_of fields (high_half bytes))
-wave_behind (wave.DataSize format) bytes = Head (head_with format (from_le_bytes w32 bytes))
+wave_after (wave.FormatIgnored fields) bytes = field_start (field.Wave (wave.FormatBits fields))
+wave_after (wave.FormatBits fields) bytes = format_end fields (format_of fields (high_half bytes))
+wave_after (wave.DataSize format) bytes = Head (head_with format (from_le_bytes w32 bytes))
 
-abbrev pub behind_field : fields.Field → List ℕ → Place
-behind_field (field.Au of) bytes = au_behind of bytes
-behind_field (field.Wave of) bytes = wave_behind of bytes
+abbrev pub after_field : fields.Field → List ℕ → Place
+after_field (field.Au of) bytes = au_after of bytes
+after_field (field.Wave of) bytes = wave_after of bytes
 
 -- a field with one more byte
 abbrev pub field_after_byte : fields.Field → Part → ℕ → Place
 field_after_byte of Nothing byte = Field of (One byte)
 field_after_byte of (One a) byte = Field of (Two a byte)
 field_after_byte of (Two a b) byte = Field of (Three a b byte)
-field_after_byte of (Three a b c) byte = behind_field of (a ∷ b ∷ c ∷ byte ∷ [])
+field_after_byte of (Three a b c) byte = after_field of (a ∷ b ∷ c ∷ byte ∷ [])
 
 -- the place after a byte
 abbrev pub place_after_byte : Place → ℕ → Place

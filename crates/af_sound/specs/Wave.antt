@@ -88,14 +88,14 @@ pub record IsBeforeFormat (bytes : List ℕ) : Type 0 where
   pub others : AreOthers chunks
 
 -- the same, with one chunk `fmt ` among the chunks
-pub record IsBehindFormat (coding : Coding) (rate channels : ℕ) (bytes : List ℕ) : Type 0 where
+pub record IsAfterFormat (coding : Coding) (rate channels : ℕ) (bytes : List ℕ) : Type 0 where
   pub before : List ℕ
   pub format : Chunk
-  pub behind : List Chunk
-  pub is : bytes ≡ before ++ (chunk_bytes format ++ chunks_bytes behind)
+  pub after : List Chunk
+  pub is : bytes ≡ before ++ (chunk_bytes format ++ chunks_bytes after)
   pub is_before : IsBeforeFormat before
   pub is_format : IsFormat coding rate channels format
-  pub others : AreOthers behind
+  pub others : AreOthers after
 
 -- a header of a WAVE file: exactly one chunk `fmt ` and no `data` among its chunks, and then `data` and a size
 pub record IsWaveHead (bytes : List ℕ) (head : SoundHead) : Type 0 where
@@ -103,7 +103,7 @@ pub record IsWaveHead (bytes : List ℕ) (head : SoundHead) : Type 0 where
   pub size_field : List ℕ
   pub size : ℕ
   pub is : bytes ≡ front ++ (codes "data" ++ size_field)
-  pub is_front : IsBehindFormat head.coding head.rate head.channels front
+  pub is_front : IsAfterFormat head.coding head.rate head.channels front
   pub is_size : IsLittle size size_field
   pub is_length : head.length ≡ length_of size
 
@@ -120,7 +120,7 @@ pub record HasSecondFormat (bytes : List ℕ) : Type 0 where
   pub rate : ℕ
   pub channels : ℕ
   pub is : bytes ≡ front ++ codes "fmt "
-  pub is_front : IsBehindFormat coding rate channels front
+  pub is_front : IsAfterFormat coding rate channels front
 
 -- bytes that end with a size of `fmt ` that is too small
 pub record HasShortFormat (bytes : List ℕ) : Type 0 where

@@ -1,7 +1,7 @@
 // The six numbers of an .au header.
 ghost use Rattle.std.specs.Prelude.{◌≡◌};
 ghost use Rattle.af_sound.specs.Au.{au_coding};
-ghost use Rattle.af_sound.specs.Reading.{au_behind, au_end, au_head};
+ghost use Rattle.af_sound.specs.Reading.{au_after, au_end, au_head};
 
 use crate::head::length_of;
 use crate::head_reader::{Field, Place};
@@ -38,8 +38,8 @@ pub(crate) struct AuNumbers {
 
 impl AuField {
     // The place after the field.
-    pub(crate) fn behind(self, bytes: [u8; 4]) -> Place
-        ensures { result ≡ au_behind self bytes }
+    pub(crate) fn after(self, bytes: [u8; 4]) -> Place
+        ensures { result ≡ au_after self bytes }
     {
         let number = u32::from_be_bytes(bytes);
         let next = match self {
@@ -65,7 +65,7 @@ impl AuField {
                 encoding,
                 rate: number,
             }),
-            AuField::Channels(numbers) => return numbers.behind(number),
+            AuField::Channels(numbers) => return numbers.after(number),
         };
         Field::Au(next).field_begun()
     }
@@ -73,7 +73,7 @@ impl AuField {
 
 impl AuNumbers {
     // The place after all six numbers.
-    fn behind(self, channels: u32) -> Place
+    fn after(self, channels: u32) -> Place
         ensures { result ≡ au_end self (au_head self channels) }
     {
         match self.head(channels) {

@@ -5,7 +5,7 @@ ghost use Rattle.af_sound.specs.declared.head.SoundForm.{SoundForm};
 ghost use Rattle.af_sound.specs.declared.head.SoundHead.{SoundHead};
 ghost use Rattle.af_sound.specs.declared.head.SoundFault.{SoundFault};
 ghost use Rattle.af_sound.specs.Heads.{HasFault, IsHead};
-ghost use Rattle.af_sound.specs.Reading.{HasTaken, IsOpen, field_start, place_after_byte, behind_field, field_after_byte, start, step_at};
+ghost use Rattle.af_sound.specs.Reading.{HasTaken, IsOpen, field_start, place_after_byte, after_field, field_after_byte, start, step_at};
 
 use crate::au::AuField;
 use crate::wave::{Format, WaveField};
@@ -75,14 +75,14 @@ impl HeadReader {
             (result ≡ step.Head head) ↔ IsHead form (bytes ++ (byte ∷ [])) head }
         ensures open { (result ≡ step.More) ↔ IsOpen self.new }
     {
-        self.place = self.place.behind(byte);
+        self.place = self.place.after(byte);
         self.place.step()
     }
 }
 
 impl Place {
     // The place after a byte.
-    fn behind(self, byte: u8) -> Place
+    fn after(self, byte: u8) -> Place
         ensures { result ≡ place_after_byte self byte }
     {
         match self {
@@ -127,12 +127,12 @@ impl Field {
     }
 
     // The place after the field.
-    fn behind(self, bytes: [u8; 4]) -> Place
-        ensures { result ≡ behind_field self bytes }
+    fn after(self, bytes: [u8; 4]) -> Place
+        ensures { result ≡ after_field self bytes }
     {
         match self {
-            Field::Au(field) => field.behind(bytes),
-            Field::Wave(field) => field.behind(bytes),
+            Field::Au(field) => field.after(bytes),
+            Field::Wave(field) => field.after(bytes),
         }
     }
 }
@@ -146,7 +146,7 @@ impl Part {
             Part::Nothing => Part::One(byte),
             Part::One(a) => Part::Two(a, byte),
             Part::Two(a, b) => Part::Three(a, b, byte),
-            Part::Three(a, b, c) => return of.behind([a, b, c, byte]),
+            Part::Three(a, b, c) => return of.after([a, b, c, byte]),
         };
         Place::Field { of, part }
     }

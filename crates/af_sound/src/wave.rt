@@ -1,7 +1,7 @@
 // The chunks of a WAVE file.
 ghost use Rattle.std.specs.Prelude.{◌≡◌, ◌<◌, ◌^◌};
 ghost use Rattle.af_sound.specs.Wave.{wave_coding};
-ghost use Rattle.af_sound.specs.Reading.{behind_name, chunk_start, chunk_kind, format_end, format_of, head_with, wave_behind};
+ghost use Rattle.af_sound.specs.Reading.{after_name, chunk_start, chunk_kind, format_end, format_of, head_with, wave_after};
 
 use crate::head::length_of;
 use crate::head_reader::{Field, Place};
@@ -54,8 +54,8 @@ pub(crate) enum ChunkKind {
 
 impl WaveField {
     // The place after four bytes.
-    pub(crate) fn behind(self, bytes: [u8; 4]) -> Place
-        ensures { result ≡ wave_behind self bytes }
+    pub(crate) fn after(self, bytes: [u8; 4]) -> Place
+        ensures { result ≡ wave_after self bytes }
     {
         let number = u32::from_le_bytes(bytes);
         let [a, b, c, d] = bytes;
@@ -68,7 +68,7 @@ impl WaveField {
                 format: None,
             },
             WaveField::Wave { .. } => return Place::Bad(SoundFault::BadMagic),
-            WaveField::ChunkName { format } => return ChunkKind::of(bytes).behind(format),
+            WaveField::ChunkName { format } => return ChunkKind::of(bytes).after(format),
             WaveField::ChunkSize { format } => return chunk_begun(u64::from(number), format),
             WaveField::FormatSize if number < 16 => return Place::Bad(SoundFault::BadHead),
             WaveField::FormatSize => WaveField::FormatTag { more: number - 16 },
@@ -88,7 +88,7 @@ impl WaveField {
                 rate: number,
             }),
             WaveField::FormatIgnored(fields) => WaveField::FormatBits(fields),
-            WaveField::FormatBits(fields) => return fields.behind(u16::from_le_bytes([c, d])),
+            WaveField::FormatBits(fields) => return fields.after(u16::from_le_bytes([c, d])),
             WaveField::DataSize { format } => return Place::Head(format.head(number)),
         };
         Field::Wave(next).field_begun()
@@ -109,8 +109,8 @@ impl ChunkKind {
     }
 
     // The place after the name of a chunk: `data` has to come after `fmt `, which has to come only once.
-    fn behind(self, format: Option<Format>) -> Place
-        ensures { result ≡ behind_name self format }
+    fn after(self, format: Option<Format>) -> Place
+        ensures { result ≡ after_name self format }
     {
         let next = match (self, format) {
             (ChunkKind::Format, None) => WaveField::FormatSize,
@@ -135,7 +135,7 @@ fn chunk_begun(count: u64, format: Option<Format>) -> Place
 
 impl FormatFields {
     // The place after the sixteen bytes of `fmt `.
-    fn behind(self, bits: u16) -> Place
+    fn after(self, bits: u16) -> Place
         ensures { result ≡ format_end self (format_of self bits) }
     {
         match self.format(bits) {

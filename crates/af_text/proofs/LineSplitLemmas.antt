@@ -55,10 +55,10 @@ parts_first (b ∷ rest) =
     ]
 
 -- what comes after the first part has the words of the later parts
-words_behind : (line : List ℕ) → words (drop (length_before 32 line) line) ≡ filled_parts (parts_after (drop (length_before 32 line) line))
-words_behind [] = refl
-words_behind (b ∷ rest) =
-    let ih = words_behind rest in
+words_after : (line : List ℕ) → words (drop (length_before 32 line) line) ≡ filled_parts (parts_after (drop (length_before 32 line) line))
+words_after [] = refl
+words_after (b ∷ rest) =
+    let ih = words_after rest in
     let line = b ∷ rest in
     let n = length_before 32 rest in
     let one : 1 + n ≡ suc n = omega arith in
@@ -76,7 +76,7 @@ pub words_first : (line : List ℕ) → 0 < length_before 32 line → 0 < length
 words_first [] h some = absurd (omega arith)
 words_first (b ∷ rest) h some =
     let line = b ∷ rest in
-    ap filled_parts (parts_first line) ∙ first_kept b rest (length_before 32 line) h ∙ ap (λ ws. take (length_before 32 line) line ∷ ws) (sym (words_behind line))
+    ap filled_parts (parts_first line) ∙ first_kept b rest (length_before 32 line) h ∙ ap (λ ws. take (length_before 32 line) line ∷ ws) (sym (words_after line))
 
 -- spaces in front of a line are no words
 pub words_skip : (line : List ℕ) → words line ≡ words (drop (position_or_len (λ b. not (nat_eq b 32)) line) line)

@@ -24,6 +24,6 @@ channels_stated [] = 1
 channels_stated (word ∷ words) = if bytes_eq word (codes "stereo") then 2 else 1
 
 -- the words after `stereo`, if that is the first of these, and else all of them
-abbrev pub behind_channels : List (List ℕ) → List (List ℕ)
-behind_channels [] = []
-behind_channels (word ∷ words) = if bytes_eq word (codes "stereo") then words else word ∷ words
+abbrev pub after_channels : List (List ℕ) → List (List ℕ)
+after_channels [] = []
+after_channels (word ∷ words) = if bytes_eq word (codes "stereo") then words else word ∷ words

@@ -56,14 +56,14 @@ pub fn read_lines<R: LineParser>(alloc: Global, text: &[u8], read: &mut R) -> Re
     let mut number = 1u32;
     let mut rest = text;
     while !rest.is_empty() {
-        let (line, behind) = next_line(rest);
+        let (line, after) = next_line(rest);
         match read.add_line(alloc, line) {
             Ok(true) => {}
             Ok(false) => return Err(LineFault::Line(number)),
             Err(OutOfMemory) => return Err(LineFault::OutOfMemory),
         }
         number += 1;
-        rest = behind;
+        rest = after;
     }
     if read.is_wanting() {
         return Err(LineFault::Line(number));

@@ -4,7 +4,7 @@ ghost use Rattle.std.specs.Str.{IsUtf8};
 ghost use Rattle.af_sample.specs.Channels.{IsChannelCount};
 ghost use Rattle.af_sample.specs.Rates.{IsListedRate};
 ghost use Rattle.af_text.specs.Lines.{words};
-ghost use Rattle.af_text.specs.Sound.{type_of, rate_of, channels_stated, behind_channels};
+ghost use Rattle.af_text.specs.Sound.{type_of, rate_of, channels_stated, after_channels};
 
 use crate::{is_word, next_word, number};
 use af_sample::{SampleType, is_listed_rate};
@@ -44,7 +44,7 @@ pub fn listed_rate(word: &[u8]) -> Option<u32>
 pub fn channel_count(arguments: &[u8]) -> (u8, &[u8])
     ensures channels { result.0 ≡ channels_stated (words arguments.now) }
     ensures count { IsChannelCount result.0 }
-    ensures rest { words result.1.now ≡ behind_channels (words arguments.now) }
+    ensures rest { words result.1.now ≡ after_channels (words arguments.now) }
     ensures text { IsUtf8 arguments.now → IsUtf8 result.1.now }
 {
     match next_word(arguments) {

@@ -8,7 +8,7 @@ use Rattle.af_toolkit.specs.declared.end.ToolEnd.TheVariants as end
 use Rattle.af_toolkit.specs.Trace.{Trace, ClientState, done, ends}
 use Rattle.af_toolkit.specs.Ends.{MatchesTrace, ObservedTrace, ObservedPart, TracePart, is_outer}
 use Rattle.af_io.proofs.AppendedLemmas.{appended_none, appended_on}
-use Rattle.af_toolkit.proofs.TracePartLemmas.{ended_at_once, ended_behind, ended_early}
+use Rattle.af_toolkit.proofs.TracePartLemmas.{ended_at_once, ended_then, ended_early}
 
 -- the same bytes, for a trace that equals another
 pub ended_same : (c d : Trace) (how : ToolEnd) (s o : List ℕ) → d ≡ c → MatchesTrace c how s o → MatchesTrace d how s o
@@ -32,7 +32,7 @@ followed_on part next x how left wire s s' s'' h h' h'' g rest =
     record {
       sends = g.sends ++ more.sends;
       output = g.output ++ more.output;
-      ended = ended_behind (next x (wire g.came.0)) _ how g.sends g.output more.sends more.output (g.came.2 next) more.ended;
+      ended = ended_then (next x (wire g.came.0)) _ how g.sends g.output more.sends more.output (g.came.2 next) more.ended;
       link = appended_on s s' s'' g.sends more.sends g.link more.link;
       sink = appended_on h h' h'' g.output more.output g.sink more.sink;
     }

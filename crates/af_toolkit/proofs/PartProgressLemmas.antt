@@ -9,7 +9,7 @@ use Rattle.af_toolkit.specs.declared.end.ToolEnd.{ToolEnd}
 use Rattle.af_toolkit.specs.Trace.{Trace, Finish, ClientState, tool_end, ends}
 use Rattle.af_toolkit.specs.Ends.{ObservedPart, TracePart, is_outer}
 use Rattle.af_io.proofs.AppendedLemmas.{appended_none, appended_on}
-use Rattle.af_toolkit.proofs.TracePartLemmas.{came_behind, does_first, doing_twice, ended_at_once, ended_early}
+use Rattle.af_toolkit.proofs.TracePartLemmas.{came_then, does_first, doing_twice, ended_at_once, ended_early}
 
 -- a part has come to another, which is what is left of it
 pub record Reaches {X : Type 0} (part now : TracePart X) (sent sent' held held' : Option (List ℕ)) : Type 0 where
@@ -44,7 +44,7 @@ pub reaches_goes : {X : Type 0} (part now : TracePart X) (r : Result X ToolEnd) 
 reaches_goes part now result left wire s s' s'' h h' h'' r g = record {
   sends = r.sends ++ g.sends;
   output = r.output ++ g.output;
-  came = came_behind part now result left wire r.sends r.output g.sends g.output r.goes g.came;
+  came = came_then part now result left wire r.sends r.output g.sends g.output r.goes g.came;
   link = appended_on s s' s'' r.sends g.sends r.link g.link;
   sink = appended_on h h' h'' r.output g.output r.sink g.sink;
 }

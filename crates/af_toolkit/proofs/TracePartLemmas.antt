@@ -31,8 +31,8 @@ abbrev pub does_first : List ℕ → List ℕ → Trace → Trace
 does_first sends output c = record { sends = sends ++ c.sends; output = output ++ c.output; finish = c.finish }
 
 -- the whole trace, when it ends after what was done
-pub ended_behind : (c d : Trace) (how : ToolEnd) (s o s' o' : List ℕ) → d ≡ does_first s o c → MatchesTrace c how s' o' → MatchesTrace d how (s ++ s') (o ++ o')
-ended_behind c d how s o s' o' is e = subst (λ (x : Trace). MatchesTrace x how (s ++ s') (o ++ o')) (sym is) (record {
+pub ended_then : (c d : Trace) (how : ToolEnd) (s o s' o' : List ℕ) → d ≡ does_first s o c → MatchesTrace c how s' o' → MatchesTrace d how (s ++ s') (o ++ o')
+ended_then c d how s o s' o' is e = subst (λ (x : Trace). MatchesTrace x how (s ++ s') (o ++ o')) (sym is) (record {
   unsent = e.unsent;
   unwritten = e.unwritten;
   sent = ap (λ l. s ++ l) e.sent ∙ sym (append_assoc s s' e.unsent);
@@ -64,10 +64,10 @@ pub doing_twice : (s o s' o' : List ℕ) (c : Trace) → does_first s o (does_fi
 doing_twice s o s' o' c = simp append_assoc
 
 -- how a part went, by how what is left of it went
-pub came_behind : {X : Type 0} (part now : TracePart X) (r : Result X ToolEnd) (left : Option (List ℕ)) (wire : List ℕ → ClientState) (s o s' o' : List ℕ) →
+pub came_then : {X : Type 0} (part now : TracePart X) (r : Result X ToolEnd) (left : Option (List ℕ)) (wire : List ℕ → ClientState) (s o s' o' : List ℕ) →
     ((next : X → ClientState → Trace) → part next ≡ does_first s o (now next)) → PartMatches now r left wire s' o' → PartMatches part r left wire (s ++ s') (o ++ o')
-came_behind part now (Ok x) left wire s o s' o' goes came = (came.0, came.1, λ next. goes next ∙ ap (does_first s o) (came.2 next) ∙ doing_twice s o s' o' (next x (wire came.0)))
-came_behind part now (Err how) left wire s o s' o' goes came = λ next. ended_behind (now next) (part next) how s o s' o' (goes next) (came next)
+came_then part now (Ok x) left wire s o s' o' goes came = (came.0, came.1, λ next. goes next ∙ ap (does_first s o) (came.2 next) ∙ doing_twice s o s' o' (next x (wire came.0)))
+came_then part now (Err how) left wire s o s' o' goes came = λ next. ended_then (now next) (part next) how s o s' o' (goes next) (came next)
 
 -- a part, and the one after it
 pub goes_on : {X Y : Type 0} (first : TracePart X) (second : X → ClientState → TracePart Y) (x : X) (r : Result Y ToolEnd) (left left' : Option (List ℕ)) (wire wire' : List ℕ → ClientState) (s s' s'' h h' h'' : Option (List ℕ)) →
@@ -78,15 +78,15 @@ goes_on first second x r left left' wire wire' s s' s'' h h' h'' g rest =
     record {
       sends = g.sends ++ more.sends;
       output = g.output ++ more.output;
-      came = came_behind (λ next. first (λ x w. second x w next)) (second x (wire g.came.0)) r left' wire' g.sends g.output more.sends more.output (λ next. g.came.2 (λ x w. second x w next)) more.came;
+      came = came_then (λ next. first (λ x w. second x w next)) (second x (wire g.came.0)) r left' wire' g.sends g.output more.sends more.output (λ next. g.came.2 (λ x w. second x w next)) more.came;
       link = appended_on s s' s'' g.sends more.sends g.link more.link;
       sink = appended_on h h' h'' g.output more.output g.sink more.sink;
     }
 
 -- a client after an answer
-wire_behind : {L : Type 0} (old new : ConnState L) (input a : List ℕ) → new.order ≡ old.order → new.sequence ≡ next_sequence old.sequence → new.ring ≡ (next_message (client_of old input)).ring → a ≡ (next_message (client_of old input)).rest →
+wire_after : {L : Type 0} (old new : ConnState L) (input a : List ℕ) → new.order ≡ old.order → new.sequence ≡ next_sequence old.sequence → new.ring ≡ (next_message (client_of old input)).ring → a ≡ (next_message (client_of old input)).rest →
     client_of new a ≡ after_reply (client_of old input)
-wire_behind old new input a order sequence ring rest =
+wire_after old new input a order sequence ring rest =
     ap (λ (o : Order). (let w : ClientState = record { order = o; sequence = new.sequence; ring = new.ring; input = a } in w)) order
     ∙ ap₂ (λ (s : ℕ) (r : RingState). (let w : ClientState = record { order = old.order; sequence = s; ring = r; input = a } in w)) sequence ring
     ∙ ap (λ (i : List ℕ). (let w : ClientState = record { order = old.order; sequence = next_sequence old.sequence; ring = (next_message (client_of old input)).ring; input = i } in w)) rest
@@ -155,7 +155,7 @@ asked_known left sent faults asked value_of old new input result called usable t
     let both = told_both (left old.link) (left new.link) input _ told called.tells (called.answers usable sound) in
     let facts = both.2 in
     let kept = called.keeps usable in
-    (both.0, both.1, facts.0, wire_behind old new input both.0 (ap (λ (c : ConnState _). c.order) kept) (ap (λ (c : ConnState _). c.sequence) kept) facts.1 facts.2)
+    (both.0, both.1, facts.0, wire_after old new input both.0 (ap (λ (c : ConnState _). c.order) kept) (ap (λ (c : ConnState _). c.sequence) kept) facts.1 facts.2)
 
 -- a request and its answer are a part of a tool
 pub asked_goes : {L X : Type 0} (left sent : L → Option (List ℕ)) (faults : L → ℕ) (asked : Asked) (value_of : Answer → Option X) (old new : ConnState L) (input : List ℕ) (held : Option (List ℕ)) (result : Result X ConnFault) →

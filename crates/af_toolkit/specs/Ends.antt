@@ -114,7 +114,8 @@ ObservedPartOver left sent old new part result = (input : List ℕ) (held : Opti
 abbrev pub ObservedPartWriting : {L K X : Type 0} → (left sent : L → Option (List ℕ)) → (held : K → Option (List ℕ)) →
     (conn conn' : ConnState L) → (sink sink' : K) → (ClientState → TracePart X) → Result X ToolEnd → Type 0
 ObservedPartWriting left sent held conn conn' sink sink' part result = (input : List ℕ) → left conn.link ≡ Some input →
-    ObservedPart (part (client_of conn input)) result (left conn'.link) (client_of conn') (sent conn.link) (sent conn'.link) (held sink) (held sink')
+    ObservedPart (part (client_of conn input)) result (left conn'.link) (client_of conn')
+    (sent conn.link) (sent conn'.link) (held sink) (held sink')
 
 -- some bytes were written to a sink, or the first of them before it failed
 abbrev pub Writes : {K : Type 0} → (held : K → Option (List ℕ)) → List ℕ → Result (Unit {0}) ToolEnd → (sink sink' : K) → Type 0

@@ -11,4 +11,4 @@ pub use device::device_with;
 pub use end::ToolEnd;
 pub use talk::{CONTEXT, ToolContext, begin, device_time, finish, make_context};
 pub use text::{put, put_gain, put_number, write_piece, write_text};
-pub use time::time_behind;
+pub use time::time_after_frames;

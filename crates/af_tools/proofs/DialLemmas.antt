@@ -25,7 +25,7 @@ use Rattle.af_relay.specs.Pass.{RelayTrace, apass_trace, of_one_shape, ends_both
 use Rattle.af_tools.specs.Limits.{most_bytes}
 use Rattle.af_cli.specs.Words.{Job, one, relay}
 use Rattle.af_io.proofs.AppendedLemmas.{appended_none, appended_on}
-use Rattle.af_toolkit.proofs.TracePartLemmas.{ended_behind, ended_early}
+use Rattle.af_toolkit.proofs.TracePartLemmas.{ended_then, ended_early}
 use Rattle.af_toolkit.proofs.ToolEndLemmas.{done_unless_outer, IsDoneOrRefused, ends_as}
 use Rattle.af_toolkit.proofs.FollowedLemmas.{ended_same}
 use Rattle.af_tools.proofs.SetupTraceLemmas.{setup_known}
@@ -42,7 +42,7 @@ use Rattle.af_sound.specs.Fronts.{front_of}
 use Rattle.af_sound.proofs.FrontLemmas.{front, front_has_fault, front_is_head, front_is_whole}
 use Rattle.af_cli.specs.declared.job.PlayJob.{PlayJob}
 use Rattle.af_tools.specs.declared.sound.SourceSound.{SourceSound}
-use Rattle.af_tools.specs.Sounds.{at_one_shape, behind_front, file_sound, raw_sound, reads_sound}
+use Rattle.af_tools.specs.Sounds.{at_one_shape, after_header, file_sound, raw_sound, reads_sound}
 use Rattle.af_tools.specs.Play.{aplay_trace, played_text}
 use Rattle.af_tools.specs.Record.{arecord_trace}
 use Rattle.af_standing.specs.ControlsReport.{controls_report_text}
@@ -87,7 +87,7 @@ shape_short true true next x y z u more = more
 shape_short true false next x y z u more = λ e. cc
 shape_short false c next x y z u more = λ e. cc
 
-front_short : (says : HeadStep) (next : SoundHead → Trace) → ((head : SoundHead) → IsShort (next head).finish) → IsShort (behind_front says next).finish
+front_short : (says : HeadStep) (next : SoundHead → Trace) → ((head : SoundHead) → IsShort (next head).finish) → IsShort (after_header says next).finish
 front_short (step.Head head) next more = more head
 front_short (step.Bad f) next more = λ e. cc
 front_short step.More next more = λ e. cc
@@ -110,7 +110,7 @@ sound_short (Some form) job device bytes next few more =
     let within = front_within form bytes in
     let test : nat_lt most_bytes f.size ≡ false = grind (arith, nat_tests) in
     let left : length (drop f.size bytes) ≡ length bytes - f.size = length-drop f.size bytes in
-    few_short (nat_lt most_bytes f.size) (behind_front f.says (λ head. at_one_shape head device (next (file_sound device head f.size) (drop f.size bytes)))) test
+    few_short (nat_lt most_bytes f.size) (after_header f.says (λ head. at_one_shape head device (next (file_sound device head f.size) (drop f.size bytes)))) test
     (front_short f.says _ (λ head. shape_short (head.rate == device.rate) (head.channels == device.channels) (next (file_sound device head f.size) (drop f.size bytes)) _ _ _ _ (more (file_sound device head f.size) (drop f.size bytes) (omega arith))))
 
 task_short : (t : Task) (devices : List DeviceInfo) (bytes : List ℕ) (w : ClientState) → length bytes ≤ most_bytes → IsShort (task_trace t devices bytes w).finish
@@ -255,9 +255,9 @@ module _ (order : Order) where
     is : connects_by order sending input next ≡ sending (setup_bytes order) (next devices (new_client order ring a))
     appended : Appended (sent old) (setup_bytes order) (sent new)
 
-  behind_setup : {L : Type 0} (left sent : L → Option (List ℕ)) (faults : L → ℕ) (sending : List ℕ → RelayTrace → RelayTrace) (input : List ℕ) (next : List DeviceInfo → ClientState → RelayTrace) (old new : L) (ring : RingState) (devices : List DeviceInfo) →
+  after_dial_setup : {L : Type 0} (left sent : L → Option (List ℕ)) (faults : L → ℕ) (sending : List ℕ → RelayTrace → RelayTrace) (input : List ℕ) (next : List DeviceInfo → ClientState → RelayTrace) (old new : L) (ring : RingState) (devices : List DeviceInfo) →
       IsSetUp order left sent faults old new ring (Ok devices) → left old ≡ Some input → FollowsSetup left sent sending input next old new ring devices
-  behind_setup left sent faults sending input next old new ring devices is told =
+  after_dial_setup left sent faults sending input next old new ring devices is told =
       let k = setup_known order left sent faults old new ring input (Ok devices) is told (λ e. cc e) in
       record {
         a = k.0;
@@ -274,7 +274,7 @@ module _ (order : Order) where
       sends_to = setup_bytes order ++ f.sends_to;
       output = f.output;
       recorded = ended_same (on_from rest) (on_from whole) how f.sends_from f.output (ap on_from is) f.recorded;
-      played = ended_behind (on_to rest) (on_to whole) how (setup_bytes order) [] f.sends_to f.output (ap on_to is) f.played;
+      played = ended_then (on_to rest) (on_to whole) how (setup_bytes order) [] f.sends_to f.output (ap on_to is) f.played;
       link_from = f.link_from;
       link_to = appended_on t t' t'' (setup_bytes order) f.sends_to appended f.link_to;
       sink = f.sink;
@@ -286,7 +286,7 @@ module _ (order : Order) where
       IsSetUp order left sent faults old new ring (Ok devices) → left old ≡ Some input → (how ≡ end.OutOfMemory → ⊥) →
       ((a : List ℕ) → left new ≡ Some a → ObservedRelayTrace (next devices (new_client order ring a)) how s s' (sent new) t'' h h') → RelayedOver (connects_by order sends_first_to input next) how s s' (sent old) t'' h h'
   over_answered left sent faults input next old new ring devices how s s' t'' h h' is told never follows =
-      let b = behind_setup left sent faults sends_first_to input next old new ring devices is told in
+      let b = after_dial_setup left sent faults sends_first_to input next old new ring devices is told in
       over_ok (connects_by order sends_first_to input next) (next devices (new_client order ring b.a)) how s s' (sent old) (sent new) t'' h h' b.is never b.appended (follows b.a b.told)
 
   -- the second link was not set up
@@ -353,7 +353,7 @@ module _ (order : Order) where
     ran_over_both left_of sent_of faults old new ring devices how [] gives is same goes = absurd gives
     ran_over_both left_of sent_of faults old new ring devices how (link ∷ rest) {back} gives is same goes =
         let next : List DeviceInfo → ClientState → RelayTrace = λ from v. dials_to order rest (λ to w. apass_trace job from to v w) in
-        let b = behind_setup left_of sent_of faults sends_first_from link.gives next old new ring devices is gives.0 in
+        let b = after_dial_setup left_of sent_of faults sends_first_from link.gives next old new ring devices is gives.0 in
         let after = next devices (new_client order ring b.a) in
         let r = goes rest b.a gives.2 b.told in
         let first = subst (λ (x : Option (List (List ℕ))). AppendedBack x r.after r.between) same r.first in
@@ -361,7 +361,7 @@ module _ (order : Order) where
           sends_from = setup_bytes order ++ r.sends_from;
           sends_to = r.sends_to;
           output = r.output;
-          recorded = ended_behind (on_from after) (on_from (connects_by order sends_first_from link.gives next)) how (setup_bytes order) [] r.sends_from r.output (ap on_from b.is) r.recorded;
+          recorded = ended_then (on_from after) (on_from (connects_by order sends_first_from link.gives next)) how (setup_bytes order) [] r.sends_from r.output (ap on_from b.is) r.recorded;
           played = ended_same (on_to after) (on_to (connects_by order sends_first_from link.gives next)) how r.sends_to r.output (ap on_to b.is) r.played;
           sink = r.sink;
           link = inr (link, rest, r.between, refl, consumed_entry back r.between (sent_of old) r.after link.sent (setup_bytes order ++ r.sends_from) gives.1 (appended_on (sent_of old) (sent_of new) r.after (setup_bytes order) r.sends_from b.appended r.link) first, r.second);

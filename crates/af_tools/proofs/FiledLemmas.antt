@@ -30,7 +30,7 @@ use Rattle.af_toolkit.specs.Trace.{Trace, ClientState, after_reply, answer_on, a
 use Rattle.af_toolkit.specs.Ends.{ObservedTrace}
 use Rattle.af_tools.proofs.EndLemmas.{is_whole}
 use Rattle.af_tools.specs.declared.record.RecordedSound.{RecordedSound}
-use Rattle.af_tools.specs.Files.{as_filed, as_raw, coding_in, front_of_recording, pad_behind, recorded_sound, recorded_type, IsFiledAs}
+use Rattle.af_tools.specs.Files.{as_filed, as_raw, coding_in, front_of_recording, pad_after, recorded_sound, recorded_type, IsFiledAs}
 use Rattle.af_tools.specs.Record.{arecord_trace, block_lengths, ends_row, peak, record_context, recorded_frame, records_on, records, records_all, writes_recording}
 use Rattle.af_tools.specs.Recorded.{IsRecorded}
 use Rattle.af_tools.specs.Sounds.{AreWhole}
@@ -41,7 +41,7 @@ use Rattle.af_tools.proofs.RecordBlockLemmas.{whole_frames}
 pub record IsFileOf (front : List ℕ) (form : Option SoundForm) (coding : Option Coding) (before : ℕ) (c raw : Trace) : Type 0 where
   pub sends : c.sends ≡ raw.sends
   pub finish : c.finish ≡ raw.finish
-  pub output : raw.finish ≡ done → c.output ≡ front ++ (as_filed coding raw.output ++ pad_behind form (before + length raw.output))
+  pub output : raw.finish ≡ done → c.output ≡ front ++ (as_filed coding raw.output ++ pad_after form (before + length raw.output))
 
 filed_none : (coding : Option Coding) → as_filed coding [] ≡ []
 filed_none (Some coding.Lin16Little) = refl
@@ -116,8 +116,8 @@ module _ (form : Option SoundForm) (coding : Option Coding) (before : ℕ) where
         let len = length-append samples raw.output in
         let size : before + length samples + length raw.output ≡ before + length (samples ++ raw.output) = omega (arith, len) in
         ap (λ (l : List ℕ). as_filed coding samples ++ l) (f.output way)
-        ∙ sym (append_assoc (as_filed coding samples) (as_filed coding raw.output) (pad_behind form (before + length samples + length raw.output)))
-        ∙ ap₂ (λ (l : List ℕ) (n : ℕ). l ++ pad_behind form n) (sym (filed_append coding samples raw.output whole)) size;
+        ∙ sym (append_assoc (as_filed coding samples) (as_filed coding raw.output) (pad_after form (before + length samples + length raw.output)))
+        ∙ ap₂ (λ (l : List ℕ) (n : ℕ). l ++ pad_after form n) (sym (filed_append coding samples raw.output whole)) size;
   }
 
   -- both free the context, and write nothing more except the byte that makes the one even
@@ -125,7 +125,7 @@ module _ (form : Option SoundForm) (coding : Option Coding) (before : ℕ) where
   freed_none (Ok x) w = refl
   freed_none (Err f) w = refl
 
-  end_file : (w : ClientState) → IsFileOf [] form coding before (writes_first (pad_behind form before) (asks (free_ac 1) as_done w (λ _ _. ends done))) (asks (free_ac 1) as_done w (λ _ _. ends done))
+  end_file : (w : ClientState) → IsFileOf [] form coding before (writes_first (pad_after form before) (asks (free_ac 1) as_done w (λ _ _. ends done))) (asks (free_ac 1) as_done w (λ _ _. ends done))
   unfolding asks
   end_file w =
       let none = freed_none (answer_on (free_ac 1) as_done w) (after_reply w) in
@@ -135,8 +135,8 @@ module _ (form : Option SoundForm) (coding : Option Coding) (before : ℕ) where
         sends = refl;
         finish = refl;
         output = λ way.
-            ap (λ (l : List ℕ). pad_behind form before ++ l) none ∙ append-nil (pad_behind form before) ∙ ap (pad_behind form) size
-            ∙ ap (λ (l : List ℕ). l ++ pad_behind form (before + length rest)) (sym (ap (as_filed coding) none ∙ filed_none coding));
+            ap (λ (l : List ℕ). pad_after form before ++ l) none ∙ append-nil (pad_after form before) ∙ ap (pad_after form) size
+            ∙ ap (λ (l : List ℕ). l ++ pad_after form (before + length rest)) (sym (ap (as_filed coding) none ∙ filed_none coding));
       }
 
 -- the same sound, written raw
@@ -167,7 +167,7 @@ at_zero form coding frame c raw f = subst (λ (m : ℕ). IsFileOf [] form coding
 -- what follows the front, and the same written raw
 abbrev file_body : RecordJob → DeviceInfo → (start : ℕ) → ClientState → Trace
 file_body job device start w = records_all job (recorded_sound job device) start w (λ frames w.
-    writes_first (pad_behind job.form (frames * recorded_frame (recorded_sound job device))) (asks (free_ac 1) as_done w (λ _ _. ends done)))
+    writes_first (pad_after job.form (frames * recorded_frame (recorded_sound job device))) (asks (free_ac 1) as_done w (λ _ _. ends done)))
 
 abbrev raw_body : RecordJob → DeviceInfo → (start : ℕ) → ClientState → Trace
 raw_body job device start w = records_all (as_raw job device) (plain_sound (recorded_sound job device)) start w (λ frames w. asks (free_ac 1) as_done w (λ _ _. ends done))
@@ -178,7 +178,7 @@ body_file job device start w =
     let frame = recorded_frame sound in
     at_zero job.form sound.coding frame (file_body job device start w) (raw_body job device start w)
     (records_file job device sound start 0 [] (block_lengths (block_frames job.block frame) job.frames) w
-    (λ frames w. writes_first (pad_behind job.form (frames * frame)) (asks (free_ac 1) as_done w (λ _ _. ends done))) (λ frames w. asks (free_ac 1) as_done w (λ _ _. ends done))
+    (λ frames w. writes_first (pad_after job.form (frames * frame)) (asks (free_ac 1) as_done w (λ _ _. ends done))) (λ frames w. asks (free_ac 1) as_done w (λ _ _. ends done))
     (filed_as job.form (unwrap_or job.ty device.ty)) (λ frames v. end_file job.form sound.coding (frames * frame) v))
 
 recorded_file : (job : RecordJob) (device : DeviceInfo) (w : ClientState) →
@@ -219,5 +219,5 @@ is_recorded job devices w how s s' h h' followed way =
       samples = samples;
       are_raw = refl;
       link = subst (λ (b : List ℕ). Appended s b s') (all.sent ∙ f.sends) followed.link;
-      sink = subst (λ (b : List ℕ). Appended h b h') (all.wrote ∙ f.output (sym f.finish ∙ all.finish) ∙ ap (λ (n : ℕ). front_of_recording job d.0 ++ (as_filed (recorded_sound job d.0).coding samples ++ pad_behind job.form n)) size) followed.sink;
+      sink = subst (λ (b : List ℕ). Appended h b h') (all.wrote ∙ f.output (sym f.finish ∙ all.finish) ∙ ap (λ (n : ℕ). front_of_recording job d.0 ++ (as_filed (recorded_sound job d.0).coding samples ++ pad_after job.form n)) size) followed.sink;
     }

@@ -23,7 +23,7 @@ use Rattle.af_toolkit.specs.Trace.{Trace, bad_sound, ends, sound_cut, too_long}
 use Rattle.af_tools.specs.declared.sound.FileHead.{FileHead}
 use Rattle.af_tools.specs.Limits.{most_bytes}
 use Rattle.af_tools.specs.Fill.{ConsumedCut, ConsumedFault, ConsumedHead, ConsumedWithinMost}
-use Rattle.af_tools.specs.Sounds.{behind_front, reads_front}
+use Rattle.af_tools.specs.Sounds.{after_header, reads_front}
 use Rattle.af_tools.specs.Reading.{HeadCame, TakesFront}
 
 -- a reader has taken what a source gave
@@ -70,10 +70,10 @@ module _ {form : SoundForm} {reader : HeadReader} {size : ℕ} {a b : Option (Li
         spent_is None rest is spent = cc is
         spent_is (Some x) rest is spent = let same : x ≡ rest = cc in sym same ∙ spent
 
-        fits : (n : ℕ) (says : HeadStep) (next : SoundHead → Trace) → n ≤ most_bytes → reads_front (front says n) next ≡ behind_front says next
+        fits : (n : ℕ) (says : HeadStep) (next : SoundHead → Trace) → n ≤ most_bytes → reads_front (front says n) next ≡ after_header says next
         fits n says next few =
             let test : nat_lt most_bytes n ≡ false = grind (arith, nat_tests) in
-            ap (λ (t : Bool). if t then ends too_long else behind_front says next) test
+            ap (λ (t : Bool). if t then ends too_long else after_header says next) test
 
   read_cut : IsOpen reader → IsSpent b → ConsumedCut (Some form) a b
   read_cut opens spent = record {
@@ -118,7 +118,7 @@ module _ {form : SoundForm} {reader : HeadReader} {size : ℕ} {a b : Option (Li
           refl,
           λ next.
               ap (λ (l : List ℕ). reads_front (front_of form l) next) parts
-              ∙ ap (λ (t : Bool). if t then ends too_long else behind_front (front_of form (h.bytes ++ (byte ∷ k.0))).says next) test,
+              ∙ ap (λ (t : Bool). if t then ends too_long else after_header (front_of form (h.bytes ++ (byte ∷ k.0))).says next) test,
         )
 
     pub takes_too_long : most_bytes ≤ size → TakesFront {X = FileHead} (Some form) (Err end.TooLong) a c

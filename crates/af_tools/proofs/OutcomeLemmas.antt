@@ -81,11 +81,11 @@ module _ (order : Order) where
     whole : trace ≡ sends_first_to (setup_bytes order) part
     relayed : Appended held part.output held' → IsRelayed job from v (client_after_setup order to.gives) (Some []) (Some part.from) (Some []) (Some part.to) held held'
 
-  behind_first : (job : PassJob) (from : List DeviceInfo) (v : ClientState) (links : List ToldLink) (held held' : Option (List ℕ)) → ((d : DeviceInfo) → slice_get from job.from_device ≡ Some d → IsDeviceInfo d) → IsPaced job →
+  after_first : (job : PassJob) (from : List DeviceInfo) (v : ClientState) (links : List ToldLink) (held held' : Option (List ℕ)) → ((d : DeviceInfo) → slice_get from job.from_device ≡ Some d → IsDeviceInfo d) → IsPaced job →
       (dials_to order links (λ to w. apass_trace job from to v w)).finish ≡ done → AfterFirst job from v links (dials_to order links (λ to w. apass_trace job from to v w)) held held'
   unfolding connects_by
-  behind_first job from v [] held held' stated paced is = cc
-  behind_first job from v (second ∷ rest) held held' stated paced is =
+  after_first job from v [] held held' stated paced is = cc
+  after_first job from v (second ∷ rest) held held' stated paced is =
       let w = client_after_setup order second.gives in
       let a = answered_to (setup_bytes order) (setup_answer order second.gives) w (λ to w. apass_trace job from to v w) is in
       let part = apass_trace job from a.value v w in
@@ -109,12 +109,12 @@ module _ (order : Order) where
     after : AfterFirst job from.devices (client_after_setup order from.link.gives) from.rest (dials_to order from.rest (λ to w. apass_trace job from.devices to (client_after_setup order from.link.gives) w)) held held'
     whole : relay_trace order job links ≡ sends_first_from (setup_bytes order) (sends_first_to (setup_bytes order) after.part)
 
-  behind_both : (job : PassJob) (links : List ToldLink) (held held' : Option (List ℕ)) → IsPaced job → (relay_trace order job links).finish ≡ done → AfterBoth job links held held'
+  after_both : (job : PassJob) (links : List ToldLink) (held held' : Option (List ℕ)) → IsPaced job → (relay_trace order job links).finish ≡ done → AfterBoth job links held held'
   unfolding connects_by
-  behind_both job [] held held' paced is = cc
-  behind_both job (first ∷ links) held held' paced is =
+  after_both job [] held held' paced is = cc
+  after_both job (first ∷ links) held held' paced is =
       let a = answered_from (setup_bytes order) (setup_answer order first.gives) (client_after_setup order first.gives) (λ from v. dials_to order links (λ to w. apass_trace job from to v w)) is in
-      let b = behind_first job a.value (client_after_setup order first.gives) links held held' (answered_at job.from_device (next_message (client_before_setup order first.gives)).found a.value a.good) paced (ap (λ (x : RelayTrace). x.finish) (sym a.is) ∙ is) in
+      let b = after_first job a.value (client_after_setup order first.gives) links held held' (answered_at job.from_device (next_message (client_before_setup order first.gives)).found a.value a.good) paced (ap (λ (x : RelayTrace). x.finish) (sym a.is) ∙ is) in
       record {
         from = record { link = first; rest = links; links_are = refl; devices = a.value; set = a.good };
         after = b;
@@ -126,10 +126,10 @@ module _ (order : Order) where
     server : SetUpFirst order links
     whole : one_trace order t links bytes ≡ sends_first (setup_bytes order) (task_trace t server.devices bytes (client_after_setup order server.link.gives))
 
-  behind_setup : (t : Task) (bytes : List ℕ) (links : List ToldLink) → (one_trace order t links bytes).finish ≡ done → AfterSetup t bytes links
+  after_dial_setup : (t : Task) (bytes : List ℕ) (links : List ToldLink) → (one_trace order t links bytes).finish ≡ done → AfterSetup t bytes links
   unfolding connects
-  behind_setup t bytes [] is = cc
-  behind_setup t bytes (first ∷ rest) is =
+  after_dial_setup t bytes [] is = cc
+  after_dial_setup t bytes (first ∷ rest) is =
       let a = answered_done (setup_answer order first.gives) (client_after_setup order first.gives) (λ devices w. task_trace t devices bytes w) is in
       record { server = record { link = first; rest = rest; links_are = refl; devices = a.0; set = a.1 }; whole = ap (sends_first (setup_bytes order)) a.2 }
 
@@ -145,7 +145,7 @@ module _ (order : Order) where
     ran_relayed job r paced =
         let recorded = is_whole r.recorded way in
         let played = is_whole r.played way in
-        let b = behind_both job links held held' paced recorded.finish in
+        let b = after_both job links held held' paced recorded.finish in
         let output = recorded.wrote ∙ ap (λ (x : RelayTrace). x.output) b.whole in
         record {
           from = b.from;
@@ -161,7 +161,7 @@ module _ (order : Order) where
     one_done : {server : Text} (t : Task) → JobRan (one server order t) bytes how links links' held held' back back' → OneDone t bytes how links links' held held' back back'
     one_done t r =
         let recorded = is_whole r.recorded way in
-        let b = behind_setup t bytes links recorded.finish in
+        let b = after_dial_setup t bytes links recorded.finish in
         let inner = task_trace t b.server.devices bytes (client_after_setup order b.server.link.gives) in
         let output = recorded.wrote ∙ ap (λ (x : Trace). x.output) b.whole in
         record {

@@ -45,21 +45,21 @@ blocks_some size (b ∷ bytes) some more =
     ap (λ more. take size (b ∷ bytes) ∷ more) (cut_enough (length bytes) (length (drop size (b ∷ bytes))) size (drop size (b ∷ bytes)) some (omega arith) (omega arith))
 
 -- the first block of a list whose bytes were read so far
-front_read : (size : ℕ) (block behind : List ℕ) → length block ≤ size → (length block < size → behind ≡ []) → (take size (block ++ behind) ≡ block) × (drop size (block ++ behind) ≡ behind)
-front_read size block behind fits ended = elim (cases_lt (length block) size) [
+front_read : (size : ℕ) (block later : List ℕ) → length block ≤ size → (length block < size → later ≡ []) → (take size (block ++ later) ≡ block) × (drop size (block ++ later) ≡ later)
+front_read size block later fits ended = elim (cases_lt (length block) size) [
   | inl short ↦
       let none = ended short in
-      let same : block ++ behind ≡ block = ap (λ b. block ++ b) none ∙ append-nil block in
+      let same : block ++ later ≡ block = ap (λ b. block ++ b) none ∙ append-nil block in
       (ap (take size) same ∙ take_all size block fits, ap (drop size) same ∙ drop_all size block fits ∙ sym none)
-  | inr long ↦ let full : length block ≡ size = omega arith in (take_at block behind size full, drop_at block behind size full)
+  | inr long ↦ let full : length block ≡ size = omega arith in (take_at block later size full, drop_at block later size full)
 ]
 
 -- the block that was read, and those of the rest
-pub blocks_read : (size : ℕ) (rest block behind : List ℕ) → 0 < size → 0 < length block → length block ≤ size → rest ≡ block ++ behind → (length block < size → behind ≡ []) →
-    blocks size rest ≡ block ∷ blocks size behind
-blocks_read size rest block behind some more fits is ended =
-    let len : length rest ≡ length block + length behind = ap length is ∙ length-append block behind in
-    let parts = front_read size block behind fits ended in
+pub blocks_read : (size : ℕ) (rest block later : List ℕ) → 0 < size → 0 < length block → length block ≤ size → rest ≡ block ++ later → (length block < size → later ≡ []) →
+    blocks size rest ≡ block ∷ blocks size later
+blocks_read size rest block later some more fits is ended =
+    let len : length rest ≡ length block + length later = ap length is ∙ length-append block later in
+    let parts = front_read size block later fits ended in
     blocks_some size rest some (omega arith)
     ∙ ap₂ (λ (a b : List ℕ). a ∷ blocks size b) (ap (take size) is ∙ parts.0) (ap (drop size) is ∙ parts.1)
 
@@ -99,12 +99,12 @@ module _ (coding : Option Coding) (width start frames given : ℕ) (w : ClientSt
   plays_none = refl
 
   -- the block that was read is played
-  pub plays_next : (size : ℕ) (rest block behind : List ℕ) → 0 < size → length block ≤ size → rest ≡ block ++ behind → (length block < size → behind ≡ []) → given + length block ≤ most_bytes → 0 < length block / width →
+  pub plays_next : (size : ℕ) (rest block later : List ℕ) → 0 < size → length block ≤ size → rest ≡ block ++ later → (length block < size → later ≡ []) → given + length block ≤ most_bytes → 0 < length block / width →
       plays coding width start frames given (blocks size rest) w next
-      ≡ asks (play_run false 1 (block_time start frames) (as_served coding (whole_frames width block))) as_time w (λ _ v. plays coding width start (frames + frames_in width block) (given + length block) (blocks size behind) v next)
-  plays_next size rest block behind some fits is ended within whole =
+      ≡ asks (play_run false 1 (block_time start frames) (as_served coding (whole_frames width block))) as_time w (λ _ v. plays coding width start (frames + frames_in width block) (given + length block) (blocks size later) v next)
+  plays_next size rest block later some fits is ended within whole =
       let more : 0 < length block = some_of (length block) width whole in
-      ap (λ b. plays coding width start frames given b w next) (blocks_read size rest block behind some more fits is ended) ∙ plays_block block (blocks size behind) within whole
+      ap (λ b. plays coding width start frames given b w next) (blocks_read size rest block later some more fits is ended) ∙ plays_block block (blocks size later) within whole
 
   -- fewer bytes than a frame has are left
   pub plays_over : (size : ℕ) (rest : List ℕ) → 0 < size → length rest ≤ size → given + length rest ≤ most_bytes → length rest / width ≡ 0 → plays coding width start frames given (blocks size rest) w next ≡ next frames w
@@ -114,8 +114,8 @@ module _ (coding : Option Coding) (width start frames given : ℕ) (w : ClientSt
   ]
 
   -- a block that goes beyond what is allowed
-  pub plays_beyond : (size : ℕ) (rest part behind : List ℕ) → 0 < size → rest ≡ part ++ behind → length part ≤ size → most_bytes < given + length part → given ≤ most_bytes → plays coding width start frames given (blocks size rest) w next ≡ ends too_long
-  plays_beyond size rest part behind some is fits beyond so_far =
-      let len : length rest ≡ length part + length behind = ap length is ∙ length-append part behind in
+  pub plays_beyond : (size : ℕ) (rest part later : List ℕ) → 0 < size → rest ≡ part ++ later → length part ≤ size → most_bytes < given + length part → given ≤ most_bytes → plays coding width start frames given (blocks size rest) w next ≡ ends too_long
+  plays_beyond size rest part later some is fits beyond so_far =
+      let len : length rest ≡ length part + length later = ap length is ∙ length-append part later in
       let first : length part ≤ length (take size rest) = omega (arith, length-take size rest) in
       ap (λ b. plays coding width start frames given b w next) (blocks_some size rest some (omega arith)) ∙ plays_long (take size rest) (blocks size (drop size rest)) (omega arith)

@@ -19,7 +19,7 @@ use Rattle.af_tools.specs.declared.fill.FillFault.{FillFault}
 use Rattle.af_tools.specs.declared.fill.FillFault.TheVariants as fill
 use Rattle.af_tools.specs.declared.sound.SourceSound.{SourceSound}
 use Rattle.af_tools.specs.Limits.{most_bytes}
-use Rattle.af_tools.specs.Sounds.{as_served, source_width, stated_behind, stated_part, stated_room, FitsStated}
+use Rattle.af_tools.specs.Sounds.{as_served, source_width, stated_after, stated_part, stated_room, FitsStated}
 use Rattle.af_tools.specs.Play.{block_time, blocks, frames_in, plays, plays_sound, whole_frames}
 use Rattle.af_tools.specs.Fill.{fill_end, ConsumedAbove, FillsBlock, IsFirstBlock}
 use Rattle.af_toolkit.specs.Ends.{ObservedPart, TracePart, is_outer}
@@ -41,23 +41,23 @@ pub record IsPlaying (part : TracePart ℕ) (coding : Option Coding) (width star
 
 -- the same where the next n bytes of the sound were read into a room
 pub record IsFilled (part : TracePart ℕ) (coding : Option Coding) (width start size frames given n : ℕ) (of : Option ℕ) (room : List ℕ) (left told : Option (List ℕ)) (wire : List ℕ → ClientState) (sent sent' held : Option (List ℕ)) : Type 0 where
-  pub behind : List ℕ
+  pub after : List ℕ
   pub input : List ℕ
-  pub is_left : left ≡ Some behind
+  pub is_left : left ≡ Some after
   pub is_told : told ≡ Some input
   pub full : length (take n room) ≡ n
-  pub ended : n < size → stated_part (stated_behind of n) behind ≡ []
-  pub reaches : Reaches part (plays coding width start frames given (blocks size (take n room ++ stated_part (stated_behind of n) behind)) (wire input)) sent sent' held held
+  pub ended : n < size → stated_part (stated_after of n) after ≡ []
+  pub reaches : Reaches part (plays coding width start frames given (blocks size (take n room ++ stated_part (stated_after of n) after)) (wire input)) sent sent' held held
 
-spent_none : (left' : Option (List ℕ)) (behind : List ℕ) → left' ≡ Some behind → IsSpent left' → behind ≡ []
-spent_none None behind is spent = cc is
-spent_none (Some x) behind is spent = let same : x ≡ behind = cc in sym same ∙ spent
+spent_none : (left' : Option (List ℕ)) (after : List ℕ) → left' ≡ Some after → IsSpent left' → after ≡ []
+spent_none None after is spent = cc is
+spent_none (Some x) after is spent = let same : x ≡ after = cc in sym same ∙ spent
 
 -- a part of a sound at its front
-part_front : (of : Option ℕ) (part behind : List ℕ) → FitsStated of (length part) → stated_part of (part ++ behind) ≡ part ++ stated_part (stated_behind of (length part)) behind
-part_front None part behind fits = refl
-part_front (Some m) part behind fits =
-    ap (λ (k : ℕ). take k (part ++ behind)) (let count : m ≡ length part + (m - length part) = omega arith in count) ∙ take-append-add part behind (m - length part)
+part_front : (of : Option ℕ) (part after : List ℕ) → FitsStated of (length part) → stated_part of (part ++ after) ≡ part ++ stated_part (stated_after of (length part)) after
+part_front None part after fits = refl
+part_front (Some m) part after fits =
+    ap (λ (k : ℕ). take k (part ++ after)) (let count : m ≡ length part + (m - length part) = omega arith in count) ∙ take-append-add part after (m - length part)
 
 part_none : (of : Option ℕ) → stated_part of [] ≡ []
 part_none None = refl
@@ -65,17 +65,17 @@ part_none (Some zero) = refl
 part_none (Some (suc n)) = refl
 
 -- all that is stated was read
-part_over : (of : Option ℕ) (n : ℕ) (behind : List ℕ) → of ≡ Some n → stated_part (stated_behind of n) behind ≡ []
-part_over None n behind is = cc is
-part_over (Some m) n behind is =
+part_over : (of : Option ℕ) (n : ℕ) (after : List ℕ) → of ≡ Some n → stated_part (stated_after of n) after ≡ []
+part_over None n after is = cc is
+part_over (Some m) n after is =
     let same : m ≡ n = cc in
     let none : m - n ≡ 0 = omega arith in
-    ap (λ (k : ℕ). take k behind) none
+    ap (λ (k : ℕ). take k after) none
 
 -- nothing is left after a source that is spent, or after all that was stated
-part_ended : (of : Option ℕ) (n : ℕ) (left' : Option (List ℕ)) (behind : List ℕ) → left' ≡ Some behind → IsSpent left' ⊎ (of ≡ Some n) → stated_part (stated_behind of n) behind ≡ []
-part_ended of n left' behind is (inl spent) = ap (stated_part (stated_behind of n)) (spent_none left' behind is spent) ∙ part_none (stated_behind of n)
-part_ended of n left' behind is (inr all) = part_over of n behind all
+part_ended : (of : Option ℕ) (n : ℕ) (left' : Option (List ℕ)) (after : List ℕ) → left' ≡ Some after → IsSpent left' ⊎ (of ≡ Some n) → stated_part (stated_after of n) after ≡ []
+part_ended of n left' after is (inl spent) = ap (stated_part (stated_after of n)) (spent_none left' after is spent) ∙ part_none (stated_after of n)
+part_ended of n left' after is (inr all) = part_over of n after all
 
 same_rest : (left : Option (List ℕ)) (a b : List ℕ) → left ≡ Some a → left ≡ Some b → a ≡ b
 same_rest left a b is other = cc
@@ -106,7 +106,7 @@ module _ {part : TracePart ℕ} {coding : Option Coding} {width start size frame
       let fits = part_fits.0 in
       reaches_goes part (plays coding width start frames given (blocks size (stated_part of p.rest)) (wire p.input)) (Err end.TooLong) told' wire' sent sent' sent' held held held p.reaches
       (goes_at_once _ too_long end.TooLong told' wire' sent' held (λ next. plays_beyond coding width start frames given (wire p.input) next size (stated_part of p.rest) above.bytes
-      (stated_part (stated_behind of (length above.bytes)) k.0) some (ap (stated_part of) k.2 ∙ part_front of above.bytes k.0 part_fits.1) fits (omega arith) (omega arith)) refl)
+      (stated_part (stated_after of (length above.bytes)) k.0) some (ap (stated_part of) k.2 ∙ part_front of above.bytes k.0 part_fits.1) fits (omega arith) (omega arith)) refl)
 
   -- nothing is left of the sound
   play_ended : (rest : List ℕ) → 0 < size → given ≤ most_bytes → left ≡ Some rest → stated_part of rest ≡ [] → ObservedPart part (Ok frames) told wire sent sent' held held
@@ -122,11 +122,11 @@ module _ {part : TracePart ℕ} {coding : Option Coding} {width start size frame
   play_filled {n} {room} {left'} consumed tells sized within stated ended =
       let k = consumed_known left left' p.rest (take n room) p.is_left consumed tells in
       let full = length-take-le n room (subst (λ (k : ℕ). n ≤ k) (sym sized) within) in
-      let parts : stated_part of p.rest ≡ take n room ++ stated_part (stated_behind of n) k.0 =
+      let parts : stated_part of p.rest ≡ take n room ++ stated_part (stated_after of n) k.0 =
       ap (stated_part of) k.2 ∙ part_front of (take n room) k.0 (subst (λ (k : ℕ). FitsStated of k) (sym full) stated)
-      ∙ ap (λ (m : ℕ). take n room ++ stated_part (stated_behind of m) k.0) full in
+      ∙ ap (λ (m : ℕ). take n room ++ stated_part (stated_after of m) k.0) full in
       record {
-        behind = k.0;
+        after = k.0;
         input = p.input;
         is_left = k.1;
         is_told = p.is_told;
@@ -158,7 +158,7 @@ module _ {part : TracePart ℕ} {coding : Option Coding} {width start size frame
       let within = fits.within in
       let most = fits.most in
       let short = block_short fits none in
-      let all : List ℕ = take n room ++ stated_part (stated_behind of n) f.behind in
+      let all : List ℕ = take n room ++ stated_part (stated_after of n) f.after in
       let len : length all ≡ n = ap length (ap (λ b. take n room ++ b) (f.ended short) ∙ append-nil (take n room)) ∙ f.full in
       reaches_goes part (plays coding width start frames given (blocks size all) (wire f.input)) (Ok frames) told wire sent sent' sent' held held held f.reaches
       (goes_value _ frames f.input told wire sent' held f.is_told
@@ -166,52 +166,52 @@ module _ {part : TracePart ℕ} {coding : Option Coding} {width start size frame
 
   module _ {at : ℕ} (place : at ≡ block_time start frames) (whole : 0 < n / width) where
     -- the block is played
-    asked_next : (next : ℕ → ClientState → Trace) → plays coding width start frames given (blocks size (take n room ++ stated_part (stated_behind of n) f.behind)) (wire f.input) next
-        ≡ asks (play_run false 1 at (as_served coding (take (n / width * width) room))) as_time (wire f.input) (λ _ v. plays coding width start (frames + n / width) (given + n) (blocks size (stated_part (stated_behind of n) f.behind)) v next)
+    asked_next : (next : ℕ → ClientState → Trace) → plays coding width start frames given (blocks size (take n room ++ stated_part (stated_after of n) f.after)) (wire f.input) next
+        ≡ asks (play_run false 1 at (as_served coding (take (n / width * width) room))) as_time (wire f.input) (λ _ v. plays coding width start (frames + n / width) (given + n) (blocks size (stated_part (stated_after of n) f.after)) v next)
     asked_next next =
         let within = fits.within in
         let most = fits.most in
         let full = f.full in
         let count : frames_in width (take n room) ≡ n / width = ap (λ k. k / width) full in
         let samples = ap (as_served coding) (samples_of n width room full (whole_of n width)) in
-        plays_next coding width start frames given (wire f.input) next size (take n room ++ stated_part (stated_behind of n) f.behind) (take n room) (stated_part (stated_behind of n) f.behind) fits.some (omega arith) refl (λ short. f.ended (omega arith)) (omega arith) (omega arith)
-        ∙ ap₂ (λ (t : ℕ) (b : List ℕ). asks (play_run false 1 t b) as_time (wire f.input) (λ _ v. plays coding width start (frames + frames_in width (take n room)) (given + length (take n room)) (blocks size (stated_part (stated_behind of n) f.behind)) v next)) (sym place) (sym samples)
-        ∙ ap₂ (λ (k m : ℕ). asks (play_run false 1 at (as_served coding (take (n / width * width) room))) as_time (wire f.input) (λ _ v. plays coding width start (frames + k) (given + m) (blocks size (stated_part (stated_behind of n) f.behind)) v next)) count full
+        plays_next coding width start frames given (wire f.input) next size (take n room ++ stated_part (stated_after of n) f.after) (take n room) (stated_part (stated_after of n) f.after) fits.some (omega arith) refl (λ short. f.ended (omega arith)) (omega arith) (omega arith)
+        ∙ ap₂ (λ (t : ℕ) (b : List ℕ). asks (play_run false 1 t b) as_time (wire f.input) (λ _ v. plays coding width start (frames + frames_in width (take n room)) (given + length (take n room)) (blocks size (stated_part (stated_after of n) f.after)) v next)) (sym place) (sym samples)
+        ∙ ap₂ (λ (k m : ℕ). asks (play_run false 1 at (as_served coding (take (n / width * width) room))) as_time (wire f.input) (λ _ v. plays coding width start (frames + k) (given + m) (blocks size (stated_part (stated_after of n) f.after)) v next)) count full
 
     module _ {told' : Option (List ℕ)} {wire' : List ℕ → ClientState} {sent'' : Option (List ℕ)} where
       pub play_refused : {how : ToolEnd} → ((input : List ℕ) → told ≡ Some input → ObservedPart {X = DevTime} (asks (play_run false 1 at (as_served coding (take (n / width * width) room))) as_time (wire input)) (Err how) told' wire' sent' sent'' held held) →
           ObservedPart {X = ℕ} part (Err how) told' wire' sent sent'' held held
       play_refused {how} goes =
-          reaches_goes part (plays coding width start frames given (blocks size (take n room ++ stated_part (stated_behind of n) f.behind)) (wire f.input)) (Err how) told' wire' sent sent' sent'' held held held f.reaches
+          reaches_goes part (plays coding width start frames given (blocks size (take n room ++ stated_part (stated_after of n) f.after)) (wire f.input)) (Err how) told' wire' sent sent' sent'' held held held f.reaches
           (goes_same _ _ (Err how) told' wire' sent' sent'' held held asked_next
-          (goes_stop (asks (play_run false 1 at (as_served coding (take (n / width * width) room))) as_time (wire f.input)) (λ _ v. plays coding width start (frames + n / width) (given + n) (blocks size (stated_part (stated_behind of n) f.behind)) v) how told' told' wire' wire' sent' sent'' held held (goes f.input f.is_told)))
+          (goes_stop (asks (play_run false 1 at (as_served coding (take (n / width * width) room))) as_time (wire f.input)) (λ _ v. plays coding width start (frames + n / width) (given + n) (blocks size (stated_part (stated_after of n) f.after)) v) how told' told' wire' wire' sent' sent'' held held (goes f.input f.is_told)))
 
       module _ {now : DevTime} (goes : (input : List ℕ) → told ≡ Some input → ObservedPart (asks (play_run false 1 at (as_served coding (take (n / width * width) room))) as_time (wire input)) (Ok now) told' wire' sent' sent'' held held) where
-        play_on : {given' : ℕ} {of' : Option ℕ} → given + n ≡ given' → of' ≡ stated_behind of n → IsPlaying part coding width start size (frames + n / width) given' of' left told' wire' sent sent'' held
+        play_on : {given' : ℕ} {of' : Option ℕ} → given + n ≡ given' → of' ≡ stated_after of n → IsPlaying part coding width start size (frames + n / width) given' of' left told' wire' sent sent'' held
         play_on {given'} {of'} count same =
-            let k = reaches_on part (plays coding width start frames given (blocks size (take n room ++ stated_part (stated_behind of n) f.behind)) (wire f.input)) (asks (play_run false 1 at (as_served coding (take (n / width * width) room))) as_time (wire f.input)) (λ _ v. plays coding width start (frames + n / width) (given + n) (blocks size (stated_part (stated_behind of n) f.behind)) v) now told' wire' sent sent' sent'' held held held f.reaches asked_next (goes f.input f.is_told) in
+            let k = reaches_on part (plays coding width start frames given (blocks size (take n room ++ stated_part (stated_after of n) f.after)) (wire f.input)) (asks (play_run false 1 at (as_served coding (take (n / width * width) room))) as_time (wire f.input)) (λ _ v. plays coding width start (frames + n / width) (given + n) (blocks size (stated_part (stated_after of n) f.after)) v) now told' wire' sent sent' sent'' held held held f.reaches asked_next (goes f.input f.is_told) in
             record {
-              rest = f.behind;
+              rest = f.after;
               input = k.0;
               is_left = f.is_left;
               is_told = k.1;
-              reaches = subst (λ (o : Option ℕ). Reaches part (plays coding width start (frames + n / width) given' (blocks size (stated_part o f.behind)) (wire' k.0)) sent sent'' held held) (sym same)
-                  (subst (λ (m : ℕ). Reaches part (plays coding width start (frames + n / width) m (blocks size (stated_part (stated_behind of n) f.behind)) (wire' k.0)) sent sent'' held held) count k.2);
+              reaches = subst (λ (o : Option ℕ). Reaches part (plays coding width start (frames + n / width) given' (blocks size (stated_part o f.after)) (wire' k.0)) sent sent'' held held) (sym same)
+                  (subst (λ (m : ℕ). Reaches part (plays coding width start (frames + n / width) m (blocks size (stated_part (stated_after of n) f.after)) (wire' k.0)) sent sent'' held held) count k.2);
             }
 
         -- it was the last one
         pub play_last : n < size → ObservedPart part (Ok (frames + n / width)) told' wire' sent sent'' held held
-        play_last short = play_ended (play_on refl refl) f.behind fits.some fits.most f.is_left (f.ended short)
+        play_last short = play_ended (play_on refl refl) f.after fits.some fits.most f.is_left (f.ended short)
 
         -- the next one is read
-        pub play_next : {given' allowed m : ℕ} {of' : Option ℕ} {room' : List ℕ} {left' : Option (List ℕ)} → given + n ≡ given' → of' ≡ stated_behind of n → IsFirstBlock (length room') allowed of' m room' left left' → IsSome left' → length room' ≡ size →
+        pub play_next : {given' allowed m : ℕ} {of' : Option ℕ} {room' : List ℕ} {left' : Option (List ℕ)} → given + n ≡ given' → of' ≡ stated_after of n → IsFirstBlock (length room') allowed of' m room' left left' → IsSome left' → length room' ≡ size →
             IsFilled part coding width start size (frames + n / width) given' m of' room' left' told' wire' sent sent'' held
         play_next {m} count same block tells sized =
             let next = block.next in
             play_filled (play_on count same) block.consumed tells sized (subst (λ (k : ℕ). m ≤ k) sized next.within) next.stated (λ short. next.ended (subst (λ (k : ℕ). m < k) (sym sized) short))
 
         -- the next one is not had
-        pub play_unfilled : {allowed : ℕ} {of' : Option ℕ} {room' : List ℕ} {left' : Option (List ℕ)} (fault : FillFault) → of' ≡ stated_behind of n → FillsBlock (length room') allowed of' (Err fault) room' left left' → length room' ≡ size → IsSome left' → allowed + (given + n) ≡ most_bytes →
+        pub play_unfilled : {allowed : ℕ} {of' : Option ℕ} {room' : List ℕ} {left' : Option (List ℕ)} (fault : FillFault) → of' ≡ stated_after of n → FillsBlock (length room') allowed of' (Err fault) room' left left' → length room' ≡ size → IsSome left' → allowed + (given + n) ≡ most_bytes →
             ObservedPart {X = ℕ} part (Err (fill_end fault)) told' wire' sent sent'' held held
         play_unfilled fill.ReadFault same block sized tells limit = play_stopped (play_on refl refl) end.ReadFault refl
         play_unfilled {allowed} {of'} {left'} fill.TooLong same block sized tells limit =

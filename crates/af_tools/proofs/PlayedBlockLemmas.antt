@@ -35,7 +35,7 @@ use Rattle.af_sound.specs.Fronts.{front_of}
 use Rattle.af_sound.proofs.FrontLemmas.{front, front_is_head}
 use Rattle.af_tools.specs.declared.sound.SourceSound.{SourceSound}
 use Rattle.af_tools.specs.Limits.{most_bytes}
-use Rattle.af_tools.specs.Sounds.{as_served, at_one_shape, behind_front, file_sound, raw_sound, reads_sound, source_width, stated_part, GivesSamples, IsServedAs}
+use Rattle.af_tools.specs.Sounds.{as_served, at_one_shape, after_header, file_sound, raw_sound, reads_sound, source_width, stated_part, GivesSamples, IsServedAs}
 use Rattle.af_tools.specs.Play.{aplay_trace, blocks, frames_in, play_context, played_text, played_frames, plays_on, plays, plays_sound, start_at, whole_frames}
 use Rattle.af_toolkit.specs.Ends.{ObservedTrace}
 use Rattle.af_tools.specs.Blocks.{Block}
@@ -158,9 +158,9 @@ same_number : (m n : ℕ) → (m == n) ≡ true → m ≡ n
 same_number m n is = grind (arith, nat_tests)
 
 said_sound : (form : SoundForm) (job : PlayJob) (device : DeviceInfo) (bytes : List ℕ) (next : SourceSound → List ℕ → Trace) (says : HeadStep) (size : ℕ) → front_of form bytes ≡ front says size →
-    (behind_front says (λ head. at_one_shape head device (next (file_sound device head size) (drop size bytes)))).finish ≡ done →
+    (after_header says (λ head. at_one_shape head device (next (file_sound device head size) (drop size bytes)))).finish ≡ done →
     (head : SoundHead) × (says ≡ step.Head head) × (head.rate ≡ device.rate) × (head.channels ≡ device.channels)
-    × (behind_front says (λ head. at_one_shape head device (next (file_sound device head size) (drop size bytes))) ≡ next (file_sound device head size) (drop size bytes))
+    × (after_header says (λ head. at_one_shape head device (next (file_sound device head size) (drop size bytes))) ≡ next (file_sound device head size) (drop size bytes))
 said_sound form job device bytes next (step.Head head) size is way =
     let s = shape_done (head.rate == device.rate) (head.channels == device.channels) (next (file_sound device head size) (drop size bytes)) (channel_mismatch head.channels device.channels) (mismatch head.rate device.rate) way (λ e. cc) (λ e. cc) in
     (head, refl, same_number head.rate device.rate s.0, same_number head.channels device.channels s.1, s.2)
@@ -177,7 +177,7 @@ sound_done : (form : Option SoundForm) (job : PlayJob) (device : DeviceInfo) (by
 sound_done None job device bytes next is way = (raw_sound job device, bytes, (refl, refl), tt, refl, refl)
 sound_done (Some form) job device bytes next is way =
     let f = front_of form bytes in
-    let l = long_done (nat_lt most_bytes f.size) (behind_front f.says (λ head. at_one_shape head device (next (file_sound device head f.size) (drop f.size bytes)))) way in
+    let l = long_done (nat_lt most_bytes f.size) (after_header f.says (λ head. at_one_shape head device (next (file_sound device head f.size) (drop f.size bytes)))) way in
     let s = said_sound form job device bytes next f.says f.size refl (ap (λ (c : Trace). c.finish) (sym l) ∙ way) in
     let head = s.0 in
     let known : f ≡ front (step.Head head) f.size = ap (λ (said : HeadStep). front said f.size) s.1 in

@@ -24,7 +24,7 @@ use Rattle.af_sample.specs.Channels.{IsChannelCount}
 use Rattle.af_cli.specs.Sizes.{block_frames}
 use Rattle.af_cli.proofs.FrameSizeLemmas.{frame_size, some_frames}
 use Rattle.af_tools.specs.declared.record.RecordedSound.{RecordedSound}
-use Rattle.af_tools.specs.Files.{IsFiledAs, front_of_recording, pad_behind, recorded_sound}
+use Rattle.af_tools.specs.Files.{IsFiledAs, front_of_recording, pad_after, recorded_sound}
 use Rattle.af_tools.specs.Sounds.{AreWhole}
 use Rattle.af_tools.specs.Record.{block_lengths, ends_row, greatest_of, peak, recorded_frame, records, records_all, row_below, takes_block, writes_recording}
 use Rattle.af_toolkit.proofs.PartProgressLemmas.{Reaches, goes_same, goes_value, reaches_goes, reaches_none, reaches_on}
@@ -109,8 +109,8 @@ unfolding records
 records_none job sound at before peaks w next = refl
 
 -- what follows a block with this peak
-abbrev behind_block : RecordJob → RecordedSound → (block at n before frames : ℕ) (peaks : List ℕ) (p : ℕ) → ClientState → TracePart ℕ
-behind_block job sound block at n before frames peaks p v = λ next.
+abbrev after_one_block : RecordJob → RecordedSound → (block at n before frames : ℕ) (peaks : List ℕ) (p : ℕ) → ClientState → TracePart ℕ
+after_one_block job sound block at n before frames peaks p v = λ next.
     if ends_row job (p ∷ peaks) then next (before + n) v else records job sound ((at + n) % 2 ^ 32) (before + n) (p ∷ peaks) (block_lengths block frames) v next
 
 module _ {part : TracePart ℕ} {job : RecordJob} {sound : RecordedSound} {block at frames row : ℕ} {told : Option (List ℕ)} {wire : List ℕ → ClientState} {sent sent' held held' : Option (List ℕ)}
@@ -126,12 +126,12 @@ module _ {part : TracePart ℕ} {job : RecordJob} {sound : RecordedSound} {block
 
   module _ (more : 0 < frames) {n size : ℕ} (is_least : n ≡ min frames block) (is_size : size ≡ n * recorded_frame sound) where
     next_block : (next : ℕ → ClientState → Trace) → left_to_record job sound block at r.before r.peaks frames (wire r.input) next
-        ≡ takes_block sound at size (wire r.input) (λ p v. behind_block job sound block at n r.before (frames - n) r.peaks p v next)
+        ≡ takes_block sound at size (wire r.input) (λ p v. after_one_block job sound block at n r.before (frames - n) r.peaks p v next)
     next_block next =
         ap (λ (l : List ℕ). records job sound at r.before r.peaks l (wire r.input) next) (lengths_some block frames some more)
         ∙ ap (λ (k : ℕ). records job sound at r.before r.peaks (k ∷ block_lengths block (frames - k)) (wire r.input) next) (sym is_least)
         ∙ records_some job sound at r.before n r.peaks (block_lengths block (frames - n)) (wire r.input) next
-        ∙ ap (λ (k : ℕ). takes_block sound at k (wire r.input) (λ p v. behind_block job sound block at n r.before (frames - n) r.peaks p v next)) (sym is_size)
+        ∙ ap (λ (k : ℕ). takes_block sound at k (wire r.input) (λ p v. after_one_block job sound block at n r.before (frames - n) r.peaks p v next)) (sym is_size)
 
     module _ {told' : Option (List ℕ)} {wire' : List ℕ → ClientState} {sent'' held'' : Option (List ℕ)} where
       -- the tool ended within the block
@@ -139,16 +139,16 @@ module _ {part : TracePart ℕ} {job : RecordJob} {sound : RecordedSound} {block
       record_stopped {how} goes =
           reaches_goes part (left_to_record job sound block at r.before r.peaks frames (wire r.input)) (Err how) told' wire' sent sent' sent'' held held' held'' r.reaches
           (goes_same _ _ (Err how) told' wire' sent' sent'' held' held'' next_block
-          (goes_stop (takes_block sound at size (wire r.input)) (λ p v. behind_block job sound block at n r.before (frames - n) r.peaks p v) how told' told' wire' wire' sent' sent'' held' held'' (goes r.input r.is_told)))
+          (goes_stop (takes_block sound at size (wire r.input)) (λ p v. after_one_block job sound block at n r.before (frames - n) r.peaks p v) how told' told' wire' wire' sent' sent'' held' held'' (goes r.input r.is_told)))
 
       module _ {p : ℕ} (goes : (input : List ℕ) → told ≡ Some input → ObservedPart (takes_block sound at size (wire input)) (Ok p) told' wire' sent' sent'' held' held'') {row' : ℕ} (is_row : row' ≡ (if nat_lt p job.stop_peak then row + 1 else 0)) where
         row_grown : row' ≡ row_below job.stop_peak (p ∷ r.peaks)
         row_grown = is_row ∙ ap (λ (k : ℕ). if nat_lt p job.stop_peak then k else 0) (ap (λ (k : ℕ). k + 1) r.is_row ∙ (let e : row_below job.stop_peak r.peaks + 1 ≡ suc (row_below job.stop_peak r.peaks) = omega arith in e))
 
-        reached : (input : List ℕ) × (told' ≡ Some input) × Reaches part (behind_block job sound block at n r.before (frames - n) r.peaks p (wire' input)) sent sent'' held held''
+        reached : (input : List ℕ) × (told' ≡ Some input) × Reaches part (after_one_block job sound block at n r.before (frames - n) r.peaks p (wire' input)) sent sent'' held held''
         reached =
             reaches_on part (left_to_record job sound block at r.before r.peaks frames (wire r.input)) (takes_block sound at size (wire r.input))
-            (λ p v. behind_block job sound block at n r.before (frames - n) r.peaks p v) p told' wire' sent sent' sent'' held held' held'' r.reaches next_block (goes r.input r.is_told)
+            (λ p v. after_one_block job sound block at n r.before (frames - n) r.peaks p v) p told' wire' sent sent' sent'' held held' held'' r.reaches next_block (goes r.input r.is_told)
 
         -- the block ends a row of quiet ones
         pub record_quiet : job.stop_blocks ≤ row' → {all : ℕ} → all ≡ job.frames - (frames - n) → ObservedPart part (Ok all) told' wire' sent sent'' held held''
@@ -157,7 +157,7 @@ module _ {part : TracePart ℕ} {job : RecordJob} {sound : RecordedSound} {block
             let sum : r.before + n ≡ all = omega (arith, r.is_before) in
             let ends : ends_row job (p ∷ r.peaks) ≡ true = ap (nat_le job.stop_blocks) (sym row_grown) ∙ (let t : nat_le job.stop_blocks row' ≡ true = grind (arith, nat_tests) in t) in
             subst (λ (k : ℕ). ObservedPart part (Ok k) told' wire' sent sent'' held held'') sum
-            (reaches_goes part (behind_block job sound block at n r.before (frames - n) r.peaks p (wire' k.0)) (Ok (r.before + n)) told' wire' sent sent'' sent'' held held'' held'' k.2
+            (reaches_goes part (after_one_block job sound block at n r.before (frames - n) r.peaks p (wire' k.0)) (Ok (r.before + n)) told' wire' sent sent'' sent'' held held'' held'' k.2
             (goes_value _ (r.before + n) k.0 told' wire' sent'' held'' k.1
             (λ next. ap (λ (b : Bool). if b then next (r.before + n) (wire' k.0) else records job sound ((at + n) % 2 ^ 32) (r.before + n) (p ∷ r.peaks) (block_lengths block (frames - n)) (wire' k.0) next) ends)))
 
@@ -248,7 +248,7 @@ front_part job device w = λ next. writes_first (front_of_recording job device) 
 
 -- the blocks are recorded, and the byte after them is written
 abbrev pub pad_part : RecordJob → DeviceInfo → (frames : ℕ) → ClientState → TracePart (Unit {0})
-pad_part job device frames w = λ next. writes_first (pad_behind job.form (frames * recorded_frame (recorded_sound job device))) (next tt w)
+pad_part job device frames w = λ next. writes_first (pad_after job.form (frames * recorded_frame (recorded_sound job device))) (next tt w)
 
 abbrev pub sound_part : RecordJob → DeviceInfo → (start : ℕ) → ClientState → TracePart (Unit {0})
 sound_part job device start w = λ next. records_all job (recorded_sound job device) start w (λ frames w. pad_part job device frames w next)

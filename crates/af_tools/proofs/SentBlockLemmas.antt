@@ -9,7 +9,7 @@ use Rattle.std.specs.declared.option.Option.TheVariants.{None, Some}
 use Rattle.std.specs.Prelude.{min, true, false}
 use Rattle.af_cli.proofs.FrameSizeLemmas.{by_size, IsFrameSize, frame_size}
 use Rattle.af_tools.specs.Play.{blocks, cut_blocks, frames_in, whole_frames}
-use Rattle.af_tools.specs.Blocks.{sent_behind, Block, sent_blocks}
+use Rattle.af_tools.specs.Blocks.{sent_after, Block, sent_blocks}
 use Rattle.std.proofs.Math.Nat.{div-div-eq-div-mul, mul_assoc, mul_comm}
 use Rattle.af_sample.specs.declared.sample_type.SampleType.{SampleType}
 use Rattle.af_sample.specs.declared.sample_type.SampleType.TheVariants as ty
@@ -28,12 +28,12 @@ abbrev pub head : ℕ → ℕ → List ℕ → Block
 head width before block = record { before = before; bytes = whole_frames width block }
 
 pub sent_first : (width before : ℕ) (block : List ℕ) (more : List (List ℕ)) → 0 < length block / width →
-    sent_behind width before (block ∷ more) ≡ head width before block ∷ sent_behind width (before + frames_in width block) more
+    sent_after width before (block ∷ more) ≡ head width before block ∷ sent_after width (before + frames_in width block) more
 sent_first width before block more some =
     let whole : nat_lt 0 (length block / width) ≡ true = grind (arith, nat_tests) in
     rw whole refl
 
-pub sent_last : (width before : ℕ) (block : List ℕ) (more : List (List ℕ)) → length block / width ≡ 0 → sent_behind width before (block ∷ more) ≡ []
+pub sent_last : (width before : ℕ) (block : List ℕ) (more : List (List ℕ)) → length block / width ≡ 0 → sent_after width before (block ∷ more) ≡ []
 sent_last width before block more none =
     let whole : nat_lt 0 (length block / width) ≡ false = grind (arith, nat_tests) in
     rw whole refl
@@ -63,13 +63,13 @@ record IsInLaterBlock (width frames len first rest i : ℕ) : Type 0 where
   low : i - frames < rest / width
   within : frames ≤ i
 
-is_behind : (w : ℕ) → IsFrameSize w → (frames len first rest i : ℕ) → 0 < frames → first ≡ min (frames * w) len → rest ≡ len - frames * w → i < len / w → first / w ≤ i → IsInLaterBlock w frames len first rest i
-is_behind w small frames len first rest i some =
+is_after : (w : ℕ) → IsFrameSize w → (frames len first rest i : ℕ) → 0 < frames → first ≡ min (frames * w) len → rest ≡ len - frames * w → i < len / w → first / w ≤ i → IsInLaterBlock w frames len first rest i
+is_after w small frames len first rest i some =
     by_size (λ w. first ≡ min (frames * w) len → rest ≡ len - frames * w → i < len / w → first / w ≤ i → IsInLaterBlock w frames len first rest i)
-    (λ f r low behind. record { full = omega arith; count = omega arith; fewer = omega arith; low = omega arith; within = omega arith })
-    (λ f r low behind. record { full = omega arith; count = omega arith; fewer = omega arith; low = omega arith; within = omega arith })
-    (λ f r low behind. record { full = omega arith; count = omega arith; fewer = omega arith; low = omega arith; within = omega arith })
-    (λ f r low behind. record { full = omega arith; count = omega arith; fewer = omega arith; low = omega arith; within = omega arith }) w small
+    (λ f r low after. record { full = omega arith; count = omega arith; fewer = omega arith; low = omega arith; within = omega arith })
+    (λ f r low after. record { full = omega arith; count = omega arith; fewer = omega arith; low = omega arith; within = omega arith })
+    (λ f r low after. record { full = omega arith; count = omega arith; fewer = omega arith; low = omega arith; within = omega arith })
+    (λ f r low after. record { full = omega arith; count = omega arith; fewer = omega arith; low = omega arith; within = omega arith }) w small
 
 frame_place : (w : ℕ) → IsFrameSize w → (n i : ℕ) → n ≤ i → n * w + (i - n) * w ≡ i * w
 frame_place w small n i low = by_size (λ w. n * w + (i - n) * w ≡ i * w) (omega arith) (omega arith) (omega arith) (omega arith) w small
@@ -80,8 +80,8 @@ drop_twice (suc n) m [] = drop-nil m ∙ sym (drop-nil (suc n + m))
 drop_twice (suc n) m (x ∷ xs) = drop_twice n m xs ∙ ap (λ k. drop k (x ∷ xs)) (let e : suc (n + m) ≡ suc n + m = omega arith in e)
 
 -- a frame after the first frames
-frame_behind : (w : ℕ) → IsFrameSize w → (bytes : List ℕ) (n i : ℕ) → n ≤ i → frame w (drop (n * w) bytes) (i - n) ≡ frame w bytes i
-frame_behind w small bytes n i low =
+frame_after : (w : ℕ) → IsFrameSize w → (bytes : List ℕ) (n i : ℕ) → n ≤ i → frame w (drop (n * w) bytes) (i - n) ≡ frame w bytes i
+frame_after w small bytes n i low =
     let count : (k : ℕ) → k + w - k ≡ w = λ k. omega arith in
     ap (λ k. take k (drop ((i - n) * w) (drop (n * w) bytes))) (count ((i - n) * w))
     ∙ ap (take w) (drop_twice (n * w) ((i - n) * w) bytes ∙ ap (λ k. drop k bytes) (frame_place w small n i low))
@@ -129,7 +129,7 @@ is_first w small before size i bytes more low = record {
 }
 
 pub find_block : (w : ℕ) → IsFrameSize w → (frames n before : ℕ) (bytes : List ℕ) (i : ℕ) → 0 < frames → length bytes ≤ n → i < length bytes / w →
-    IsAt w bytes before i (sent_behind w before (cut_blocks n (frames * w) bytes))
+    IsAt w bytes before i (sent_after w before (cut_blocks n (frames * w) bytes))
 find_block w small frames zero before bytes i some fits low = absurd (no_frames w small (length bytes) i fits low)
 find_block w small frames (suc n) before [] i some fits low = absurd (no_frames w small 0 i (omega arith) low)
 find_block w small frames (suc n) before (b ∷ bs) i some fits low =
@@ -139,8 +139,8 @@ find_block w small frames (suc n) before (b ∷ bs) i some fits low =
     let rest : List ℕ = drop size bytes in
     elim (cases_lt i (length first / w)) [
       | inl here ↦ subst (λ (s : List Block). IsAt w bytes before i s) (sym (sent_first w before first (cut_blocks n size rest) (omega arith))) (is_first w small before size i bytes _ here)
-      | inr behind ↦
-          let e = is_behind w small frames (length bytes) (length first) (length rest) i some (length-take size bytes) (length-drop size bytes) low behind in
+      | inr after ↦
+          let e = is_after w small frames (length bytes) (length first) (length rest) i some (length-take size bytes) (length-drop size bytes) low after in
           let count = e.count in
           let fewer = e.fewer in
           let r = find_block w small frames n (before + length first / w) rest (i - frames) some (omega arith) e.low in
@@ -153,7 +153,7 @@ find_block w small frames (suc n) before (b ∷ bs) i some fits low =
             get = r.get;
             place = omega arith;
             within = r.within;
-            same = r.same ∙ frame_behind w small bytes frames i e.within;
+            same = r.same ∙ frame_after w small bytes frames i e.within;
           })
     ]
 
@@ -169,11 +169,11 @@ first_or_later first more from zero b is low later = let same : first.before ≡
 first_or_later first more from (suc k) b is low later = let far : from ≤ b.before = later k is in omega arith
 
 -- no block is before the first
-first_before : (width before : ℕ) (blocks : List (List ℕ)) (k : ℕ) (b : Block) → slice_get (sent_behind width before blocks) k ≡ Some b → before ≤ b.before
+first_before : (width before : ℕ) (blocks : List (List ℕ)) (k : ℕ) (b : Block) → slice_get (sent_after width before blocks) k ≡ Some b → before ≤ b.before
 first_before width before [] k b is = absurd (no_block b is)
 first_before width before (block ∷ more) k b is = elim (cases_lt 0 (length block / width)) [
   | inl some ↦
-      first_or_later (head width before block) (sent_behind width (before + frames_in width block) more) (before + frames_in width block) k b
+      first_or_later (head width before block) (sent_after width (before + frames_in width block) more) (before + frames_in width block) k b
       (subst (λ (s : List Block). slice_get s k ≡ Some b) (sent_first width before block more some) is) (omega arith)
       (λ n is. first_before width (before + frames_in width block) more n b is)
   | inr none ↦ absurd (no_block b (subst (λ (s : List Block). slice_get s k ≡ Some b) (sent_last width before block more (omega arith)) is))
@@ -189,7 +189,7 @@ first_or_same first more (suc k) zero b b' is is' left right later = absurd (rig
 first_or_same first more (suc k) (suc k') b b' is is' left right later = ap suc (later k k' is is')
 
 -- a frame of the first block is before those of the others
-apart : (w : ℕ) → IsFrameSize w → (before : ℕ) (block : List ℕ) (more : List (List ℕ)) (c d : Block) (m l n : ℕ) → head w before block ≡ c → slice_get (sent_behind w (before + frames_in w block) more) n ≡ Some d →
+apart : (w : ℕ) → IsFrameSize w → (before : ℕ) (block : List ℕ) (more : List (List ℕ)) (c d : Block) (m l n : ℕ) → head w before block ≡ c → slice_get (sent_after w (before + frames_in w block) more) n ≡ Some d →
     m < length c.bytes / w → c.before + m ≡ d.before + l → ⊥
 apart w small before block more c d m l n is at low same =
     let from : before ≡ c.before = ap (λ (x : Block). x.before) is in
@@ -198,12 +198,12 @@ apart w small before block more c d m l n is at low same =
     omega arith
 
 -- two blocks with the same frame are one
-pub one_block : (w : ℕ) → IsFrameSize w → (before : ℕ) (blocks : List (List ℕ)) (k k' : ℕ) (b b' : Block) (j j' : ℕ) → slice_get (sent_behind w before blocks) k ≡ Some b → slice_get (sent_behind w before blocks) k' ≡ Some b' →
+pub one_block : (w : ℕ) → IsFrameSize w → (before : ℕ) (blocks : List (List ℕ)) (k k' : ℕ) (b b' : Block) (j j' : ℕ) → slice_get (sent_after w before blocks) k ≡ Some b → slice_get (sent_after w before blocks) k' ≡ Some b' →
     j < length b.bytes / w → j' < length b'.bytes / w → b.before + j ≡ b'.before + j' → k ≡ k'
 one_block w small before [] k k' b b' j j' is is' low low' same = absurd (no_block b is)
 one_block w small before (block ∷ more) k k' b b' j j' is is' low low' same = elim (cases_lt 0 (length block / w)) [
   | inl some ↦
-      first_or_same (head w before block) (sent_behind w (before + frames_in w block) more) k k' b b'
+      first_or_same (head w before block) (sent_after w (before + frames_in w block) more) k k' b b'
       (subst (λ (s : List Block). slice_get s k ≡ Some b) (sent_first w before block more some) is)
       (subst (λ (s : List Block). slice_get s k' ≡ Some b') (sent_first w before block more some) is')
       (λ n is at. apart w small before block more b b' j j' n is at low same)
@@ -425,12 +425,12 @@ none_served c w small frames before bytes some none = elim (cases_lt 0 (length b
   | inr no_more ↦ ap (sent_served c w before) (blocks_empty (frames * w) bytes (omega arith))
 ]
 
-none_sent : (w : ℕ) → IsFrameSize w → (frames before : ℕ) (bytes : List ℕ) → 0 < frames → length bytes / w ≡ 0 → sent_behind w before (blocks (frames * w) bytes) ≡ []
+none_sent : (w : ℕ) → IsFrameSize w → (frames before : ℕ) (bytes : List ℕ) → 0 < frames → length bytes / w ≡ 0 → sent_after w before (blocks (frames * w) bytes) ≡ []
 none_sent w small frames before bytes some none = elim (cases_lt 0 (length bytes)) [
   | inl more ↦
-      ap (sent_behind w before) (blocks_some (frames * w) bytes (some_size w small frames some) more)
+      ap (sent_after w before) (blocks_some (frames * w) bytes (some_size w small frames some) more)
       ∙ sent_last w before (take (frames * w) bytes) _ (none_first w small frames (length bytes) _ (length-take (frames * w) bytes) none)
-  | inr no_more ↦ ap (sent_behind w before) (blocks_empty (frames * w) bytes (omega arith))
+  | inr no_more ↦ ap (sent_after w before) (blocks_empty (frames * w) bytes (omega arith))
 ]
 
 module _ (c : Option Coding) (from to : ℕ) (small : IsFrameSize from) (small' : IsFrameSize to) (v : Converts c from to) where
@@ -439,7 +439,7 @@ module _ (c : Option Coding) (from to : ℕ) (small : IsFrameSize from) (small' 
   whole_served xs = sym (v.takes (length xs / from) xs) ∙ ap (λ (k : ℕ). take (k * to) (as_served c xs)) (sym (v.frames xs))
 
   same_blocks : (fuel frames before : ℕ) (bytes : List ℕ) → 0 < frames → length bytes ≤ fuel →
-      sent_served c from before (blocks (frames * from) bytes) ≡ sent_behind to before (blocks (frames * to) (as_served c bytes))
+      sent_served c from before (blocks (frames * from) bytes) ≡ sent_after to before (blocks (frames * to) (as_served c bytes))
   same_blocks zero frames before bytes some few =
       let none : length bytes / from ≡ 0 = none_of from small (length bytes) few in
       none_served c from small frames before bytes some none ∙ sym (none_sent to small' frames before (as_served c bytes) some (v.frames bytes ∙ none))
@@ -460,10 +460,10 @@ module _ (c : Option Coding) (from to : ℕ) (small : IsFrameSize from) (small' 
         ap (sent_served c from before) (blocks_some size bytes sized more)
         ∙ served_first c from before first (blocks size rest) full
         ∙ ap (λ (l : List Block). here ∷ l) (same_blocks fuel frames (before + frames_in from first) rest some fewer)
-        ∙ ap₂ (λ (b : List ℕ) (k : ℕ). (let block : Block = record { before = before; bytes = b } in block) ∷ sent_behind to (before + k) (blocks size' (as_served c rest))) (whole_served first) (sym counted)
+        ∙ ap₂ (λ (b : List ℕ) (k : ℕ). (let block : Block = record { before = before; bytes = b } in block) ∷ sent_after to (before + k) (blocks size' (as_served c rest))) (whole_served first) (sym counted)
         ∙ sym (sent_first to before (as_served c first) (blocks size' (as_served c rest)) (omega arith))
-        ∙ ap₂ (λ (b r : List ℕ). sent_behind to before (b ∷ blocks size' r)) (sym (v.takes frames bytes)) (sym (v.drops frames bytes))
-        ∙ ap (sent_behind to before) (sym (blocks_some size' (as_served c bytes) (some_size to small' frames some) more'))
+        ∙ ap₂ (λ (b r : List ℕ). sent_after to before (b ∷ blocks size' r)) (sym (v.takes frames bytes)) (sym (v.drops frames bytes))
+        ∙ ap (sent_after to before) (sym (blocks_some size' (as_served c bytes) (some_size to small' frames some) more'))
     | inr none ↦
         none_served c from small frames before bytes some (omega arith)
         ∙ sym (none_sent to small' frames before (as_served c bytes) some (let count = v.frames bytes in omega arith))

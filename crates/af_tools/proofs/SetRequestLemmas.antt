@@ -23,8 +23,8 @@ pub goes_nowhere : (b : Bool) (asked : Asked) (input : List ℕ) (left : Option 
 goes_nowhere b asked input left wire s h is told = subst (λ (x : Bool). ObservedPart (asks_where x asked (wire input)) (Ok tt) left wire s s h h) (sym is) (goes_value (asks_where false asked (wire input)) tt input left wire s h told (λ next. refl))
 
 -- what is left of setting after the hook, and after the controls that were set
-abbrev pub behind_hook : SetJob → DeviceInfo → ClientState → TracePart ControlsReport
-behind_hook job device w = asks_controls_report device.line job.device w
+abbrev pub after_hooks : SetJob → DeviceInfo → ClientState → TracePart ControlsReport
+after_hooks job device w = asks_controls_report device.line job.device w
 
-abbrev pub behind_set : SetJob → DeviceInfo → ClientState → TracePart ControlsReport
-behind_set job device w = λ next. hooks job.device job.hook_off w (λ _ w. behind_hook job device w next)
+abbrev pub after_set : SetJob → DeviceInfo → ClientState → TracePart ControlsReport
+after_set job device w = λ next. hooks job.device job.hook_off w (λ _ w. after_hooks job device w next)

@@ -38,8 +38,8 @@ fit false c x y is next = absurd cc
 module _ (form : SoundForm) (job : PlayJob) (device : DeviceInfo) (bytes : List ℕ) (head : SoundHead) (size : ℕ) (left : Option (List ℕ))
     (is_form : Some form ≡ job.form) (said : front_of form bytes ≡ front (step.Head head) size) (few : size ≤ most_bytes) where
   -- the header was read
-  behind_head : (next : SourceSound → List ℕ → Trace) → reads_sound job.form job device bytes next ≡ at_one_shape head device (next (file_sound device head size) (drop size bytes))
-  behind_head next =
+  after_head : (next : SourceSound → List ℕ → Trace) → reads_sound job.form job device bytes next ≡ at_one_shape head device (next (file_sound device head size) (drop size bytes))
+  after_head next =
       let test : nat_lt most_bytes size ≡ false = grind (arith, nat_tests) in
       ap (λ (f : Option SoundForm). reads_sound f job device bytes next) (sym is_form)
       ∙ ap (λ (f : Front). reads_front f (λ head. at_one_shape head device (next (file_sound device head f.size) (drop f.size bytes)))) said
@@ -48,14 +48,14 @@ module _ (form : SoundForm) (job : PlayJob) (device : DeviceInfo) (bytes : List 
   pub sound_unfit : (how : ToolEnd) → (let r : Result (Unit {0}) ToolEnd = Err how in r ≡ ends_shape head device) → SoundCame job device bytes (Err how) left
   sound_unfit how is =
       let u = unfit (head.rate == device.rate) (head.channels == device.channels) how (channel_mismatch head.channels device.channels) (mismatch head.rate device.rate) is in
-      inr (u.0, u.1, λ next. behind_head next ∙ u.2 (next (file_sound device head size) (drop size bytes)))
+      inr (u.0, u.1, λ next. after_head next ∙ u.2 (next (file_sound device head size) (drop size bytes)))
 
   pub sound_fits : (let r : Result (Unit {0}) ToolEnd = Ok tt in r ≡ ends_shape head device) → left ≡ Some (drop size bytes) → SoundCame job device bytes (Ok (file_sound device head size)) left
   sound_fits is is_left = (
     drop size bytes,
     is_left,
     λ next.
-        behind_head next
+        after_head next
         ∙ fit (head.rate == device.rate) (head.channels == device.channels) (channel_mismatch head.channels device.channels) (mismatch head.rate device.rate) is (next (file_sound device head size) (drop size bytes)),
   )
 

@@ -13,7 +13,7 @@ use Rattle.af_sound.specs.declared.head.SoundForm.{SoundForm}
 use Rattle.af_io.specs.Flow.{IsSpent}
 use Rattle.af_tools.specs.Limits.{most_bytes}
 use Rattle.af_tools.specs.Fill.{fill_end, left_before, ConsumedBeyondMost, ConsumedHead, ConsumedSound, ConsumedUpTo, ConsumedWithinMost, FillsBlock, HeadIs, IsFirstBlock, TakesSound}
-use Rattle.af_tools.specs.Sounds.{stated_behind, FitsStated}
+use Rattle.af_tools.specs.Sounds.{stated_after, FitsStated}
 use Rattle.af_io.proofs.ConsumedLemmas.{consumed_none, consumed_on}
 use Rattle.af_tools.proofs.EndLemmas.{err_of, of_err, never}
 use Rattle.af_tools.proofs.PlayBlockLemmas.{ConsumedAll}
@@ -106,26 +106,26 @@ pub fits_begin : (of : Option ℕ) → FitsStated of 0
 fits_begin None = tt
 fits_begin (Some n) = omega arith
 
-pub rest_begin : (of : Option ℕ) → of ≡ stated_behind of 0
+pub rest_begin : (of : Option ℕ) → of ≡ stated_after of 0
 rest_begin None = refl
 rest_begin (Some n) = ap (λ (k : ℕ). Some k) (let same : n ≡ n - 0 = omega arith in same)
 
 -- one more block fits what is stated, if it fits what is left of that
-pub fits_on : (of left : Option ℕ) (given n : ℕ) → left ≡ stated_behind of given → FitsStated of given → FitsStated left n → FitsStated of (given + n)
+pub fits_on : (of left : Option ℕ) (given n : ℕ) → left ≡ stated_after of given → FitsStated of given → FitsStated left n → FitsStated of (given + n)
 fits_on None left given n is fits more = tt
 fits_on (Some m) None given n is fits more = cc is
 fits_on (Some m) (Some k) given n is fits more =
     let same : k ≡ m - given = cc in
     omega arith
 
-pub rest_on : (of left after : Option ℕ) (given n : ℕ) → left ≡ stated_behind of given → after ≡ stated_behind left n → after ≡ stated_behind of (given + n)
-rest_on of left after given n is then = then ∙ ap (λ (l : Option ℕ). stated_behind l n) is ∙ twice of where
-  twice : (of : Option ℕ) → stated_behind (stated_behind of given) n ≡ stated_behind of (given + n)
+pub rest_on : (of left after : Option ℕ) (given n : ℕ) → left ≡ stated_after of given → after ≡ stated_after left n → after ≡ stated_after of (given + n)
+rest_on of left after given n is then = then ∙ ap (λ (l : Option ℕ). stated_after l n) is ∙ twice of where
+  twice : (of : Option ℕ) → stated_after (stated_after of given) n ≡ stated_after of (given + n)
   twice None = refl
   twice (Some m) = ap (λ (k : ℕ). Some k) (let same : m - given - n ≡ m - (given + n) = omega arith in same)
 
 -- all that was stated was given
-pub stated_all : (of left : Option ℕ) (given : ℕ) {n : ℕ} (c : Option (List ℕ)) → left ≡ stated_behind of given → FitsStated of given → IsSpent c ⊎ (left ≡ Some n) → IsSpent c ⊎ (of ≡ Some (given + n))
+pub stated_all : (of left : Option ℕ) (given : ℕ) {n : ℕ} (c : Option (List ℕ)) → left ≡ stated_after of given → FitsStated of given → IsSpent c ⊎ (left ≡ Some n) → IsSpent c ⊎ (of ≡ Some (given + n))
 stated_all of left given c is fits (inl spent) = inl spent
 stated_all None left given {n} c is fits (inr all) = absurd (let bad : (let o : Option ℕ = None in o) ≡ Some n = sym is ∙ all in cc)
 stated_all (Some m) left given {n} c is fits (inr all) =

@@ -1,21 +1,19 @@
 -- Blocks of a source's frames, and of the frames as a server takes them, have room.
-use Rattle.std.proofs.Common.{◌≡◌, ℕ, ◌+◌, ◌-◌, ◌*◌, ◌/◌, ◌%◌, ◌<◌, ◌≤◌, sym, subst, arith, inl, inr}
+use Rattle.std.proofs.Common.{◌≡◌, ℕ, ◌+◌, ◌-◌, ◌*◌, ◌/◌, ◌<◌, ◌≤◌, sym, subst, arith}
 use Rattle.std.proofs.lemmas.Nat.{mul-le}
 use Rattle.std.specs.declared.option.Option.{Option}
 use Rattle.std.specs.declared.option.Option.TheVariants.{None, Some}
 use Rattle.af_sample.specs.declared.sample_type.SampleType.{SampleType}
 use Rattle.af_sample.specs.Channels.{IsChannelCount}
 use Rattle.af_sample.specs.SampleTypes.{width_of}
-use Rattle.af_sample.proofs.FrameLemmas.{one_or_two}
 use Rattle.af_sound.specs.declared.head.Coding.{Coding}
 use Rattle.af_sound.specs.declared.head.Coding.TheVariants as coding
-use Rattle.af_sound.specs.Served.{served_length}
 use Rattle.af_sound.specs.Written.{sample_size}
 use Rattle.af_cli.specs.Sizes.{greatest_block}
 use Rattle.af_cli.proofs.FrameSizeLemmas.{some_bytes}
 use Rattle.af_tools.specs.Limits.{most_bytes}
 use Rattle.af_tools.specs.Play.{IsBlock}
-use Rattle.af_tools.specs.Sounds.{served_room, served_type, source_sample, source_width, AreWhole, IsServedAs}
+use Rattle.af_tools.specs.Sounds.{served_type, source_sample, source_width, IsServedAs}
 use Rattle.af_tools.proofs.SentBlockLemmas.{some_size, source_size}
 use Rattle.af_tools.proofs.SourceCountLemmas.{short_of}
 
@@ -65,43 +63,3 @@ size_fits c to channels frames width is b same =
     let all : frames * (source_sample c to * channels) ≤ frames * (width_of to * channels) = mul-le frames (source_sample c to * channels) frames (width_of to * channels) (omega arith) frame in
     let most = b.fits in
     subst (λ (n : ℕ). frames * n ≤ greatest_block) (sym same) (omega arith)
-
--- the same as a server takes it
-twice_as_many : (channels frames n : ℕ) → IsChannelCount channels → n ≤ frames * (1 * channels) → frames * (2 * channels) ≤ greatest_block → n * 2 ≤ greatest_block
-twice_as_many channels frames n count few most = elim (one_or_two channels count) [
-  | inl one ↦
-      let here : n ≤ frames * (1 * 1) = subst (λ (k : ℕ). n ≤ frames * (1 * k)) one few in
-      let bound : frames * (2 * 1) ≤ greatest_block = subst (λ (k : ℕ). frames * (2 * k) ≤ greatest_block) one most in
-      omega arith
-  | inr two ↦
-      let here : n ≤ frames * (1 * 2) = subst (λ (k : ℕ). n ≤ frames * (1 * k)) two few in
-      let bound : frames * (2 * 2) ≤ greatest_block = subst (λ (k : ℕ). frames * (2 * k) ≤ greatest_block) two most in
-      omega arith
-]
-
-room_for : (c : Coding) (channels frames n : ℕ) → IsBlock (served_type c) channels frames → n ≤ frames * (sample_size c * channels) → n ≤ greatest_block → served_length c n ≤ greatest_block
-room_for coding.U8 channels frames n b few most = twice_as_many channels frames n b.count few b.fits
-room_for c channels frames n b few most = most
-
-pub served_fits : (c : Option Coding) (to : SampleType) (channels frames width n : ℕ) → IsServedAs c to → IsBlock to channels frames → width ≡ source_width c to channels → n ≤ frames * width → served_room c n ≤ greatest_block
-served_fits None to channels frames width n is b same few = omega arith
-served_fits (Some c) to channels frames width n is b same few =
-    let most = size_fits (Some c) to channels frames width is b same in
-    let low : n ≤ greatest_block = omega arith in
-    let within : n ≤ frames * (sample_size c * channels) = subst (λ (k : ℕ). n ≤ frames * k) same few in
-    room_for c channels frames n (subst (λ (t : SampleType). IsBlock t channels frames) is b) within low
-
--- whole frames are whole samples
-even_frames : (channels n : ℕ) → IsChannelCount channels → n / (2 * channels) * (2 * channels) % 2 ≡ 0
-even_frames channels n count = elim (one_or_two channels count) [
-  | inl one ↦ subst (λ (k : ℕ). n / (2 * k) * (2 * k) % 2 ≡ 0) (sym one) (omega arith)
-  | inr two ↦ subst (λ (k : ℕ). n / (2 * k) * (2 * k) % 2 ≡ 0) (sym two) (omega arith)
-]
-
-are_whole : (c : Option Coding) (to : SampleType) (channels n : ℕ) → IsChannelCount channels → AreWhole c (n / source_width c to channels * source_width c to channels)
-are_whole (Some coding.Lin16Big) to channels n count = even_frames channels n count
-are_whole (Some coding.Lin16Little) to channels n count = even_frames channels n count
-are_whole c to channels n count = tt
-
-pub whole_samples : (c : Option Coding) (to : SampleType) (channels width n : ℕ) → IsChannelCount channels → width ≡ source_width c to channels → AreWhole c (n / width * width)
-whole_samples c to channels width n count same = subst (λ (k : ℕ). AreWhole c (n / k * k)) (sym same) (are_whole c to channels n count)

@@ -47,7 +47,7 @@ context_made left sent old new same (Err how) goes = tt
 pub read_late : {L S : Type 0} (left : L → Option (List ℕ)) (job : PlayJob) (device : DeviceInfo) (conn : ConnState L) → slice_get conn.devices job.device ≡ Some device → (ty : SampleType) (channels : ℕ) → ty ≡ unwrap_or job.ty device.ty → channels ≡ device.channels →
     {source middle source' : S} → middle ≡ source → (source' ≡ middle) ⊎ ((input : List ℕ) → left conn.link ≡ Some input → GivesReply (play_context job ty channels) (client_of conn input)) →
     (source' ≡ source) ⊎ ((input : List ℕ) → left conn.link ≡ Some input → GivesContext job conn.devices (client_of conn input))
-read_late left job device conn there ty channels same_ty same_channels before behind = elim behind [
+read_late left job device conn there ty channels same_ty same_channels before later = elim later [
   | inl same ↦ inl (same ∙ before)
   | inr replied ↦ inr (λ input told. (
     device,

@@ -15,16 +15,16 @@ pub record Block : Type 0 where
   pub bytes : List ℕ
 
 -- the blocks with a whole frame, after n frames, up to the first without one
-abbrev pub sent_behind : ℕ → ℕ → List (List ℕ) → List Block
-sent_behind width before [] = []
-sent_behind width before (block ∷ more) =
+abbrev pub sent_after : ℕ → ℕ → List (List ℕ) → List Block
+sent_after width before [] = []
+sent_after width before (block ∷ more) =
     if nat_lt 0 (frames_in width block)
-    then (record { before = before; bytes = whole_frames width block }) ∷ sent_behind width (before + frames_in width block) more
+    then (record { before = before; bytes = whole_frames width block }) ∷ sent_after width (before + frames_in width block) more
     else []
 
 -- the blocks of a source's bytes that are sent, each of n frames of so many channels, except the last
 abbrev pub sent_blocks : SampleType → (channels frames : ℕ) → List ℕ → List Block
-sent_blocks ty channels frames bytes = sent_behind (frame_bytes ty channels) 0 (blocks (frames * frame_bytes ty channels) bytes)
+sent_blocks ty channels frames bytes = sent_after (frame_bytes ty channels) 0 (blocks (frames * frame_bytes ty channels) bytes)
 
 -- the samples of bytes, converted and under a gain
 abbrev pub gained_samples : SampleType → ℤ → List ℕ → List ℤ

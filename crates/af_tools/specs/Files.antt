@@ -73,15 +73,15 @@ abbrev pub front_of_recording : RecordJob → DeviceInfo → List ℕ
 front_of_recording job device = front_in job.form job device
 
 -- and after its n bytes: a byte that makes the sound of a WAVE file even
-abbrev pub pad_behind : Option SoundForm → ℕ → List ℕ
-pad_behind (Some Wave) size = if size % 2 == 1 then 0 ∷ [] else []
-pad_behind (Some Au) size = []
-pad_behind None size = []
+abbrev pub pad_after : Option SoundForm → ℕ → List ℕ
+pad_after (Some Wave) size = if size % 2 == 1 then 0 ∷ [] else []
+pad_after (Some Au) size = []
+pad_after None size = []
 
 -- the recording of some samples: a sound file of them, or raw
 abbrev pub recording_of : RecordJob → DeviceInfo → List ℕ → List ℕ
 recording_of job device samples =
-    front_of_recording job device ++ (as_filed (recorded_sound job device).coding samples ++ pad_behind job.form (length samples))
+    front_of_recording job device ++ (as_filed (recorded_sound job device).coding samples ++ pad_after job.form (length samples))
 
 -- a job of the same samples that writes them raw
 abbrev pub as_raw : RecordJob → DeviceInfo → RecordJob

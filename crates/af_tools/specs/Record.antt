@@ -11,7 +11,7 @@ use Rattle.af_cli.specs.declared.job.RecordJob.{RecordJob}
 use Rattle.af_cli.specs.Sizes.{block_frames}
 use Rattle.af_toolkit.specs.Trace.{Trace, ClientState, asks, begins, done, ends, with_job_device, writes_first}
 use Rattle.af_tools.specs.declared.record.RecordedSound.{RecordedSound}
-use Rattle.af_tools.specs.Files.{as_filed, front_of_recording, pad_behind, recorded_sound}
+use Rattle.af_tools.specs.Files.{as_filed, front_of_recording, pad_after, recorded_sound}
 
 -- how many frames each block has: so many, and the last one what is left of all
 unfoldable pub block_lengths : ℕ → ℕ → List ℕ
@@ -69,7 +69,7 @@ writes_recording job device start w next =
     let sound = recorded_sound job device in
     writes_first (front_of_recording job device) (
     records_all job sound start w (λ frames w.
-    writes_first (pad_behind job.form (frames * recorded_frame sound)) (next w)))
+    writes_first (pad_after job.form (frames * recorded_frame sound)) (next w)))
 
 -- a context is made and the device's time asked for, all is recorded and written from the stated start or else from that time on,
 -- and the context is freed

@@ -97,14 +97,14 @@ at_one_shape head device next =
     else ends (mismatch head.rate device.rate)
 
 -- what follows the front of a file: a fault ends the tool, and so does the end of the source
-abbrev pub behind_front : HeadStep → (SoundHead → Trace) → Trace
-behind_front (step.Head head) next = next head
-behind_front (step.Bad fault) next = ends (bad_sound fault)
-behind_front step.More next = ends sound_cut
+abbrev pub after_header : HeadStep → (SoundHead → Trace) → Trace
+after_header (step.Head head) next = next head
+after_header (step.Bad fault) next = ends (bad_sound fault)
+after_header step.More next = ends sound_cut
 
 -- the front of a file is read, from at most as many bytes as aplay takes
 abbrev pub reads_front : Front → (SoundHead → Trace) → Trace
-reads_front front next = if nat_lt most_bytes front.size then ends too_long else behind_front front.says next
+reads_front front next = if nat_lt most_bytes front.size then ends too_long else after_header front.says next
 
 -- what follows gets the samples of the source, and the bytes after a header
 abbrev pub reads_sound : Option SoundForm → PlayJob → DeviceInfo → List ℕ → (SourceSound → List ℕ → Trace) → Trace
@@ -118,9 +118,9 @@ abbrev pub FitsStated : Option ℕ → ℕ → Type 0
 FitsStated (Some left) count = count ≤ left
 FitsStated None count = ⊤
 
-abbrev pub stated_behind : Option ℕ → ℕ → Option ℕ
-stated_behind (Some left) count = Some (left - count)
-stated_behind None count = None
+abbrev pub stated_after : Option ℕ → ℕ → Option ℕ
+stated_after (Some left) count = Some (left - count)
+stated_after None count = None
 
 -- how many bytes of a block there can be
 abbrev pub stated_room : Option ℕ → ℕ → ℕ

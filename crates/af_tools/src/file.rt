@@ -4,7 +4,7 @@ ghost use Rattle.std.specs.declared.option.Option.TheVariants.{Some};
 ghost use Rattle.af_io.specs.Observed.{CountsFault};
 ghost use Rattle.af_sound.specs.Written.{IsWritableHead};
 ghost use Rattle.af_request.specs.Replies.{IsDeviceInfo};
-ghost use Rattle.af_tools.specs.Files.{as_filed, coding_in, file_head, front_of_recording, pad_behind, recorded_sound, recorded_type, stated_length, IsFiledAs};
+ghost use Rattle.af_tools.specs.Files.{as_filed, coding_in, file_head, front_of_recording, pad_after, recorded_sound, recorded_type, stated_length, IsFiledAs};
 ghost use Rattle.af_toolkit.specs.Ends.{Writes};
 ghost use Rattle.af_tools.specs.Sounds.{AreWhole};
 
@@ -115,7 +115,7 @@ pub fn file_samples(coding: Option<Coding>, samples: &mut [u8])
 
 /// Writes the byte that makes the sound of a WAVE file even, after so many bytes of it.
 pub fn write_pad<K: Sink>(sink: &mut K, form: Option<SoundForm>, size: u64) -> Result<(), ToolEnd>
-    ensures written { Writes K.held (pad_behind form size) result sink.old sink.new }
+    ensures written { Writes K.held (pad_after form size) result sink.old sink.new }
     ensures fault { CountsFault (result ≡ Err ToolEnd.SinkFault) (K.faults sink.old) (K.faults sink.new) }
 {
     match form {

@@ -4,7 +4,7 @@ ghost use Rattle.std.specs.declared.option.Option.TheVariants.{Some};
 ghost use Rattle.af_io.specs.Observed.{CountsFault, Consumed};
 ghost use Rattle.af_io.specs.Flow.{IsSpent};
 ghost use Rattle.af_tools.specs.Fill.{fill_end, ConsumedAbove, ConsumedUpTo, FillsBlock};
-ghost use Rattle.af_tools.specs.Sounds.{stated_behind, FitsStated};
+ghost use Rattle.af_tools.specs.Sounds.{stated_after, FitsStated};
 
 use af_io::{Got, Source};
 use af_toolkit::ToolEnd;
@@ -30,9 +30,9 @@ impl From<FillFault> for ToolEnd {
 }
 
 // How many bytes of a sound are left after `count` more.
-pub fn left_behind(left: Option<u32>, count: usize) -> Option<u32>
+pub fn still_left(left: Option<u32>, count: usize) -> Option<u32>
     requires { FitsStated left count }
-    ensures { result ≡ stated_behind left count }
+    ensures { result ≡ stated_after left count }
 {
     match left {
         Some(left) => Some(left - count as u32),

@@ -16,14 +16,14 @@ ghost use Rattle.af_tools.specs.Fill.{left_before, ConsumedUpTo, FillsBlock, IsE
 ghost use Rattle.af_tools.specs.Reading.{ObservedPartReading};
 ghost use Rattle.af_cli.specs.Sizes.{greatest_block};
 
-use crate::fill::{FillFault, fill_stated, left_behind};
+use crate::fill::{FillFault, fill_stated, still_left};
 use crate::sound::SourceSound;
 use af_cli::GREATEST_BLOCK;
 use af_io::{Link, Source};
 use af_lib::Conn;
 use af_sound::{Coding, to_server};
 use af_time::DevTime;
-use af_toolkit::{CONTEXT, ToolEnd, time_behind};
+use af_toolkit::{CONTEXT, ToolEnd, time_after_frames};
 
 /// How many bytes a source may give, with the header of a file.
 pub const MOST_BYTES: u64 = 1 << 40;
@@ -205,11 +205,11 @@ pub fn play_blocks<L: Link + Drop, S: Source>(
         if count == 0 {
             return Ok(frames);
         }
-        let at = time_behind(start, frames);
+        let at = time_after_frames(start, frames);
         play_block(conn, sound.coding, at, &block[..count * width], &mut served)?;
         frames += count as u64;
         given += filled as u64;
-        left = left_behind(left, filled);
+        left = still_left(left, filled);
         if filled < size {
             return Ok(frames);
         }

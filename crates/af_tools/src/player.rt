@@ -28,7 +28,7 @@ use af_request::DeviceInfo;
 use af_sample::{Gain, SampleType};
 use af_time::DevTime;
 use af_toolkit::{
-    ToolContext, ToolEnd, device_time, device_with, finish, make_context, time_behind,
+    ToolContext, ToolEnd, device_time, device_with, finish, make_context, time_after_frames,
 };
 
 // How many frames were played, and from when on.
@@ -44,7 +44,7 @@ fn start_of(job: &PlayJob, now: DevTime, rate: u32) -> DevTime
 {
     match job.time {
         Some(time) => DevTime(time),
-        None => time_behind(now, u64::from(rate) * u64::from(job.lead) / 1000),
+        None => time_after_frames(now, u64::from(rate) * u64::from(job.lead) / 1000),
     }
 }
 

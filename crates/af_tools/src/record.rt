@@ -53,7 +53,7 @@ pub fn peak(ty: SampleType, block: &[u8]) -> u32
 }
 
 // How many quiet blocks there are in a row after one with this peak.
-fn row_behind(row: u32, peak: u32, limit: u32) -> u32
+fn row_after(row: u32, peak: u32, limit: u32) -> u32
     requires { row + 1 < 2 ^ 32 }
     ensures { result ≡ if nat_lt peak limit then row + 1 else 0 }
 {
@@ -119,7 +119,7 @@ pub fn record_blocks<L: Link + Drop, K: Sink>(
         let peak = record_block(conn, sink, sound, at, &mut room[..size])?;
         at = at.after(count);
         left -= count;
-        row = row_behind(row, peak, job.stop_peak);
+        row = row_after(row, peak, job.stop_peak);
         if row >= job.stop_blocks {
             return Ok(job.frames - left);
         }

@@ -124,9 +124,9 @@ pub(crate) fn line_numbered(text: &[u8], wanted: u32) -> (Option<&[u8]>, Stated)
         if rest.is_empty() {
             return (None, stated);
         }
-        let (line, behind) = next_line(rest);
+        let (line, after) = next_line(rest);
         stated.add(line);
-        rest = behind;
+        rest = after;
     }
     if rest.is_empty() {
         return (None, stated);

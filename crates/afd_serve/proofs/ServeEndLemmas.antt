@@ -18,7 +18,7 @@ use Rattle.afd_serve.specs.Serving.{start_entries}
 use Rattle.afd_serve.specs.Starting.{IsReadEnd, IsReadFrom, StartedUntil}
 use Rattle.afd_serve.specs.Rounds.{ServedUntil}
 use Rattle.afd_serve.specs.Ends.{EndsWell, FailedAt, IsFaultyConfig, IsTold, ServerRan, StartedInPart, Unheard, last_entry}
-use Rattle.afd_serve.proofs.ServeRoundLemmas.{served_behind}
+use Rattle.afd_serve.proofs.ServeRoundLemmas.{served_after}
 
 -- A good configuration is read
 
@@ -87,5 +87,5 @@ module _ (words : List (List ℕ)) (left left' : Option (List ℕ)) (job : Serve
     told = is_told;
     waits = s.asked;
     count = s.count;
-    served = served_behind settings.config (start_entries job.address settings) (last_entry ended) s.asked log log1 log2 lifecycle lifecycle1 lifecycle2 quiet appended s.served;
+    served = served_after settings.config (start_entries job.address settings) (last_entry ended) s.asked log log1 log2 lifecycle lifecycle1 lifecycle2 quiet appended s.served;
   }

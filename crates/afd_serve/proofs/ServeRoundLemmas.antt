@@ -177,9 +177,9 @@ module _ (config : List DeviceSpec) where
       runs_end kept n most end.WaitsSpent log log1 log1 lifecycle lifecycle1 lifecycle1 r refl (r.count ∙ all) (stays_same log1) (appended_none lifecycle1)
 
 -- the same after a start
-pub served_behind : (config : List DeviceSpec) (front : List Lifecycle) (last : State → List Lifecycle) (waits : List WaitMade) (log log1 log2 : Option Log) (lifecycle lifecycle1 lifecycle2 : Option (List Lifecycle)) →
+pub served_after : (config : List DeviceSpec) (front : List Lifecycle) (last : State → List Lifecycle) (waits : List WaitMade) (log log1 log2 : Option Log) (lifecycle lifecycle1 lifecycle2 : Option (List Lifecycle)) →
     Unchanged log log1 → Appended lifecycle front lifecycle1 → Served config [] last waits log1 log2 lifecycle1 lifecycle2 → Served config front last waits log log2 lifecycle lifecycle2
-served_behind config front last waits log log1 log2 lifecycle lifecycle1 lifecycle2 quiet appended s = record {
+served_after config front last waits log log1 log2 lifecycle lifecycle1 lifecycle2 quiet appended s = record {
   added = s.added;
   appended = stays_appended log log1 log2 s.added quiet s.appended;
   end = s.end;

@@ -49,10 +49,10 @@ module _ (settings : Settings) (lifecycle lifecycle1 : Option (List Lifecycle)) 
   -- one device more
   pub attached_more : (spec : DeviceSpec) (kind : ToldKind) (lifecycle2 : Option (List Lifecycle)) → slice_get settings.config n ≡ Some spec → slice_get settings.kinds n ≡ Some kind →
       Appended lifecycle1 (noted.Attached n spec kind ∷ []) lifecycle2 → Appended lifecycle (take (n + 1) (all_attached settings)) lifecycle2
-  attached_more spec kind lifecycle2 at behind entry =
+  attached_more spec kind lifecycle2 at after entry =
       let from_none : 0 + n ≡ n = omega arith in
       let one_more : suc n ≡ n + 1 = omega arith in
-      let this : slice_get (all_attached settings) n ≡ Some (noted.Attached n spec kind) = attached_at 0 n settings.config settings.kinds spec kind at behind ∙ ap (λ d. Some (noted.Attached d spec kind)) from_none in
+      let this : slice_get (all_attached settings) n ≡ Some (noted.Attached n spec kind) = attached_at 0 n settings.config settings.kinds spec kind at after ∙ ap (λ d. Some (noted.Attached d spec kind)) from_none in
       subst (λ m. Appended lifecycle (take m (all_attached settings)) lifecycle2) one_more
       (subst (λ l. Appended lifecycle l lifecycle2) (sym (take_next (all_attached settings) n (noted.Attached n spec kind) this))
       (appended_on lifecycle lifecycle1 lifecycle2 (take n (all_attached settings)) (noted.Attached n spec kind ∷ []) below entry))

@@ -128,7 +128,7 @@ fn a_recording_is_named_by_its_form(rt: HostRuntime) -> Result<(), Fail> {
 }
 
 #[test]
-fn values_stand_behind_a_sign_or_a_blank(rt: HostRuntime) -> Result<(), Fail> {
+fn values_stand_after_a_sign_or_a_blank(rt: HostRuntime) -> Result<(), Fail> {
     let job = PlayJob {
         device: 0,
         form: None,

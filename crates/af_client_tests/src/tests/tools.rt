@@ -136,7 +136,7 @@ static CASES: [(&str, Failing<'static>, Outcome<'static>); 6] = [
         },
     ),
     (
-        "the second read of the source fails, behind two bytes",
+        "the second read of the source fails, after two bytes",
         Failing {
             source: &[1],
             ..NOTHING

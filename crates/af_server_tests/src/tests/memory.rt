@@ -61,7 +61,7 @@ fn a_source_and_a_sink_fail_in_mid_stream(rt: HostRuntime) {
     let mut source = MemSource::new(&[1, 2, 3, 4, 5], 2, &[1]);
     let answers: [(Got, &[u8]); 2] = [(Got::Bytes(2), &[1, 2]), (Got::Failed, &[])];
     read_source(&rt, &mut source, &answers);
-    same_bytes(&rt, "behind a failed read", source.left(), &[3, 4, 5]);
+    same_bytes(&rt, "after a failed read", source.left(), &[3, 4, 5]);
     let answers: [(Got, &[u8]); 3] = [
         (Got::Bytes(2), &[3, 4]),
         (Got::Bytes(1), &[5]),

@@ -6,11 +6,11 @@ use std::process::Abort;
 
 // Each text is this line, and this text after it.
 fn assert_lines(rt: &impl Abort, cases: &[(&[u8], &[u8], &[u8])]) {
-    for (text, line, behind) in cases {
+    for (text, line, after) in cases {
         if !text.is_empty() {
             let (found, rest) = next_line(text);
             assert_bytes(rt, "a line", found, line);
-            assert_bytes(rt, "the text behind it", rest, behind);
+            assert_bytes(rt, "the text after it", rest, after);
         }
     }
 }
@@ -32,7 +32,7 @@ type Pair = (&'static [u8], &'static [u8]);
 // skipped.
 fn assert_words(rt: &impl Abort, cases: &[(&[u8], Pair, Pair, &[u8], bool)]) {
     for (line, next, two, one, passed) in cases {
-        assert_pair(rt, "a word and the line behind it", next_word(line), *next);
+        assert_pair(rt, "a word and the line after it", next_word(line), *next);
         assert_pair(rt, "two words", two_words(line), *two);
         assert_bytes(rt, "one word", one_word(line).unwrap_or(b""), one);
         assert_number(

@@ -2,7 +2,7 @@ use Rattle.std.proofs.Common.{◌≡◌, ◌≤◌, ◌<◌, ◌+◌, ℕ, List,
 use Rattle.std.proofs.Math.Nat.{le_refl}
 use Rattle.std.proofs.lemmas.List.{get_or_default, length-set}
 use Rattle.af_backend.specs.declared.source.Source.{Source}
-use Rattle.af_backend.specs.Backends.{BackendState, behind_at}
+use Rattle.af_backend.specs.Backends.{BackendState, backend_at}
 use Rattle.af_backend.specs.Rounds.{NoneDue, SourcesRead, IsDue, due_of, some_source_after, source_in}
 use Rattle.af_backend.specs.Asked.{DevicesAsked, IsAsked}
 use Rattle.af_backend.proofs.RoundLemmas.{Came, came, finds_it, asks_it, passes_it, none_read, none_asked}

@@ -39,7 +39,7 @@ loop-number-preserved g c =
 
 pub returns-clause-simulates : goal.returns-clause-simulates
 returns-clause-simulates g c =
-    rest_quiet _ _ (length c.args.slots.now - c.loop-number.number) c.loop-number.number _ _ (λ k from. c.loop-number.invariant.wants.behind k (omega (arith, from))) c.loop-number.invariant.simulates
+    rest_quiet _ _ (length c.args.slots.now - c.loop-number.number) c.loop-number.number _ _ (λ k from. c.loop-number.invariant.wants.after k (omega (arith, from))) c.loop-number.invariant.simulates
 
 pub returns-clause-kept : goal.returns-clause-kept
 returns-clause-kept g c = simulates_keep _ _ (returns-clause-simulates g c) c.requires.kept c.loop-number.invariant.kept

@@ -14,9 +14,9 @@ returns-clause-frames c = λ s h.
     let fit = frames_fit r.context.ty ch r.frames (subst (λ n. IsChannelCount n) c.channels.ensures.value c.channels.ensures.count) c.requires.fits in
     let size = r.frames * frame_bytes r.context.ty ch in
     let own : c.from.result ≡ ch = c.from.ensures ∙ c.channels.ensures.value in
-    let head = c.split_at_mut-behind.result.0.now in
-    let front : length head ≡ 16 = c.split_at_mut-behind.ensures.front_len in
-    let rest = drop (r.frames * c.from.result * c.width.result) c.split_at_mut-behind.result.1.now in
+    let head = c.split_at_mut-after.result.0.now in
+    let front : length head ≡ 16 = c.split_at_mut-after.ensures.front_len in
+    let rest = drop (r.frames * c.from.result * c.width.result) c.split_at_mut-after.result.1.now in
     let whole : r.frames * c.from.result * c.width.result ≡ size =
     ap (λ n. r.frames * n * c.width.result) own ∙ ap (λ w. r.frames * ch * w) c.width.ensures ∙ fit.bytes in
     let bytes : length c.record.new.bytes ≡ size = (let same : length c.record.new.bytes ≡ r.frames * c.from.result * c.width.result = search rules in same) ∙ whole in

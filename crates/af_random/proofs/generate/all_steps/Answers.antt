@@ -16,8 +16,8 @@ loop-turn-preserved c =
       same =
           turn_less c.loop-turn.steps.items c.push.new.self.items _ _ c.loop-turn.generator c.draw-y.new.generator c.loop-turn.time.0 c.after-time.result.0 c.in_ok-step.step
           c.in_ok-push.ensures.items turns
-          (words_drawn c.in_ok-step.step c.draw-x.result c.draw-y.result c.loop-turn.generator c.draw-x.new.generator c.loop-turn.time.0 c.in_ok-step.ensures.value c.draw-x.ensures.value c.draw-y.ensures.value c.draw-x.ensures.behind)
-          (c.draw-y.ensures.behind ∙ ap generator_after c.draw-x.ensures.behind)
+          (words_drawn c.in_ok-step.step c.draw-x.result c.draw-y.result c.loop-turn.generator c.draw-x.new.generator c.loop-turn.time.0 c.in_ok-step.ensures.value c.draw-x.ensures.value c.draw-y.ensures.value c.draw-x.ensures.after)
+          (c.draw-y.ensures.after ∙ ap generator_after c.draw-x.ensures.after)
           (c.after-time.ensures ∙ ap (λ n. (c.loop-turn.time.0 + n) % 2 ^ 32) c.frames_ticked.ensures)
           ∙ c.loop-turn.invariant.same;
       fit = fit_more c.loop-turn.steps.items c.push.new.self.items c.in_ok-step.step c.in_ok-push.ensures.items c.loop-turn.invariant.fit c.in_ok-step.ensures.fits;

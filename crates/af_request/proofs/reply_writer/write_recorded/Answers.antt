@@ -15,5 +15,5 @@ returns-clause-bytes c =
     let first : take 8 c.put_head-at.new.out ≡ head c.args.order 1 opcodes.record c.args.sequence (2 + words_for n) = search rules in
     let second : take 12 c.put-at.new.out ≡ take 8 c.put_head-at.new.out ++ u32_bytes c.args.order c.args.time.0 = search rules in
     let third : take 16 c.put.new.out ≡ take 12 c.put-at.new.out ++ u32_bytes c.args.order n = search rules in
-    let behind : take c.put_zeros.result c.put_zeros.new.out ≡ samples ++ replicate (4 * words_for n - n) 0 = search rules in
-    around_samples c.args.order c.put.new.out c.put_zeros.new.out samples opcodes.record c.args.sequence c.args.time.0 n c.put_zeros.result size (third ∙ ap (λ l. l ++ u32_bytes c.args.order n) (second ∙ ap (λ l. l ++ u32_bytes c.args.order c.args.time.0) first)) behind count
+    let after : take c.put_zeros.result c.put_zeros.new.out ≡ samples ++ replicate (4 * words_for n - n) 0 = search rules in
+    around_samples c.args.order c.put.new.out c.put_zeros.new.out samples opcodes.record c.args.sequence c.args.time.0 n c.put_zeros.result size (third ∙ ap (λ l. l ++ u32_bytes c.args.order n) (second ∙ ap (λ l. l ++ u32_bytes c.args.order c.args.time.0) first)) after count

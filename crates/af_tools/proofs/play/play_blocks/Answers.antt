@@ -68,7 +68,7 @@ pub returns-in_err-play_block-clause-goes : goal.returns-in_err-play_block-claus
 returns-in_err-play_block-clause-goes g c input bytes held told is tells =
     let i = c.loop-block.invariant in
     let same : c.from_residual.result ≡ Err c.in_err-play_block.field-0.0 = search rules in
-    rw same (play_refused (i.playing input bytes held told is tells) i.block_fits c.time_behind-at.ensures (omega arith) (λ j t. c.in_err-play_block.ensures.goes j held t))
+    rw same (play_refused (i.playing input bytes held told is tells) i.block_fits c.time_after_frames-at.ensures (omega arith) (λ j t. c.in_err-play_block.ensures.goes j held t))
 
 pub returns-in_err-play_block-clause-takes : goal.returns-in_err-play_block-clause-takes
 returns-in_err-play_block-clause-takes g c =
@@ -80,7 +80,7 @@ pub returns-then-filled-size-clause-goes : goal.returns-then-filled-size-clause-
 returns-then-filled-size-clause-goes g c input bytes held told is tells =
     let i = c.loop-block.invariant in
     let short = c.if-filled-size.true in
-    play_last (i.playing input bytes held told is tells) i.block_fits c.time_behind-at.ensures (omega arith) (λ j t. c.in_ok-play_block.ensures.goes j held t) (omega arith)
+    play_last (i.playing input bytes held told is tells) i.block_fits c.time_after_frames-at.ensures (omega arith) (λ j t. c.in_ok-play_block.ensures.goes j held t) (omega arith)
 
 pub returns-then-filled-size-clause-takes : goal.returns-then-filled-size-clause-takes
 returns-then-filled-size-clause-takes g c =
@@ -96,7 +96,7 @@ returns-in_err-filled-clause-goes g c input bytes held told is tells =
     let low = c.requires.sound.1 in
     let permitted = i.permitted in
     let same : c.from_residual-in_err-filled.result ≡ Err (fill_end fault) = search rules in
-    rw same (play_unfilled (i.playing input bytes held told is (told_unfilled fault e.fills tells)) i.block_fits c.time_behind-at.ensures (omega arith) (λ j t. c.in_ok-play_block.ensures.goes j held t) fault c.left_behind-left.ensures e.fills (e.room ∙ i.block) tells (omega arith))
+    rw same (play_unfilled (i.playing input bytes held told is (told_unfilled fault e.fills tells)) i.block_fits c.time_after_frames-at.ensures (omega arith) (λ j t. c.in_ok-play_block.ensures.goes j held t) fault c.still_left-left.ensures e.fills (e.room ∙ i.block) tells (omega arith))
 
 pub returns-in_err-filled-clause-takes : goal.returns-in_err-filled-clause-takes
 returns-in_err-filled-clause-takes g c =
@@ -134,10 +134,10 @@ loop-block-preserved g c =
       ended = λ short. next.ended (omega arith);
       few = omega arith;
       fits = fits_on sound.length c.loop-block.left c.loop-block.given n i.rest i.fits i.stated;
-      rest = rest_on sound.length c.loop-block.left c.left_behind-left.result c.loop-block.given n i.rest c.left_behind-left.ensures;
+      rest = rest_on sound.length c.loop-block.left c.still_left-left.result c.loop-block.given n i.rest c.still_left-left.ensures;
       given = given_on i.given had next.within;
       block_fits = block_fits sound.coding (c.loop-block.given + n) c.requires.block c.width-width.ensures c.requires.sound.1 (omega arith) (omega arith);
       playing = λ input bytes held told is tells.
           let before = consumed_told (g.S.Source.left c.loop-block.source) (g.S.Source.left c.fill_stated.new.source) (take c.in_ok-filled.filled c.fill_stated.new.block) had.consumed tells in
-          play_next (i.playing input bytes held told is before) i.block_fits c.time_behind-at.ensures (omega arith) (λ j t. c.in_ok-play_block.ensures.goes j held t) (omega arith) c.left_behind-left.ensures had tells filled;
+          play_next (i.playing input bytes held told is before) i.block_fits c.time_after_frames-at.ensures (omega arith) (λ j t. c.in_ok-play_block.ensures.goes j held t) (omega arith) c.still_left-left.ensures had tells filled;
     }

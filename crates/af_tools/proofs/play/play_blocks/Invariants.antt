@@ -5,7 +5,7 @@ use Rattle.af_io.specs.Flow.{IsSpent}
 use Rattle.af_toolkit.specs.Ends.{client_of}
 use Rattle.af_tools.specs.Fill.{left_before}
 use Rattle.af_tools.specs.Play.{plays_sound}
-use Rattle.af_tools.specs.Sounds.{stated_behind, FitsStated}
+use Rattle.af_tools.specs.Sounds.{stated_after, FitsStated}
 use Rattle.af_tools.proofs.PlayBlockLemmas.{ConsumedAll}
 use Rattle.af_tools.proofs.PlayStepLemmas.{IsFilled}
 use Rattle.af_tools.proofs.SourceFrameLemmas.{BlockFits}
@@ -27,7 +27,7 @@ invariant-loop-block g l = record {
   ended : l.filled < l.size → IsSpent (g.S.Source.left l.source) ⊎ (l.left ≡ Some l.filled);
   few : l.frames ≤ l.given;
   fits : FitsStated l.sound.length l.given;
-  rest : l.left ≡ stated_behind l.sound.length l.given;
+  rest : l.left ≡ stated_after l.sound.length l.given;
   given : ConsumedAll (l.given + l.filled) (left_before (take l.first l.fn.room) (g.S.Source.left l.initial.source)) (g.S.Source.left l.source);
   block_fits : BlockFits l.filled l.size l.width (l.sound.head + l.given);
   playing : (input bytes : List ℕ) (held : Option (List ℕ)) → g.L.Link.left l.initial.conn.link ≡ Some input → g.S.Source.left l.initial.source ≡ Some bytes → IsSome (g.S.Source.left l.source) →

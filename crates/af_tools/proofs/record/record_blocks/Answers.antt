@@ -36,7 +36,7 @@ returns-then-row-job-clause-goes g c input told =
     let i = c.loop-left.invariant in
     let fits : c.min-count.result * c.frame_bytes-frame.result ≤ length c.loop-left.room = search rules in
     let size = length-take-le _ c.loop-left.room fits ∙ ap (λ (w : ℕ). c.min-count.result * w) c.frame_bytes-frame.ensures in
-    record_quiet (i.recording input told) i.some (omega arith) c.min-count.ensures size c.in_ok-peak.ensures.goes c.row_behind-row.ensures c.if-row-job.true refl
+    record_quiet (i.recording input told) i.some (omega arith) c.min-count.ensures size c.in_ok-peak.ensures.goes c.row_after-row.ensures c.if-row-job.true refl
 
 pub loop-left-preserved : goal.loop-left-preserved
 loop-left-preserved g c =
@@ -53,7 +53,7 @@ loop-left-preserved g c =
       some = i.some;
       going = c.if-row-job.false;
       left = omega (arith, i.left);
-      recording = λ input told. record_on (i.recording input told) i.some (omega arith) c.min-count.ensures size e.goes c.row_behind-row.ensures c.if-row-job.false c.after-at.ensures;
+      recording = λ input told. record_on (i.recording input told) i.some (omega arith) c.min-count.ensures size e.goes c.row_after-row.ensures c.if-row-job.false c.after-at.ensures;
     }
 
 pub returns-clause-goes : goal.returns-clause-goes

@@ -3,7 +3,7 @@ use Rattle.std.specs.Prelude.{Ok, Err}
 use Rattle.af_toolkit.specs.Ends.{client_of, ObservedPart}
 use Rattle.af_toolkit.specs.Trace.{writes_first}
 use Rattle.af_tools.specs.declared.record.RecordedSound.{RecordedSound}
-use Rattle.af_tools.specs.Files.{pad_behind, recorded_sound, front_of_recording}
+use Rattle.af_tools.specs.Files.{pad_after, recorded_sound, front_of_recording}
 use Rattle.af_tools.specs.Record.{recorded_frame, records_all}
 use Rattle.af_tools.proofs.RecordBlockLemmas.{front_on, front_stop, sound_on, sound_stop}
 use Rattle.af_toolkit.proofs.WritingLemmas.{goes_writing}
@@ -43,5 +43,5 @@ returns-clause-goes g c input told =
     (λ i t. sound_on job device c.args.start.0 (client_of c.args.conn.now i) _ _ frames c.write_pad.result
     (subst (λ (x : RecordedSound). ObservedPart (records_all job x c.args.start.0 (client_of c.args.conn.now i)) (Ok frames) (g.L.Link.left c.record_blocks.new.conn.link) (client_of c.record_blocks.new.conn) (g.L.Link.sent c.args.conn.now.link) (g.L.Link.sent c.record_blocks.new.conn.link) (g.K.Sink.held c.write_front.new.sink) (g.K.Sink.held c.record_blocks.new.sink)) sound
     (c.in_ok-frames.ensures.goes i t))
-    (λ i' t'. subst (λ (n : ℕ). ObservedPart {X = Unit {0}} (λ next. writes_first (pad_behind job.form n) (next tt (client_of c.record_blocks.new.conn i'))) c.write_pad.result (g.L.Link.left c.record_blocks.new.conn.link) (client_of c.record_blocks.new.conn) (g.L.Link.sent c.record_blocks.new.conn.link) (g.L.Link.sent c.record_blocks.new.conn.link) (g.K.Sink.held c.record_blocks.new.sink) (g.K.Sink.held c.write_pad.new.sink)) size
-    (goes_writing g.K.Sink.held (pad_behind job.form (c.from.result * c.frame_bytes.result)) c.write_pad.result c.record_blocks.new.sink c.write_pad.new.sink i' (g.L.Link.left c.record_blocks.new.conn.link) (client_of c.record_blocks.new.conn) _ t' c.write_pad.ensures.written)))
+    (λ i' t'. subst (λ (n : ℕ). ObservedPart {X = Unit {0}} (λ next. writes_first (pad_after job.form n) (next tt (client_of c.record_blocks.new.conn i'))) c.write_pad.result (g.L.Link.left c.record_blocks.new.conn.link) (client_of c.record_blocks.new.conn) (g.L.Link.sent c.record_blocks.new.conn.link) (g.L.Link.sent c.record_blocks.new.conn.link) (g.K.Sink.held c.record_blocks.new.sink) (g.K.Sink.held c.write_pad.new.sink)) size
+    (goes_writing g.K.Sink.held (pad_after job.form (c.from.result * c.frame_bytes.result)) c.write_pad.result c.record_blocks.new.sink c.write_pad.new.sink i' (g.L.Link.left c.record_blocks.new.conn.link) (client_of c.record_blocks.new.conn) _ t' c.write_pad.ensures.written)))

@@ -3,7 +3,7 @@ use Rattle.std.proofs.Math.Nat.{le_refl}
 use Rattle.af_limits.specs.Limits.{most_devices}
 use Rattle.af_world.specs.declared.live.Ready.TheVariants.{Done, Failed}
 use Rattle.af_backend.specs.Backends.{may_be_refused, AttachesAt}
-use Rattle.af_backend.specs.CodecUse.{codec_allows, codec_behind}
+use Rattle.af_backend.specs.CodecUse.{codec_allows, codec_after}
 use Rattle.af_live.specs.Counting.{CountsOne}
 use Rattle.af_backend.specs.Backends.{round_after}
 use Rattle.af_backend.specs.Rounds.{is_attached}
@@ -26,11 +26,11 @@ returns-clause-allowed g c = subst (λ (s : RealState). c.attach-attached.result
 pub returns-clause-done : goal.returns-clause-done
 returns-clause-done g c = subst (λ (s : RealState). c.args.device < most_devices → is_attached s.round c.args.device ≡ false → codec_allows s.codec c.args.kind ≡ true → may_be_refused c.args.kind ≡ false → c.attach-attached.result ≡ Done) c.self.view_is c.attach-attached.ensures.done
 
-pub returns-clause-behind : goal.returns-clause-behind
-returns-clause-behind g c = subst (λ (s : RealState). AttachesAt c.attach-attached.result c.args.kind c.args.device c.args.spec.now s.behind c.attach-attached.new.self.attached) c.self.view_is c.attach-attached.ensures.attached
+pub returns-clause-backends : goal.returns-clause-backends
+returns-clause-backends g c = subst (λ (s : RealState). AttachesAt c.attach-attached.result c.args.kind c.args.device c.args.spec.now s.backends c.attach-attached.new.self.attached) c.self.view_is c.attach-attached.ensures.attached
 
 pub returns-clause-codec : goal.returns-clause-codec
-returns-clause-codec g c = subst (λ (s : RealState). c.attach-attached.new.self.codec ≡ codec_behind c.attach-attached.result c.args.kind s.codec) c.self.view_is c.attach-attached.ensures.codec
+returns-clause-codec g c = subst (λ (s : RealState). c.attach-attached.new.self.codec ≡ codec_after c.attach-attached.result c.args.kind s.codec) c.self.view_is c.attach-attached.ensures.codec
 
 pub returns-clause-lines : goal.returns-clause-lines
 returns-clause-lines g c = subst (λ (s : RealState). c.note_attach.new.self ≡ lines_after c.attach-attached.result c.args.device c.args.spec.now.line s.lines) c.self.view_is c.note_attach.ensures

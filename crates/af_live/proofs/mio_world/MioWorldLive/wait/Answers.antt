@@ -45,7 +45,7 @@ returns-clause-least g c =
 
 pub returns-clause-round : goal.returns-clause-round
 returns-clause-round g c =
-    subst (λ (s : RealState). LeadsRound (given_wake c.answer-waited.result) s.links s.round s.behind c.next_wake-next.new.links c.next_wake-next.new.devices.round c.next_wake-next.new.devices.attached) c.self.view_is
+    subst (λ (s : RealState). LeadsRound (given_wake c.answer-waited.result) s.links s.round s.backends c.next_wake-next.new.links c.next_wake-next.new.devices.round c.next_wake-next.new.devices.attached) c.self.view_is
     (subst (λ (o : Option Wake). LeadsRound o c.self.inside.links c.self.inside.devices.round c.self.inside.devices.attached c.next_wake-next.new.links c.next_wake-next.new.devices.round c.next_wake-next.new.devices.attached) (sym c.answer-waited.ensures.given) c.next_wake-next.ensures.round)
 
 pub returns-clause-lines : goal.returns-clause-lines

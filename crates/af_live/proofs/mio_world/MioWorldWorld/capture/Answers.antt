@@ -15,7 +15,7 @@ returns-clause-faults g c = subst (λ (s : RealState). CountsOne (c.capture-put.
 pub returns-clause-leads : goal.returns-clause-leads
 returns-clause-leads g c = let v = c.self.view_is in record {
   listens = ap (λ (s : RealState). s.listens) v;
-  behind = captures_same _ _ _ _ _ c.capture-put.ensures.captures ∙ ap (λ (s : RealState). all_without_bytes s.behind) v;
+  backends = captures_same _ _ _ _ _ c.capture-put.ensures.captures ∙ ap (λ (s : RealState). all_without_bytes s.backends) v;
   orders = ap (λ (d : Devices _ _ _). d.codec.orders) c.capture-put.ensures.rest ∙ ap (λ (s : RealState). s.codec.orders) v;
   round = ap (λ (d : Devices _ _ _). d.round) c.capture-put.ensures.rest ∙ ap (λ (s : RealState). s.round) v;
   lines = (ap (λ (s : RealState). all_line_orders s.lines.lines) v, ap (λ (s : RealState). s.lines.next) v);
@@ -25,7 +25,7 @@ returns-clause-leads g c = let v = c.self.view_is in record {
   wait_faults = ap (λ (s : RealState). s.wait_faults) v;
 }
 
-pub returns-clause-behind : goal.returns-clause-behind
-returns-clause-behind g c =
-    subst (λ (s : RealState). CapturesAt c.args.device c.capture-put.result c.capture-put.new.into s.behind c.capture-put.new.self.attached) c.self.view_is
+pub returns-clause-backends : goal.returns-clause-backends
+returns-clause-backends g c =
+    subst (λ (s : RealState). CapturesAt c.args.device c.capture-put.result c.capture-put.new.into s.backends c.capture-put.new.self.attached) c.self.view_is
     c.capture-put.ensures.captures

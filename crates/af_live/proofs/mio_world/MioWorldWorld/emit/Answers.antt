@@ -15,7 +15,7 @@ returns-clause-faults g c = subst (λ (s : RealState). CountsOne (c.emit-put.res
 pub returns-clause-leads : goal.returns-clause-leads
 returns-clause-leads g c = let v = c.self.view_is in record {
   listens = ap (λ (s : RealState). s.listens) v;
-  behind = emits_same _ _ _ _ _ _ _ c.emit-put.ensures.emits ∙ ap (λ (s : RealState). all_without_bytes s.behind) v;
+  backends = emits_same _ _ _ _ _ _ _ c.emit-put.ensures.emits ∙ ap (λ (s : RealState). all_without_bytes s.backends) v;
   orders = emits_orders _ _ _ _ _ _ _ c.emit-put.ensures.emits ∙ ap (λ (s : RealState). s.codec.orders) v;
   round = ap (λ (d : Devices _ _ _). d.round) c.emit-put.ensures.rest ∙ ap (λ (s : RealState). s.round) v;
   lines = (ap (λ (s : RealState). all_line_orders s.lines.lines) v, ap (λ (s : RealState). s.lines.next) v);
@@ -25,7 +25,7 @@ returns-clause-leads g c = let v = c.self.view_is in record {
   wait_faults = ap (λ (s : RealState). s.wait_faults) v;
 }
 
-pub returns-clause-behind : goal.returns-clause-behind
-returns-clause-behind g c =
-    subst (λ (s : RealState). EmitsAt c.args.device c.emit-put.result c.args.sound.now s.behind c.emit-put.new.self.attached s.codec c.emit-put.new.self.codec) c.self.view_is
+pub returns-clause-backends : goal.returns-clause-backends
+returns-clause-backends g c =
+    subst (λ (s : RealState). EmitsAt c.args.device c.emit-put.result c.args.sound.now s.backends c.emit-put.new.self.attached s.codec c.emit-put.new.self.codec) c.self.view_is
     c.emit-put.ensures.emits

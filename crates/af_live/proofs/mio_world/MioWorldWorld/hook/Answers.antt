@@ -15,7 +15,7 @@ pub returns-clause-leads : goal.returns-clause-leads
 returns-clause-leads g c = let v = c.self.view_is in
     let same = hooks_same _ _ _ _ _ c.hook-put.ensures in record {
       listens = ap (λ (s : RealState). s.listens) v;
-      behind = ap (λ (s : RealState). all_without_bytes s.behind) v;
+      backends = ap (λ (s : RealState). all_without_bytes s.backends) v;
       orders = ap (λ (s : RealState). s.codec.orders) v;
       round = ap (λ (s : RealState). s.round) v;
       lines = (same.0 ∙ ap (λ (s : RealState). all_line_orders s.lines.lines) v, same.1 ∙ ap (λ (s : RealState). s.lines.next) v);

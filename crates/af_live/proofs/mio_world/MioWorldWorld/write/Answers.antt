@@ -14,7 +14,7 @@ returns-clause-faults g c = subst (λ (s : RealState). CountsOne (c.write_link-t
 pub returns-clause-leads : goal.returns-clause-leads
 returns-clause-leads g c = let v = c.self.view_is in record {
   listens = c.write_link-took.ensures.listens ∙ ap (λ (s : RealState). s.listens) v;
-  behind = ap (λ (s : RealState). all_without_bytes s.behind) v;
+  backends = ap (λ (s : RealState). all_without_bytes s.backends) v;
   orders = ap (λ (s : RealState). s.codec.orders) v;
   round = ap (λ (s : RealState). s.round) v;
   lines = (ap (λ (s : RealState). all_line_orders s.lines.lines) v, ap (λ (s : RealState). s.lines.next) v);

@@ -1,5 +1,5 @@
 // Frames that were lost.
-ghost use Rattle.std.specs.Prelude.{◌≡◌, ◌≤◌};
+ghost use Rattle.std.specs.Prelude.{◌≡◌, ◌≤◌, ◌*◌, ◌^◌};
 
 use af_time::DevTime;
 
@@ -8,6 +8,8 @@ use af_time::DevTime;
 pub struct Lost {
     pub frames: u64,
     pub blocks: u64,
+    /// How many sample periods too late the latest of these blocks began.
+    pub latest: u32,
 }
 
 impl Lost {
@@ -19,26 +21,27 @@ impl Lost {
         Lost {
             frames: 0,
             blocks: 0,
+            latest: 0,
         }
     }
 
-    /// A block that lost so many frames.
-    pub fn note(&mut self, frames: u32)
+    /// A block of so many frames from a start on, of which those before another time are lost.
+    pub fn note(&mut self, start: DevTime, frames: u32, time: DevTime)
         ensures none { frames ≡ 0 → self.new ≡ self.old }
     {
-        if frames > 0 {
-            self.frames = self.frames.saturating_add(u64::from(frames));
+        let before = u32::try_from(time.diff(start)).unwrap_or(0);
+        let lost = frames.min(before);
+        if lost > 0 {
+            self.frames = self.frames.saturating_add(u64::from(lost));
             self.blocks = self.blocks.saturating_add(1);
+            self.latest = self.latest.max(before);
         }
     }
 }
 
-/// How many of the frames that begin at a time are before another time.
-pub fn frames_before(start: DevTime, frames: u32, time: DevTime) -> u32
-    ensures { result ≤ frames }
+/// How many milliseconds so many frames last at this rate, rounded up.
+pub fn millis_lasting(frames: u32, rate: u32) -> u64
+    ensures { result ≤ 2 ^ 32 * 1000 }
 {
-    match u32::try_from(time.diff(start)) {
-        Ok(before) => frames.min(before),
-        Err(_) => 0,
-    }
+    (u64::from(frames) * 1000).div_ceil(u64::from(rate.max(1)))
 }

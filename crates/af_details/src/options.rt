@@ -260,7 +260,7 @@ static APASS: [OptionRow<'static>; 9] = [
         values: Values::Number(0, 3000),
         needed: false,
         default: "100",
-        what: "milliseconds of drift before the relay falls in step anew",
+        what: "milliseconds of drift before the relay resynchronises",
     },
     OptionRow {
         name: "order",

@@ -9,6 +9,9 @@ use af_sound::SoundForm;
 use af_toolkit::ToolEnd;
 use std::io::Read;
 
+/// The greatest lead that may be asked for, in milliseconds.
+const LONGEST_LEAD: u64 = 60_000;
+
 /// Tells what is wrong with a sound file, and what makes one that can be played.
 pub fn tell_sound<S: Read + Drop>(
     rt: &impl Eprint,
@@ -75,6 +78,21 @@ fn tell_remedy(rt: &impl Eprint, job: &PlayJob, form: SoundForm, talk: &Talk) {
     }
 }
 
+// Tells that a greater lead helps, and which one would have been enough.
+fn tell_lead(rt: &impl Eprint, job: &PlayJob, talk: &Talk) {
+    let lead = job.lead;
+    match talk.enough_millis(job.device, lead, LONGEST_LEAD) {
+        Some(enough) => {
+            let _ = eprintln!(rt;
+                "af: a greater --lead helps; it was {lead} milliseconds, and {enough} would have been enough"
+            );
+        }
+        None => {
+            let _ = eprintln!(rt; "af: a greater --lead helps; it was {lead} milliseconds");
+        }
+    }
+}
+
 /// Tells which frames were not heard, and of a file that has sound though its header says none.
 pub fn tell_played<S: Read + Drop>(
     rt: &impl Eprint,
@@ -89,12 +107,12 @@ pub fn tell_played<S: Read + Drop>(
         let _ = eprintln!(rt; "af: {frames} in {blocks} came too late to be heard");
         match job.time {
             Some(time) => {
-                let _ = eprintln!(rt; "af: a later --time helps; it was {time}");
+                let enough = time.wrapping_add(talk.late.latest);
+                let _ = eprintln!(rt;
+                    "af: a later --time helps; it was {time}, and {enough} would have been enough"
+                );
             }
-            None => {
-                let lead = job.lead;
-                let _ = eprintln!(rt; "af: a greater --lead helps; it was {lead} milliseconds");
-            }
+            None => tell_lead(rt, job, talk),
         }
     }
     let silent = end == ToolEnd::Done && job.form.is_some() && talk.passage.blocks == 0;

@@ -5,6 +5,9 @@ use crate::talk::Talk;
 use af_cli::PassJob;
 use af_toolkit::ToolEnd;
 
+/// The greatest delay that may be asked for, in milliseconds.
+const LONGEST_DELAY: u64 = 3000;
+
 /// Tells which of the devices of a relay does not exist, or how the two differ.
 pub fn tell_pair(rt: &impl Eprint, job: &PassJob, end: ToolEnd, from: &Talk, to: &Talk) {
     match end {
@@ -58,6 +61,21 @@ fn tell_missing(rt: &impl Eprint, job: &PassJob, from: &Talk, to: &Talk) {
     }
 }
 
+// Tells that a greater delay helps, and which one would have been enough.
+fn tell_delay(rt: &impl Eprint, job: &PassJob, to: &Talk) {
+    let delay = job.delay;
+    match to.enough_millis(job.to_device, delay, LONGEST_DELAY) {
+        Some(enough) => {
+            let _ = eprintln!(rt;
+                "af: a greater --delay helps; it was {delay} milliseconds, and {enough} would have been enough"
+            );
+        }
+        None => {
+            let _ = eprintln!(rt; "af: a greater --delay helps; it was {delay} milliseconds");
+        }
+    }
+}
+
 /// Tells how many blocks were passed, how often the relay resynchronised, and what was lost.
 pub fn tell_passed(rt: &impl Eprint, job: &PassJob, from: &Talk, to: &Talk) {
     let passed = Counted(to.passage.blocks, "block");
@@ -76,9 +94,8 @@ pub fn tell_passed(rt: &impl Eprint, job: &PassJob, from: &Talk, to: &Talk) {
     if to.late.frames > 0 {
         let frames = Counted(to.late.frames, "frame");
         let blocks = Counted(to.late.blocks, "block");
-        let delay = job.delay;
         let _ = eprintln!(rt; "af: {frames} in {blocks} came too late to be heard");
-        let _ = eprintln!(rt; "af: a greater --delay helps; it was {delay} milliseconds");
+        tell_delay(rt, job, to);
     }
     if from.gone.frames > 0 {
         let frames = Counted(from.gone.frames, "frame");

@@ -1,7 +1,7 @@
 // What a client and a server sent each other on a link, as far as a person wants to know it afterwards.
 use crate::asked::Asked;
 use crate::incoming::Incoming;
-use crate::lost::{Lost, frames_before};
+use crate::lost::{Lost, millis_lasting};
 use crate::passage::Passage;
 use af_io::Reason;
 use af_limits::LONGEST_ADDRESS;
@@ -139,13 +139,25 @@ impl Talk {
         match self.asked {
             Some(Asked::Play { frames, time }) => {
                 self.passage.note_taken();
-                self.late.note(frames_before(time, frames, now));
+                self.late.note(time, frames, now);
             }
             Some(Asked::Record { frames, time }) => {
                 let oldest = DevTime(now.0.wrapping_sub(self.horizon()));
-                self.gone.note(frames_before(time, frames, oldest));
+                self.gone.note(time, frames, oldest);
             }
             _ => {}
+        }
+    }
+
+    /// With how many milliseconds in place of these all that was played on this device would have come in time. None if that is
+    /// more than the longest, or if the device is not known.
+    pub fn enough_millis(&self, device: u8, millis: u32, longest: u64) -> Option<u64> {
+        let info = self.devices.get(usize::from(device))?;
+        let enough = u64::from(millis) + millis_lasting(self.late.latest, info.rate);
+        if enough <= longest {
+            Some(enough)
+        } else {
+            None
         }
     }
 

@@ -1,3 +1,4 @@
 pub mod DialogueLemmas
 pub mod PartnerLemmas
+pub mod SightLemmas
 pub mod PartLemmas

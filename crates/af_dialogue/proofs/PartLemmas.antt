@@ -1,119 +1,133 @@
 -- Code that comes through parts of a program, one after another.
-use Rattle.std.proofs.Common.{◌≡◌, true, List, [], ◌++◌, refl, sym, ap, ◌∙◌, subst, append_assoc, append-nil, inl, inr}
-use Rattle.std.proofs.lemmas.Grind.{flat_map-append}
-use Rattle.std.specs.Prelude.{Result, Ok, Err}
-use Rattle.af_dialogue.specs.Dialogue.{Dialogue, Exchange, Reaches, Follows, ends, calls, exchange, followed_by}
-use Rattle.af_dialogue.specs.Partner.{Partner, Gives, run_with, state_after}
-use Rattle.af_dialogue.specs.Parts.{Part, Ending, Came, IsSight, MayShow, Shows, Sight, Tells, goes_on, or_ends, seen_of}
-use Rattle.af_dialogue.proofs.DialogueLemmas.{follows_on, reaches_first, reaches_on}
-use Rattle.af_dialogue.proofs.PartnerLemmas.{run_is}
+use Rattle.std.proofs.Common.{List, ◌∷◌, ◌≡◌, refl, sym, ap, ◌∙◌, inl, inr}
+use Rattle.std.specs.Prelude.{Result, Ok, Err, IsOk}
+use Rattle.af_dialogue.specs.Dialogue.{Dialogue, Exchange, calls, ends, exchange, followed_by}
+use Rattle.af_dialogue.specs.Partner.{Partner}
+use Rattle.af_dialogue.specs.Parts.{exchanges, or_ends, part_of, Deeds, Goes, IsFront, IsProgramKind, Outcome, Part, ProgramKind, after_deeds, answered, called, followed, goes_on, has_value, outcome}
 
-module _ {Call F E : Type 0} {Answer : Call → Type 0} (ending : Ending F E) where
-  -- the end of a program in its first part is that of both
-  stopped : {X Y : Type 0} (rest : Part Answer X F) (next : X → Part Answer Y F) (how : E) (finish : Result X F) → rest ≡ ends finish → Tells ending (Err how) finish →
-      (last : Result Y F) × (goes_on rest next ≡ ends last) × Tells {X = Y} ending (Err how) last
-  stopped rest next how (Ok x) is told = absurd told
-  stopped {X} {Y} rest next how (Err f) is told = (Err f, ap (λ (d : Part Answer X F). goes_on {Y = Y} d next) is, told)
+-- a dialogue and the one after it are parts one after another
+module _ {Call S X Y F : Type 0} {Answer : Call → Type 0} (partner : Partner Answer S) where
+  exchange_first : (e : Exchange Answer) (run : List (Exchange Answer)) (end : Result (X × S) F) (next : X × S → Outcome (List (Exchange Answer)) (Y × S) F) →
+      (let o = followed exchanges run end next in outcome (e ∷ o.did) o.end) ≡ followed exchanges (e ∷ run) end next
+  exchange_first e run (Ok y) next = refl
+  exchange_first e run (Err finish) next = refl
 
-  pub came_stop : {X Y : Type 0} (part : Part Answer X F) (next : X → Part Answer Y F) (how : E) (run : List (Exchange Answer)) (rest : Part Answer X F) →
-      Came {X = X} ending part (Err how) run rest → Came {X = Y} ending (goes_on part next) (Err how) run (goes_on rest next)
-  came_stop part next how run rest c = record {
-    reached = reaches_first part rest (or_ends next) run c.reached;
-    ended = elim c.ended [ inl w ↦ inl (stopped rest next how w.0 w.1 w.2) | inr outside ↦ inr outside ];
+  pub part_followed : (d : Dialogue Answer (Result X F)) (next : X → Dialogue Answer (Result Y F)) (s : S) → part_of partner (followed_by d (or_ends next)) s ≡ goes_on exchanges (part_of partner d) (λ x. part_of partner (next x)) s
+  unfolding goes_on
+  part_followed (ends (Ok x)) next s = refl
+  part_followed (ends (Err finish)) next s = refl
+  part_followed (calls call more) next s =
+      let answer = partner.answer s call in
+      let e = exchange {Answer = Answer} call answer in
+      ap (λ (o : Outcome (List (Exchange Answer)) (Y × S) F). outcome (e ∷ o.did) o.end) (part_followed (more answer) next (partner.after s call))
+      ∙ exchange_first e _ _ (λ y. part_of partner (next y.0) y.1)
+
+-- Parts that came to values, whatever they did. The first of two parts came to one if both did.
+pub first_ok : {S D F X Y : Type 0} (deeds : Deeds D) (part : Part S D F X) (next : X → Part S D F Y) (s : S) → IsOk (goes_on deeds part next s).end → IsOk (part s).end
+unfolding goes_on
+first_ok {S} {X = X} deeds part next s ok = elim (part s).end as (λ (end : Result (X × S) _). IsOk (followed deeds (part s).did end (λ y. next y.0 y.1)).end → IsOk end) [
+  | Ok y ↦ λ more. refl
+  | Err finish ↦ λ more. more
+] ok
+
+-- what follows a part that is known
+pub goes_by : {S D F X Y : Type 0} (deeds : Deeds D) (part : Part S D F X) (next : X → Part S D F Y) {s : S} {did : D} {x : X} {there : S} → part s ≡ outcome did (Ok (x, there)) → goes_on deeds part next s ≡ after_deeds deeds did (next x there)
+unfolding goes_on
+goes_by {S} {D} {F} {X} deeds part next is = ap (λ (o : Outcome D (X × S) F). followed deeds o.did o.end (λ y. next y.0 y.1)) is
+
+-- a call was answered with a value, and this follows it
+pub record IsAnswered {S D F X Y : Type 0} (deeds : Deeds D) (did : D) (answer : Result X F) (there : S) (next : X → Part S D F Y) (o : Outcome D (Y × S) F) : Type 0 where
+  pub value : X
+  pub good : answer ≡ Ok value
+  pub is : o ≡ after_deeds deeds did (next value there)
+  pub last : IsOk (next value there).end
+
+pub called_first : {S D F X Y : Type 0} (deeds : Deeds D) (did : D) (answer : Result X F) (there : S) (next : X → Part S D F Y) →
+    (let o : Outcome D (Y × S) F = followed deeds did (answered answer there) (λ y. next y.0 y.1) in IsOk o.end → IsAnswered deeds did answer there next o)
+called_first deeds did (Ok x) there next ok = record { value = x; good = refl; is = refl; last = ok }
+called_first deeds did (Err finish) there next ok = cc
+
+-- the same where nothing follows
+pub called_last : {S D F X : Type 0} (did : D) (answer : Result X F) (there : S) → IsOk (called did answer there).end → (x : X) × (answer ≡ Ok x) × (called did answer there ≡ outcome did (Ok (x, there)))
+called_last did (Ok x) there ok = (x, refl, refl)
+called_last did (Err finish) there ok = cc
+
+-- a part has come to another, which is what is left of it
+pub record Reached {S D F E O X : Type 0} (kind : ProgramKind S D F E O) (part now : Part S D F X) (before after : O) : Type 0 where
+  pub goes : (s : S) → kind.Stands before s → (there : S) × kind.Stands after there × (did : D) × (part s ≡ after_deeds kind.deeds did (now there)) × kind.Shows before did after
+
+module _ {S D F E O : Type 0} {kind : ProgramKind S D F E O} (laws : IsProgramKind kind) where
+  joined_after : {X : Type 0} (d e : D) (o : Outcome D X F) → after_deeds kind.deeds d (after_deeds kind.deeds e o) ≡ after_deeds kind.deeds (kind.deeds.joined d e) o
+  joined_after {X} d e o = ap (λ (f : D). outcome {X = X} {F = F} f o.end) (sym (laws.joined_twice d e o.did))
+
+  front_after : (first did whole : D) → IsFront kind.deeds did whole → IsFront kind.deeds (kind.deeds.joined first did) (kind.deeds.joined first whole)
+  front_after first did whole front = (front.0, ap (λ d. kind.deeds.joined first d) front.1 ∙ sym (laws.joined_twice first did front.0))
+
+  -- within the first of two parts, code is within both
+  front_followed : {X Y : Type 0} (did whole : D) (end : Result X F) (next : X → Outcome D Y F) → IsFront kind.deeds did whole → IsFront kind.deeds did (followed kind.deeds whole end next).did
+  front_followed did whole (Ok x) next front = (kind.deeds.joined front.0 (next x).did, ap (λ d. kind.deeds.joined d (next x).did) front.1 ∙ laws.joined_twice did front.0 (next x).did)
+  front_followed did whole (Err finish) next front = front
+
+  pub goes_stop : {X Y : Type 0} {part : Part S D F X} (next : X → Part S D F Y) {how : E} {result : Result Y E} {o p : O} → result ≡ Err how → Goes {X = X} kind part (Err how) o p → Goes kind (goes_on kind.deeds part next) result o p
+  unfolding goes_on
+  goes_stop {X} {Y} {part} next same g = rw same (record {
+    came = λ s stands.
+        let c = g.came s stands in
+        let then : X × S → Outcome D (Y × S) F = λ y. next y.0 y.1 in (
+          c.0,
+          elim c.1 [
+            | inl outer ↦ inl (outer.0, front_followed c.0 (part s).did (part s).end then outer.1)
+            | inr end ↦ inr (end.0, end.1, ap (λ (o : Outcome D (X × S) F). followed kind.deeds o.did o.end then) end.2)
+          ],
+          c.2,
+        );
+  })
+
+  -- a part that does nothing
+  pub goes_value : {X : Type 0} (x : X) {o : O} → Goes kind (has_value kind.deeds x) (Ok x) o o
+  goes_value x {o} = record { came = λ s stands. (s, stands, kind.deeds.nothing, refl, laws.shows_nothing o) }
+
+  pub reached_here : {X : Type 0} {part : Part S D F X} {o : O} → Reached kind part part o o
+  reached_here {X} {part} {o} = record {
+    goes = λ s stands. (s, stands, kind.deeds.nothing, ap (λ (d : D). outcome {X = X × S} {F = F} d (part s).end) (sym (laws.nothing_first (part s).did)), laws.shows_nothing o);
   }
 
-  -- a part that code came through was made to its end
-  valued : {X : Type 0} (rest : Part Answer X F) (x : X) (finish : Result X F) → rest ≡ ends finish → Tells {E = E} ending (Ok x) finish → rest ≡ ends (Ok x)
-  valued {X} rest x (Ok y) is told = is ∙ ap (λ (z : X). (let d : Part Answer X F = ends (Ok z) in d)) (sym told)
-  valued rest x (Err f) is told = absurd told
+  -- a step more: what is left begins with a part that came to a value
+  pub reached_on : {X Y : Type 0} {part : Part S D F Y} {first : Part S D F X} (next : X → Part S D F Y) {x : X} {o p q : O} → Reached kind part (goes_on kind.deeds first next) o p → Goes kind first (Ok x) p q → Reached kind part (next x) o q
+  unfolding goes_on
+  reached_on {X} {Y} {first} next {x} {o} {p} {q} r g = record {
+    goes = λ s stands.
+        let a = r.goes s stands in
+        let c = g.came a.0 a.1 in (
+          c.0,
+          c.1,
+          kind.deeds.joined a.2 c.2,
+          a.3 ∙ ap (λ (b : Outcome D (X × S) F). after_deeds kind.deeds a.2 (followed kind.deeds b.did b.end (λ y. next y.0 y.1))) c.3 ∙ joined_after a.2 c.2 (next x c.0),
+          laws.shows_joined o p q a.2 c.2 a.4 c.4,
+        );
+  }
 
-  pub came_end : {X : Type 0} (part : Part Answer X F) (x : X) (run : List (Exchange Answer)) (rest : Part Answer X F) → Came {E = E} ending part (Ok x) run rest → rest ≡ ends (Ok x)
-  came_end part x run rest c = elim c.ended [ inl w ↦ valued rest x w.0 w.1 w.2 | inr outside ↦ absurd outside ]
-
-  pub came_through : {X : Type 0} (part : Part Answer X F) (x : X) (run : List (Exchange Answer)) (rest : Part Answer X F) → Came {E = E} ending part (Ok x) run rest → Follows part run (Ok x)
-  came_through {X} part x run rest c = subst (λ (d : Part Answer X F). Reaches part run d) (came_end part x run rest c) c.reached
+  -- how a part goes, by how what is left of it goes
+  pub reached_goes : {X : Type 0} {part now : Part S D F X} (result : Result X E) {o p q : O} → Reached kind part now o p → Goes kind now result p q → Goes kind part result o q
+  reached_goes {X} {part} {now} (Ok x) {o} {p} {q} r g = record {
+    came = λ s stands.
+        let a = r.goes s stands in
+        let c = g.came a.0 a.1 in
+        (c.0, c.1, kind.deeds.joined a.2 c.2, a.3 ∙ ap (λ (b : Outcome D (X × S) F). after_deeds kind.deeds a.2 b) c.3, laws.shows_joined o p q a.2 c.2 a.4 c.4);
+  }
+  reached_goes {X} {part} {now} (Err how) {o} {p} {q} r g = record {
+    came = λ s stands.
+        let a = r.goes s stands in
+        let c = g.came a.0 a.1 in (
+          kind.deeds.joined a.2 c.0,
+          elim c.1 [
+            | inl outer ↦ (let f = front_after a.2 c.0 (now a.0).did outer.1 in inl (outer.0, (f.0, ap (λ (b : Outcome D (X × S) F). b.did) a.3 ∙ f.1)))
+            | inr end ↦ inr (end.0, end.1, a.3 ∙ ap (λ (b : Outcome D (X × S) F). after_deeds kind.deeds a.2 b) end.2)
+          ],
+          laws.shows_joined o p q a.2 c.0 a.4 c.2,
+        );
+  }
 
   -- a part, and the one after it
-  pub came_on : {X Y : Type 0} (part : Part Answer X F) (next : X → Part Answer Y F) (x : X) (result : Result Y E) (run more : List (Exchange Answer)) (rest : Part Answer X F) (rest' : Part Answer Y F) →
-      Came ending part (Ok x) run rest → Came ending (next x) result more rest' → Came ending (goes_on part next) result (run ++ more) rest'
-  came_on part next x result run more rest rest' c d = record {
-    reached = follows_on part (or_ends next) (Ok x) rest' run more (came_through part x run rest c) d.reached;
-    ended = d.ended;
-  }
-
-  -- what is left of a part, and how code came through that
-  pub came_after : {X : Type 0} (part now : Part Answer X F) (result : Result X E) (run more : List (Exchange Answer)) (rest : Part Answer X F) →
-      Reaches part run now → Came ending now result more rest → Came ending part result (run ++ more) rest
-  came_after part now result run more rest r c = record { reached = reaches_on part now rest run more r c.reached; ended = c.ended }
-
-  -- a part that only has a value, or is the end of the program
-  pub came_value : {X : Type 0} (x : X) → Came {Answer = Answer} ending (ends (Ok x)) (Ok x) [] (ends (Ok x))
-  came_value x = record { reached = refl; ended = inl (Ok x, refl, refl) }
-
-  pub came_finish : {X : Type 0} (finish : F) (how : E) → how ≡ ending.of finish → Came {X = X} {Answer = Answer} ending (ends (Err finish)) (Err how) [] (ends (Err finish))
-  came_finish finish how is = record { reached = refl; ended = inl (Err finish, refl, is) }
-
-  -- something from outside ended the program before its next call was answered
-  pub came_outside : {X : Type 0} (part : Part Answer X F) (how : E) → ending.is_outer how ≡ true → Came {X = X} ending part (Err how) [] part
-  came_outside part how outer = record { reached = refl; ended = inr outer }
-
-module _ {Call B : Type 0} {Answer : Call → Type 0} (sight : Sight Answer B) where
-  -- nothing needs to be seen of the next call
-  pub shows_none : {X : Type 0} (d : Dialogue Answer X) → MayShow sight d []
-  shows_none (ends x) = refl
-  shows_none (calls call next) = (sight.begun call, refl)
-
-  ends_shown : {X : Type 0} (d : Dialogue Answer X) (x : X) (piece : List B) → d ≡ ends x → MayShow sight d piece → piece ≡ []
-  ends_shown {X} d x piece is m = subst (λ (e : Dialogue Answer X). MayShow sight e piece) is m
-
-  -- what may be seen of the first of two dialogues may be seen of both
-  may_show_first : {X Y : Type 0} (d : Dialogue Answer X) (next : X → Dialogue Answer Y) (piece : List B) → MayShow sight d piece → MayShow sight (followed_by d next) piece
-  may_show_first {X} {Y} (ends x) next piece none = subst (λ (l : List B). MayShow sight (next x) l) (sym none) (shows_none (next x))
-  may_show_first (calls call more) next piece m = m
-
-  pub shows_first : {X Y : Type 0} (d : Dialogue Answer X) (next : X → Dialogue Answer Y) (run : List (Exchange Answer)) (seen : List B) → Shows sight run d seen → Shows sight run (followed_by d next) seen
-  shows_first d next run seen s = (s.0, s.1, may_show_first d next s.0 s.2)
-
-  -- exchanges one after another
-  pub seen_on : (run more : List (Exchange Answer)) → seen_of sight (run ++ more) ≡ seen_of sight run ++ seen_of sight more
-  seen_on run more = flat_map-append sight.whole run more
-
-  pub shows_on : {X Y : Type 0} (d : Dialogue Answer X) (x : X) (rest : Dialogue Answer Y) (run more : List (Exchange Answer)) (seen seen' : List B) → d ≡ ends x →
-      Shows sight run d seen → Shows sight more rest seen' → Shows sight (run ++ more) rest (seen ++ seen')
-  shows_on d x rest run more seen seen' is s t = (
-    t.0,
-    ap (λ l. l ++ seen') (s.1 ∙ ap (λ l. seen_of sight run ++ l) (ends_shown d x s.0 is s.2) ∙ append-nil (seen_of sight run))
-        ∙ ap (λ l. seen_of sight run ++ l) t.1 ∙ sym (append_assoc (seen_of sight run) (seen_of sight more) t.0)
-        ∙ ap (λ l. l ++ t.0) (sym (seen_on run more)),
-    t.2,
-  )
-
-  module _ {S : Type 0} (partner : Partner Answer S) (is : IsSight sight) where
-    -- what may be seen of the next call is the beginning of what is seen of the run
-    may_show_front : {X : Type 0} (d : Dialogue Answer X) (s : S) (piece : List B) → MayShow sight d piece → (unseen : List B) × (seen_of sight (run_with partner s d) ≡ piece ++ unseen)
-    may_show_front (ends x) s piece none = ([], sym (ap (λ l. l ++ []) none))
-    may_show_front (calls call next) s piece m =
-        let e = exchange {Answer = Answer} call (partner.answer s call) in
-        let more = seen_of sight (run_with partner (partner.after s call) (next (partner.answer s call))) in
-        let all = is e in (
-          (m.0 ++ all.0) ++ more,
-          ap (λ l. l ++ more) (all.1 ∙ ap (λ l. l ++ all.0) m.1 ∙ append_assoc piece m.0 all.0) ∙ append_assoc piece (m.0 ++ all.0) more,
-        )
-
-    -- what is seen of a program is the beginning of what is seen of the run with its partner
-    pub shows_front : {X : Type 0} (d rest : Dialogue Answer X) (s : S) (run : List (Exchange Answer)) (seen : List B) → Reaches d run rest → Gives partner s run → Shows sight run rest seen →
-        (unseen : List B) × (seen_of sight (run_with partner s d) ≡ seen ++ unseen)
-    shows_front d rest s run seen r g shows =
-        let later = run_with partner (state_after partner s run) rest in
-        let f = may_show_front rest (state_after partner s run) shows.0 shows.2 in (
-          f.0,
-          ap (λ l. seen_of sight l) (run_is partner d rest s run r g) ∙ seen_on run later ∙ ap (λ l. seen_of sight run ++ l) f.1
-              ∙ sym (append_assoc (seen_of sight run) shows.0 f.0) ∙ ap (λ l. l ++ f.0) (sym shows.1),
-        )
-
-    -- and all of it if the run is whole
-    pub shows_whole : {X : Type 0} (d : Dialogue Answer X) (x : X) (s : S) (run : List (Exchange Answer)) (seen : List B) → Follows d run x → Gives partner s run → Shows sight run (ends x) seen →
-        seen_of sight (run_with partner s d) ≡ seen
-    shows_whole d x s run seen r g shows =
-        ap (λ l. seen_of sight l) (run_is partner d (ends x) s run r g ∙ append-nil run)
-        ∙ sym (shows.1 ∙ ap (λ l. seen_of sight run ++ l) shows.2 ∙ append-nil (seen_of sight run))
+  pub goes_through : {X Y : Type 0} {part : Part S D F X} (next : X → Part S D F Y) {x : X} {result : Result Y E} {o p q : O} → Goes kind part (Ok x) o p → Goes kind (next x) result p q → Goes kind (goes_on kind.deeds part next) result o q
+  goes_through next {result} g h = reached_goes result (reached_on next reached_here g) h

@@ -19,26 +19,32 @@ abbrev pub one_call : {Call : Type 0} {Answer : Call → Type 0} (call : Call) �
 one_call call = calls call (λ answer. ends answer)
 
 -- a dialogue, and after it the one that its end leads to
-abbrev pub followed_by : {Call : Type 0} {Answer : Call → Type 0} {X Y : Type 0} → Dialogue Answer X → (X → Dialogue Answer Y) → Dialogue Answer Y
+abbrev pub followed_by : {Call : Type 0} {Answer : Call → Type 0} {X Y : Type 0} → Dialogue Answer X → (X → Dialogue Answer Y) →
+    Dialogue Answer Y
 followed_by (ends x) next = next x
 followed_by (calls call more) next = calls call (λ answer. followed_by (more answer) next)
 
 -- the same dialogue of a program that makes other calls too: each of its calls is one of these
-abbrev pub dialogue_among : {Call Other X : Type 0} (Answer : Other → Type 0) (name : Call → Other) → Dialogue (λ (call : Call). Answer (name call)) X → Dialogue Answer X
+abbrev pub dialogue_among : {Call Other X : Type 0} (Answer : Other → Type 0) (name : Call → Other) →
+    Dialogue (λ (call : Call). Answer (name call)) X → Dialogue Answer X
 dialogue_among Answer name (ends x) = ends x
 dialogue_among Answer name (calls call next) = calls (name call) (λ answer. dialogue_among Answer name (next answer))
 
-abbrev pub exchange_among : {Call Other : Type 0} (Answer : Other → Type 0) (name : Call → Other) → Exchange (λ (call : Call). Answer (name call)) → Exchange Answer
+abbrev pub exchange_among : {Call Other : Type 0} (Answer : Other → Type 0) (name : Call → Other) →
+    Exchange (λ (call : Call). Answer (name call)) → Exchange Answer
 exchange_among Answer name e = record { call = name e.call; answer = e.answer }
 
 -- these exchanges are a run of a dialogue so far, and this is left of it
-abbrev pub Reaches : {Call : Type 0} {Answer : Call → Type 0} {X : Type 0} → Dialogue Answer X → List (Exchange Answer) → Dialogue Answer X → Type 0
+abbrev pub Reaches : {Call : Type 0} {Answer : Call → Type 0} {X : Type 0} → Dialogue Answer X → List (Exchange Answer) →
+    Dialogue Answer X → Type 0
 Reaches d [] rest = d ≡ rest
 Reaches (ends x) (e ∷ run) rest = ⊥
-Reaches {Answer = Answer} (calls call next) (e ∷ run) rest = (answer : Answer call) × (e ≡ exchange call answer) × Reaches (next answer) run rest
+Reaches {Answer = Answer} (calls call next) (e ∷ run) rest = (answer : Answer call) × (e ≡ exchange call answer)
+    × Reaches (next answer) run rest
 
 -- they are a whole run, which ends so
-abbrev pub Follows : {Call : Type 0} {Answer : Call → Type 0} {X : Type 0} → Dialogue Answer X → List (Exchange Answer) → X → Type 0
+abbrev pub Follows : {Call : Type 0} {Answer : Call → Type 0} {X : Type 0} → Dialogue Answer X → List (Exchange Answer) → X →
+    Type 0
 Follows d run x = Reaches d run (ends x)
 
 -- they are the beginning of a run
@@ -51,7 +57,8 @@ EndsIn P (ends x) = P x
 EndsIn {Answer = Answer} P (calls call next) = (answer : Answer call) → EndsIn P (next answer)
 
 -- A whole run of a dialogue and of the one after it is a whole run of the first, and one of the second.
-pub record Parted {Call X Y : Type 0} {Answer : Call → Type 0} (d : Dialogue Answer X) (next : X → Dialogue Answer Y) (run : List (Exchange Answer)) (y : Y) : Type 0 where
+pub record Parted {Call X Y : Type 0} {Answer : Call → Type 0}
+    (d : Dialogue Answer X) (next : X → Dialogue Answer Y) (run : List (Exchange Answer)) (y : Y) : Type 0 where
   pub x : X
   pub front : List (Exchange Answer)
   pub more : List (Exchange Answer)

@@ -1,4 +1,5 @@
 pub mod Dialogue
 pub mod Partner
+pub mod Sight
 pub mod Parts
 pub mod Errand

@@ -18,7 +18,8 @@ Gives partner s [] = ⊤
 Gives partner s (e ∷ run) = (e.answer ≡ partner.answer s e.call) × Gives partner (partner.after s e.call) run
 
 -- the run of a dialogue with a partner
-abbrev pub run_with : {Call : Type 0} {Answer : Call → Type 0} {S X : Type 0} → Partner Answer S → S → Dialogue Answer X → List (Exchange Answer)
+abbrev pub run_with : {Call : Type 0} {Answer : Call → Type 0} {S X : Type 0} → Partner Answer S → S → Dialogue Answer X →
+    List (Exchange Answer)
 run_with partner s (ends x) = []
 run_with partner s (calls call next) =
     exchange call (partner.answer s call) ∷ run_with partner (partner.after s call) (next (partner.answer s call))
@@ -33,7 +34,8 @@ abbrev pub calls_of : {Call : Type 0} {Answer : Call → Type 0} → (Call → B
 calls_of mine run = filter (λ e. mine e.call) run
 
 -- two partners as one: the first answers the calls that pass the test, and the second all others
-abbrev pub both_partners : {Call : Type 0} {Answer : Call → Type 0} {S T : Type 0} → (Call → Bool) → Partner Answer S → Partner Answer T → Partner Answer (S × T)
+abbrev pub both_partners : {Call : Type 0} {Answer : Call → Type 0} {S T : Type 0} → (Call → Bool) → Partner Answer S →
+    Partner Answer T → Partner Answer (S × T)
 both_partners mine one other = record {
   answer = λ s call. if mine call then one.answer s.0 call else other.answer s.1 call;
   after = λ s call. (if mine call then one.after s.0 call else s.0, if mine call then s.1 else other.after s.1 call);

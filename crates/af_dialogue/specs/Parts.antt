@@ -1,63 +1,97 @@
--- Parts of a program, and how far its code came in one.
+-- Parts of a program: what each does and how it ends, one after another, and how far code came in one.
 use Rattle.std.specs.Prelude.{◌≡◌, ◌⊎◌, Bool, true, List, [], ◌++◌, Result, Ok, Err}
-use Rattle.std.specs.List.{flat_map}
-use Rattle.af_dialogue.specs.Dialogue.{Dialogue, Exchange, Reaches, ends, calls, followed_by}
+use Rattle.af_dialogue.specs.Dialogue.{Dialogue, Exchange, ends}
+use Rattle.af_dialogue.specs.Partner.{Partner, end_with, run_with, state_after}
 
--- A part of a program ends with a value, by which the program goes on, or with the end of the whole program.
-abbrev pub Part : {Call : Type 0} → (Call → Type 0) → (X F : Type 0) → Type 0
-Part Answer X F = Dialogue Answer (Result X F)
+-- A kind of deeds, as the bytes on a link: a program does nothing, or some deeds and then others.
+pub record Deeds (D : Type 0) : Type 0 where
+  pub nothing : D
+  pub joined : D → D → D
 
--- what follows a part: the end of the program is passed on
-abbrev pub or_ends : {Call : Type 0} {Answer : Call → Type 0} {X Y F : Type 0} → (X → Part Answer Y F) → Result X F → Part Answer Y F
+-- What a part of a program has done, and how it ended: with a value, or with the end of the whole program.
+pub record Outcome (D X F : Type 0) : Type 0 where
+  pub did : D
+  pub end : Result X F
+
+abbrev pub outcome : {D X F : Type 0} → D → Result X F → Outcome D X F
+outcome did end = record { did = did; end = end }
+
+-- A part of a program goes by where the program stands. With its value it says where the program stands then.
+abbrev pub Part : (S D F X : Type 0) → Type 0
+Part S D F X = S → Outcome D (X × S) F
+
+-- nothing is done, and this is the value
+abbrev pub has_value : {S D F X : Type 0} → Deeds D → X → Part S D F X
+has_value deeds x s = outcome deeds.nothing (Ok (x, s))
+
+-- a call, by what it does, its answer, and where the program stands after a value
+abbrev pub answered : {S F X : Type 0} → Result X F → S → Result (X × S) F
+answered (Ok x) s = Ok (x, s)
+answered (Err finish) s = Err finish
+
+abbrev pub called : {S D F X : Type 0} → D → Result X F → S → Outcome D (X × S) F
+called did answer s = outcome did (answered answer s)
+
+-- these deeds come first
+abbrev pub after_deeds : {D X F : Type 0} → Deeds D → D → Outcome D X F → Outcome D X F
+after_deeds deeds did o = outcome (deeds.joined did o.did) o.end
+
+-- what follows an outcome: the end of the program is its own end
+abbrev pub followed : {D X Y F : Type 0} → Deeds D → D → Result X F → (X → Outcome D Y F) → Outcome D Y F
+followed deeds did (Ok x) next = after_deeds deeds did (next x)
+followed deeds did (Err finish) next = outcome did (Err finish)
+
+-- a part, and the one that its value leads to
+unfoldable pub goes_on : {S D F X Y : Type 0} → Deeds D → Part S D F X → (X → Part S D F Y) → Part S D F Y
+goes_on deeds part next s = followed deeds (part s).did (part s).end (λ y. next y.0 y.1)
+
+-- what follows a dialogue that ends with a value or with the end of the whole program
+abbrev pub or_ends : {Call : Type 0} {Answer : Call → Type 0} {X Y F : Type 0} → (X → Dialogue Answer (Result Y F)) → Result X F →
+    Dialogue Answer (Result Y F)
 or_ends next (Ok x) = next x
 or_ends next (Err finish) = ends (Err finish)
 
--- a part, and the one after it
-abbrev pub goes_on : {Call : Type 0} {Answer : Call → Type 0} {X Y F : Type 0} → Part Answer X F → (X → Part Answer Y F) → Part Answer Y F
-goes_on part next = followed_by part (or_ends next)
+-- Such a dialogue with a partner is a part: what it does is its run, and it stands where its partner does.
+abbrev pub exchanges : {Call : Type 0} {Answer : Call → Type 0} → Deeds (List (Exchange Answer))
+exchanges = record { nothing = []; joined = λ run more. run ++ more }
 
--- How the code of a program reports its end: by which value, and which of them say that something from outside ended it.
-pub record Ending (F E : Type 0) : Type 0 where
-  pub of : F → E
+abbrev pub part_of : {Call : Type 0} {Answer : Call → Type 0} {S X F : Type 0} → Partner Answer S → Dialogue Answer (Result X F) →
+    Part S (List (Exchange Answer)) F X
+part_of partner d s = called (run_with partner s d) (end_with partner s d) (state_after partner s (run_with partner s d))
+
+-- A kind of programs: what they do; as what their code reports an end, and which of these ends come from outside; where a program
+-- stands, by what can be observed; and how what can be observed goes on by deeds.
+pub record ProgramKind (S D F E O : Type 0) : Type 1 where
+  pub deeds : Deeds D
+  pub reported : F → E
   pub is_outer : E → Bool
+  pub Stands : O → S → Type 0
+  pub Shows : O → D → O → Type 0
 
--- code that answers this has come to this end of a part
-abbrev pub Tells : {F E X : Type 0} → Ending F E → Result X E → Result X F → Type 0
-Tells ending (Ok x) (Ok y) = x ≡ y
-Tells ending (Err how) (Err finish) = how ≡ ending.of finish
-Tells ending (Ok x) (Err finish) = ⊥
-Tells ending (Err how) (Ok y) = ⊥
+-- Deeds may be joined in any order of the joints, and they show one after another.
+pub record IsProgramKind {S D F E O : Type 0} (kind : ProgramKind S D F E O) : Type 0 where
+  pub nothing_first : (d : D) → kind.deeds.joined kind.deeds.nothing d ≡ d
+  pub joined_twice : (d e f : D) → kind.deeds.joined (kind.deeds.joined d e) f ≡ kind.deeds.joined d (kind.deeds.joined e f)
+  pub shows_nothing : (o : O) → kind.Shows o kind.deeds.nothing o
+  pub shows_joined : (o p q : O) (d e : D) → kind.Shows o d p → kind.Shows p e q → kind.Shows o (kind.deeds.joined d e) q
 
--- something from outside ended it
-abbrev pub IsEndedOutside : {F E X : Type 0} → Ending F E → Result X E → Type 0
-IsEndedOutside ending (Ok x) = ⊥
-IsEndedOutside ending (Err how) = ending.is_outer how ≡ true
+-- these deeds are the first of those
+abbrev pub IsFront : {D : Type 0} → Deeds D → D → D → Type 0
+IsFront {D} deeds did whole = (rest : D) × (whole ≡ deeds.joined did rest)
 
--- Code that answers this came so far in a part: it made these calls, and this is left. It came to the end of the part, or
--- something from outside ended it.
-pub record Came {Call F E X : Type 0} {Answer : Call → Type 0} (ending : Ending F E) (part : Part Answer X F) (result : Result X E) (run : List (Exchange Answer)) (rest : Part Answer X F) : Type 0 where
-  pub reached : Reaches part run rest
-  pub ended : ((finish : Result X F) × (rest ≡ ends finish) × Tells ending result finish) ⊎ IsEndedOutside ending result
+-- Code that did this ended without a value: something from outside ended it within a part, or the part ended the program.
+abbrev pub Stopped : {S D F E O X : Type 0} → ProgramKind S D F E O → Outcome D X F → E → D → Type 0
+Stopped {F = F} kind o how did =
+    ((kind.is_outer how ≡ true) × IsFront kind.deeds did o.did)
+    ⊎ ((finish : F) × (how ≡ kind.reported finish) × (o ≡ outcome did (Err finish)))
 
--- What is seen of a program in one place, as the bytes on a link: all this for each exchange, and a prefix of this for a call
--- that gets no answer.
-pub record Sight {Call : Type 0} (Answer : Call → Type 0) (B : Type 0) : Type 0 where
-  pub whole : Exchange Answer → List B
-  pub begun : Call → List B
+-- Code that answers this came to the end of a part with this outcome, or ended within it. That is observed before and after.
+abbrev pub Came : {S D F E O X : Type 0} → ProgramKind S D F E O → Outcome D (X × S) F → Result X E → O → O → Type 0
+Came {S} {D} kind o (Ok x) before after =
+    (s : S) × kind.Stands after s × (did : D) × (o ≡ outcome did (Ok (x, s))) × kind.Shows before did after
+Came {D = D} kind o (Err how) before after = (did : D) × Stopped kind o how did × kind.Shows before did after
 
--- what may be seen of an exchange without its answer is seen first
-abbrev pub IsSight : {Call B : Type 0} {Answer : Call → Type 0} → Sight Answer B → Type 0
-IsSight {B = B} {Answer = Answer} sight = (e : Exchange Answer) → (more : List B) × (sight.whole e ≡ sight.begun e.call ++ more)
-
--- all that is seen of these exchanges
-abbrev pub seen_of : {Call B : Type 0} {Answer : Call → Type 0} → Sight Answer B → List (Exchange Answer) → List B
-seen_of sight run = flat_map sight.whole run
-
--- this may be seen of the call that is to be made next
-abbrev pub MayShow : {Call B X : Type 0} {Answer : Call → Type 0} → Sight Answer B → Dialogue Answer X → List B → Type 0
-MayShow sight (ends x) piece = piece ≡ []
-MayShow {B = B} sight (calls call next) piece = (more : List B) × (sight.begun call ≡ piece ++ more)
-
--- this is seen of a program that made these calls and has this left
-abbrev pub Shows : {Call B X : Type 0} {Answer : Call → Type 0} → Sight Answer B → List (Exchange Answer) → Dialogue Answer X → List B → Type 0
-Shows {B = B} sight run rest seen = (piece : List B) × (seen ≡ seen_of sight run ++ piece) × MayShow sight rest piece
+-- the same wherever the program stood before
+pub record Goes {S D F E O X : Type 0} (kind : ProgramKind S D F E O) (part : Part S D F X) (result : Result X E)
+    (before after : O) : Type 0 where
+  pub came : (s : S) → kind.Stands before s → Came kind (part s) result before after

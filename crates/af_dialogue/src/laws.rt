@@ -1,8 +1,9 @@
 //! Laws of dialogues, each the contract of a function that does nothing. They hold of every kind of calls.
-ghost use Rattle.std.specs.Prelude.{◌≡◌, ◌++◌, ◌∷◌, ◌↔◌, [], List, Bool, true, false, map, not};
+ghost use Rattle.std.specs.Prelude.{◌≡◌, ◌++◌, ◌∷◌, ◌↔◌, [], List, Bool, true, false, map, not, Result};
 ghost use Rattle.af_dialogue.specs.Dialogue.{Dialogue, Exchange, Reaches, Follows, Begins, EndsIn, Parted, dialogue_among, ends, exchange_among, followed_by};
 ghost use Rattle.af_dialogue.specs.Partner.{Partner, Gives, both_partners, calls_of, end_with, run_with, state_after};
-ghost use Rattle.af_dialogue.specs.Parts.{IsSight, Shows, Sight, seen_of};
+ghost use Rattle.af_dialogue.specs.Parts.{exchanges, goes_on, or_ends, part_of};
+ghost use Rattle.af_dialogue.specs.Sight.{IsSight, Shows, Sight, seen_of};
 ghost use Rattle.af_dialogue.specs.Errand.{play_exchange, clock_and_player, errand, is_of_clock, time_exchange};
 
 /// A kind of calls: each says what its answer may be.
@@ -67,6 +68,13 @@ pub fn what_is_seen_is_a_front<C: Calls, S, X, B>()
         (run : List (Exchange C.answer)) (seen : List B) →
         IsSight sight → Follows d run x → Gives partner s run → Shows sight run (ends x) seen →
         seen_of sight (run_with partner s d) ≡ seen }
+{}
+
+/// A dialogue with its partner is a part of a program, and dialogues one after another are parts one after another.
+pub fn a_dialogue_is_a_part<C: Calls, S, X, Y, F>()
+    ensures { (partner : Partner C.answer S) (d : Dialogue C.answer (Result X F)) (next : X → Dialogue C.answer (Result Y F))
+        (s : S) → part_of partner (followed_by d (or_ends next)) s
+        ≡ goes_on exchanges (part_of partner d) (λ x. part_of partner (next x)) s }
 {}
 
 /// A small run: the clock tells 0 and 40, and the player plays nothing before 120. Its calls to the clock are told apart.

@@ -1,5 +1,5 @@
 -- Times in replies are words of 32 bits.
-use Rattle.std.proofs.Common.{◌≡◌, ◌<◌, ◌^◌, ℕ, nat_lt, Bool, true, false, List, drop, sym, ap, ◌∙◌, subst, refl, arith, if◌then◌else◌}
+use Rattle.std.proofs.Common.{◌≡◌, ◌<◌, ◌^◌, ℕ, nat_lt, Bool, true, false, List, drop, subst, refl, arith, if◌then◌else◌}
 use Rattle.std.proofs.lemmas.Bool.Decides.{nat_tests}
 use Rattle.std.specs.Prelude.{Result, Ok, Err, IfOk, option_and_then}
 use Rattle.std.specs.declared.option.Option.{Option}
@@ -12,7 +12,7 @@ use Rattle.af_request.specs.Replies.{answer_in}
 use Rattle.af_lib.specs.declared.fault.ConnFault.{ConnFault}
 use Rattle.af_lib.specs.Answers.{and_then, answer_to, value_or_bad}
 use Rattle.af_lib.specs.Calls.{as_time, next_sequence, opcode_of, value_in, Called, ConnState}
-use Rattle.af_lib.specs.Observed.{BothTold}
+use Rattle.af_lib.proofs.LinkByteLemmas.{BothTold-map}
 use Rattle.af_toolkit.specs.Trace.{ClientState, answer_on, next_message}
 use Rattle.af_relay.specs.Pass.{as_word, word_or_none}
 
@@ -20,30 +20,32 @@ use Rattle.af_relay.specs.Pass.{as_word, word_or_none}
 abbrev IsWord : Result DevTime ConnFault → Type 0
 IsWord r = IfOk r (λ t. t.0 < 2 ^ 32)
 
-is_word : (t : DevTime) → t.0 < 2 ^ 32 → word_or_none t ≡ Some t
-is_word t low =
-    let test : nat_lt t.0 (2 ^ 32) ≡ true = grind (arith, nat_tests) in
-    ap (λ (b : Bool). (let o : Option DevTime = if b then Some t else None in o)) test
+-- An answer that reads a time is the one that reads a word, if its time is a word, as the other's always is.
+record IsReadAlike (by_time by_word : Result DevTime ConnFault) : Type 0 where
+  alike : (r : Result DevTime ConnFault) → IsWord r → r ≡ by_time → r ≡ by_word
+  low : (t : DevTime) → by_word ≡ Ok t → t.0 < 2 ^ 32
 
-by_value : (bytes : List ℕ) (o : Option DevTime) (r : Result DevTime ConnFault) → IsWord r → r ≡ value_or_bad bytes o → r ≡ value_or_bad bytes (option_and_then word_or_none o)
-by_value bytes None r word is = is
-by_value bytes (Some t) r word is =
-    let low : t.0 < 2 ^ 32 = subst (λ (x : Result DevTime ConnFault). IsWord x) is word in
-    is ∙ ap (λ (o : Option DevTime). value_or_bad bytes o) (let same : Some t ≡ word_or_none t = sym (is_word t low) in same)
+alike_time : (bytes : List ℕ) (x : DevTime) (b : Bool) → nat_lt x.0 (2 ^ 32) ≡ b → IsReadAlike (Ok x) (value_or_bad bytes (let o : Option DevTime = if b then Some x else None in o))
+alike_time bytes x true test = record {
+  alike = λ r word is. is;
+  low = λ t is. let low : x.0 < 2 ^ 32 = grind (arith, nat_tests, test) in let same : x ≡ t = cc is in subst (λ (y : DevTime). y.0 < 2 ^ 32) same low;
+}
+alike_time bytes x false test = record {
+  alike = λ r word is. let low : x.0 < 2 ^ 32 = subst (λ (y : Result DevTime ConnFault). IsWord y) is word in absurd (grind (arith, nat_tests, test, low));
+  low = λ t is. cc is;
+}
 
-by_answer : (bytes : List ℕ) (a : Option Answer) (r : Result DevTime ConnFault) → IsWord r → r ≡ value_or_bad bytes (option_and_then as_time a) → r ≡ value_or_bad bytes (option_and_then as_word a)
+alike_answer : (bytes : List ℕ) (a : Option Answer) → IsReadAlike (value_or_bad bytes (option_and_then as_time a)) (value_or_bad bytes (option_and_then as_word a))
 unfolding as_word
-by_answer bytes None r word is = is
-by_answer bytes (Some a) r word is = by_value bytes (as_time a) r word is
+alike_answer bytes None = record { alike = λ r word is. is; low = λ t is. cc is }
+alike_answer bytes (Some a) = elim (as_time a) as (λ (o : Option DevTime). IsReadAlike (value_or_bad bytes o) (value_or_bad bytes (option_and_then word_or_none o))) [
+  | None ↦ record { alike = λ r word is. is; low = λ t is. cc is }
+  | Some x ↦ alike_time bytes x (nat_lt x.0 (2 ^ 32)) refl
+]
 
-by_message : (order : Order) (opcode : ℕ) (m : Result (List ℕ) ConnFault) (r : Result DevTime ConnFault) → IsWord r → r ≡ and_then (value_in order as_time opcode) m → r ≡ and_then (value_in order as_word opcode) m
-by_message order opcode (Ok bytes) r word is = by_answer bytes (answer_in order opcode (drop 8 bytes)) r word is
-by_message order opcode (Err f) r word is = is
-
-both_told : (before after : Option (List ℕ)) (P Q : List ℕ → List ℕ → Type 0) → ((b a : List ℕ) → P b a → Q b a) → BothTold before after P → BothTold before after Q
-both_told before None P Q more told = tt
-both_told None (Some a) P Q more told = told
-both_told (Some b) (Some a) P Q more told = more b a told
+alike_message : (order : Order) (opcode : ℕ) (m : Result (List ℕ) ConnFault) → IsReadAlike (and_then (value_in order as_time opcode) m) (and_then (value_in order as_word opcode) m)
+alike_message order opcode (Ok bytes) = alike_answer bytes (answer_in order opcode (drop 8 bytes))
+alike_message order opcode (Err f) = record { alike = λ r word is. is; low = λ t is. cc is }
 
 -- a call that answers a word answers just that
 pub called_word : {L : Type 0} {left sent : L → Option (List ℕ)} {faults : L → ℕ} {asked : Asked} {old new : ConnState L} {result : Result DevTime ConnFault} → IsWord result →
@@ -52,7 +54,7 @@ called_word {left} {asked} {old} {new} {result} word c = record {
   spent = c.spent;
   untouched = c.untouched;
   sends = c.sends;
-  answers = λ usable sound. both_told (left old.link) (left new.link) _ _ (λ b a told. (by_message old.order (opcode_of asked) _ result word told.0, told.1, told.2)) (c.answers usable sound);
+  answers = λ usable sound. BothTold-map (left old.link) (left new.link) _ _ (c.answers usable sound) (λ b a told. ((alike_message old.order (opcode_of asked) _).alike result word told.0, told.1, told.2));
   gained = c.gained;
   fresh = c.fresh;
   tells = c.tells;
@@ -61,26 +63,6 @@ called_word {left} {asked} {old} {new} {result} word c = record {
   count = c.count;
 }
 
-low_word : (bytes : List ℕ) (x t : DevTime) (b : Bool) → nat_lt x.0 (2 ^ 32) ≡ b → value_or_bad bytes (let o : Option DevTime = if b then Some x else None in o) ≡ Ok t → t.0 < 2 ^ 32
-low_word bytes x t true test is =
-    let same : x ≡ t = cc in
-    let low : x.0 < 2 ^ 32 = grind (arith, nat_tests, test) in
-    subst (λ (y : DevTime). y.0 < 2 ^ 32) same low
-low_word bytes x t false test is = cc
-
-value_low : (bytes : List ℕ) (o : Option DevTime) (t : DevTime) → value_or_bad bytes (option_and_then word_or_none o) ≡ Ok t → t.0 < 2 ^ 32
-value_low bytes None t is = cc
-value_low bytes (Some x) t is = low_word bytes x t (nat_lt x.0 (2 ^ 32)) refl is
-
-answer_low : (bytes : List ℕ) (a : Option Answer) (t : DevTime) → value_or_bad bytes (option_and_then as_word a) ≡ Ok t → t.0 < 2 ^ 32
-unfolding as_word
-answer_low bytes None t is = cc
-answer_low bytes (Some a) t is = value_low bytes (as_time a) t is
-
-message_low : (order : Order) (opcode : ℕ) (m : Result (List ℕ) ConnFault) (t : DevTime) → and_then (value_in order as_word opcode) m ≡ Ok t → t.0 < 2 ^ 32
-message_low order opcode (Ok bytes) t is = answer_low bytes (answer_in order opcode (drop 8 bytes)) t is
-message_low order opcode (Err f) t is = cc
-
 -- a time in a reply is a word
 pub told_low : (asked : Asked) (w : ClientState) (t : DevTime) → answer_on asked as_word w ≡ Ok t → t.0 < 2 ^ 32
-told_low asked w t is = message_low w.order (opcode_of asked) (and_then (answer_to w.order (opcode_of asked) (next_sequence w.sequence)) (next_message w).found) t is
+told_low asked w t is = (alike_message w.order (opcode_of asked) (and_then (answer_to w.order (opcode_of asked) (next_sequence w.sequence)) (next_message w).found)).low t is

@@ -16,6 +16,7 @@ use Rattle.af_lib.specs.declared.fault.ConnFault.{ConnFault}
 use Rattle.af_lib.specs.Calls.{as_done, as_recorded, as_time}
 use Rattle.af_cli.specs.declared.job.PassJob.{PassJob}
 use Rattle.af_cli.specs.Sizes.{block_frames}
+use Rattle.af_dialogue.specs.Parts.{Deeds, Outcome, Part, called, goes_on, has_value}
 use Rattle.af_toolkit.specs.Trace.{Trace, Finish, ClientState, answer_on, after_reply}
 use Rattle.af_toolkit.specs.Trace.{channel_mismatch, done, mismatch, no_device, refused}
 use Rattle.af_relay.specs.declared.pass.RelayPace.{RelayPace}
@@ -56,17 +57,42 @@ abbrev pub relay_after_answer : {X : Type 0} → Result X ConnFault → ClientSt
 relay_after_answer (Ok x) w next = next x w
 relay_after_answer (Err fault) w next = ends_both (refused fault)
 
--- a request is sent on one of the links, and what follows goes by its answer
-unfoldable pub asks_by : {X : Type 0} → (List ℕ → RelayTrace → RelayTrace) → Asked → (Answer → Option X) → ClientState →
-    (X → ClientState → RelayTrace) → RelayTrace
-asks_by sending asked value_of w next =
-    sending (request_bytes w.order asked) (relay_after_answer (answer_on asked value_of w) (after_reply w) next)
+-- what there is of each of the two links
+pub record Both (A : Type 0) : Type 0 where
+  pub from : A
+  pub to : A
 
-abbrev pub asks_from : {X : Type 0} → Asked → (Answer → Option X) → ClientState → (X → ClientState → RelayTrace) → RelayTrace
-asks_from asked value_of v next = asks_by sends_first_from asked value_of v next
+abbrev pub both : {A : Type 0} → A → A → Both A
+both from to = record { from = from; to = to }
 
-abbrev pub asks_to : {X : Type 0} → Asked → (Answer → Option X) → ClientState → (X → ClientState → RelayTrace) → RelayTrace
-asks_to asked value_of w next = asks_by sends_first_to asked value_of w next
+-- bytes that are sent on the two links
+abbrev pub sending : Deeds (Both (List ℕ))
+sending = record { nothing = both [] []; joined = λ s t. both (s.from ++ t.from) (s.to ++ t.to) }
+
+-- A part of a relay goes by how far its two clients have come. It ends with a value, or a fault that ends the relay.
+abbrev pub RelayPart : Type 0 → Type 0
+RelayPart X = Part (Both ClientState) (Both (List ℕ)) ConnFault X
+
+abbrev pub RelayOutcome : Type 0 → Type 0
+RelayOutcome X = Outcome (Both (List ℕ)) (X × Both ClientState) ConnFault
+
+-- a request is sent on one of the links, and its answer is the value
+unfoldable pub asks_from : {X : Type 0} → Asked → (Answer → Option X) → RelayPart X
+asks_from asked value_of at =
+    called (both (request_bytes at.from.order asked) []) (answer_on asked value_of at.from) (both (after_reply at.from) at.to)
+
+unfoldable pub asks_to : {X : Type 0} → Asked → (Answer → Option X) → RelayPart X
+asks_to asked value_of at =
+    called (both [] (request_bytes at.to.order asked)) (answer_on asked value_of at.to) (both at.from (after_reply at.to))
+
+-- the relay that begins with a part, by the outcome of that and what follows its value
+abbrev pub relay_ending : {X : Type 0} → Result (X × Both ClientState) ConnFault → (X → ClientState → ClientState → RelayTrace) →
+    RelayTrace
+relay_ending (Ok y) next = next y.0 y.1.from y.1.to
+relay_ending (Err fault) next = ends_both (refused fault)
+
+abbrev pub relay_of : {X : Type 0} → RelayOutcome X → (X → ClientState → ClientState → RelayTrace) → RelayTrace
+relay_of outcome next = sends_first_from outcome.did.from (sends_first_to outcome.did.to (relay_ending outcome.end next))
 
 -- the time that a reply states: a word of 32 bits
 abbrev pub word_or_none : DevTime → Option DevTime
@@ -103,20 +129,18 @@ after_block passed place frames = record {
 }
 
 -- a block is recorded on the one server, and played on the other
-unfoldable pub passes_block : PassJob → RelayPace → RelayProgress → (v w : ClientState) →
-    (RelayProgress → ClientState → ClientState → RelayTrace) → RelayTrace
-passes_block job pace passed v w next =
-    asks_from (record_run true 1 passed.at.0 pace.size) (as_recorded true pace.size) v (λ r v.
-    asks_to (get_time job.to_device) as_word w (λ now w.
+abbrev pub passes_block : PassJob → RelayPace → RelayProgress → RelayPart RelayProgress
+passes_block job pace passed =
+    goes_on sending (asks_from (record_run true 1 passed.at.0 pace.size) (as_recorded true pace.size)) (λ r.
+    goes_on sending (asks_to (get_time job.to_device) as_word) (λ now.
     let place = moment_of passed.due now pace.delay pace.slack in
-    asks_to (play_run false 1 place.time.0 r.samples) as_time w (λ _ w.
-    next (after_block passed place pace.frames) v w)))
+    goes_on sending (asks_to (play_run false 1 place.time.0 r.samples) as_time) (λ _.
+    has_value sending (after_block passed place pace.frames))))
 
 -- n blocks
-unfoldable pub passes : ℕ → PassJob → RelayPace → RelayProgress → (v w : ClientState) →
-    (RelayProgress → ClientState → ClientState → RelayTrace) → RelayTrace
-passes zero job pace passed v w next = next passed v w
-passes (suc n) job pace passed v w next = passes_block job pace passed v w (λ passed v w. passes n job pace passed v w next)
+abbrev pub passes : ℕ → PassJob → RelayPace → RelayProgress → RelayPart RelayProgress
+passes zero job pace passed = has_value sending passed
+passes (suc n) job pace passed = goes_on sending (passes_block job pace passed) (λ passed. passes n job pace passed)
 
 -- the contexts of a job, of one type and as many channels
 abbrev pub from_context : PassJob → SampleType → (channels : ℕ) → Asked
@@ -126,16 +150,15 @@ abbrev pub to_context : PassJob → SampleType → (channels : ℕ) → Asked
 to_context job ty channels = create_ac job.to_device 1 (code_of ty) channels 0 (pos 0) (pos 0)
 
 -- both contexts are made, and the time of the recorded device is asked for
-unfoldable pub begins_both : PassJob → SampleType → (channels_from channels_to : ℕ) → (v w : ClientState) →
-    (DevTime → ClientState → ClientState → RelayTrace) → RelayTrace
-begins_both job ty channels_from channels_to v w next =
-    asks_from (from_context job ty channels_from) as_done v (λ _ v.
-    asks_to (to_context job ty channels_to) as_done w (λ _ w.
-    asks_from (get_time job.from_device) as_time v (λ now v. next now v w)))
+abbrev pub begins_both : PassJob → SampleType → (channels_from channels_to : ℕ) → RelayPart DevTime
+begins_both job ty channels_from channels_to =
+    goes_on sending (asks_from (from_context job ty channels_from) as_done) (λ _.
+    goes_on sending (asks_to (to_context job ty channels_to) as_done) (λ _.
+    asks_from (get_time job.from_device) as_time))
 
 -- both contexts are freed
-unfoldable pub ends_contexts : (v w : ClientState) → (Unit {0} → ClientState → ClientState → RelayTrace) → RelayTrace
-ends_contexts v w next = asks_from (free_ac 1) as_done v (λ _ v. asks_to (free_ac 1) as_done w (λ _ w. next tt v w))
+abbrev pub ends_contexts : RelayPart (Unit {0})
+ends_contexts = goes_on sending (asks_from (free_ac 1) as_done) (λ _. asks_to (free_ac 1) as_done)
 
 -- the pace of a job, by the bytes of a frame and the rate: the frames and the bytes of a block, and the delay and the slack in
 -- frames
@@ -151,15 +174,26 @@ pace_of job frame rate = record {
 abbrev pub no_progress : DevTime → RelayProgress
 no_progress now = record { at = now; due = None; resynced = 0 }
 
--- all blocks of a job are passed between two devices of one rate and as many channels; what follows gets how often the relay fell
--- in step again
+-- the type of a job's samples, if this device is recorded, and its pace
+abbrev pub type_from : PassJob → DeviceInfo → SampleType
+type_from job device = unwrap_or job.ty device.ty
+
+abbrev pub pace_from : PassJob → DeviceInfo → RelayPace
+pace_from job device = pace_of job (frame_bytes (type_from job device) device.channels) device.rate
+
+-- All blocks of a job are passed between two devices of one rate and as many channels. The value is how often the relay fell in
+-- step again.
+abbrev pub passes_between : PassJob → (from : DeviceInfo) → RelayPart ℕ
+passes_between job device =
+    goes_on sending (begins_both job (type_from job device) device.channels device.channels) (λ now.
+    goes_on sending (passes job.blocks job (pace_from job device) (no_progress now)) (λ passed.
+    goes_on sending ends_contexts (λ _.
+    has_value sending passed.resynced)))
+
+-- the same, and what follows it
 unfoldable pub passed_between : PassJob → (from : DeviceInfo) → (v w : ClientState) →
     (ℕ → ClientState → ClientState → RelayTrace) → RelayTrace
-passed_between job device v w next =
-    let ty = unwrap_or job.ty device.ty in
-    begins_both job ty device.channels device.channels v w (λ now v w.
-    passes job.blocks job (pace_of job (frame_bytes ty device.channels) device.rate) (no_progress now) v w (λ passed v w.
-    ends_contexts v w (λ _ v w. next passed.resynced v w)))
+passed_between job device v w next = relay_of (passes_between job device (both v w)) next
 
 -- what apass writes
 unfoldable pub passed_text : (blocks resynced : ℕ) → List ℕ

@@ -1,53 +1,48 @@
--- How far a relay came in its trace, on each of its two links.
-use Rattle.std.specs.Prelude.{◌≡◌, ◌≤◌, ◌⊎◌, ℕ, List, [], Result, Ok, Err, IsOk, IsSome}
+-- How far a relay came, on each of its two links.
+use Rattle.std.specs.Prelude.{◌≡◌, ◌≤◌, ◌⊎◌, ℕ, List, Result, Err, IsOk, IsSome}
 use Rattle.std.specs.declared.option.Option.{Option}
 use Rattle.std.specs.declared.option.Option.TheVariants.{None, Some}
+use Rattle.af_dialogue.specs.Parts.{Goes, ProgramKind}
 use Rattle.af_io.specs.Observed.{Appended, FaultCounted}
+use Rattle.af_lib.specs.declared.fault.ConnFault.{ConnFault}
 use Rattle.af_lib.specs.Calls.{ConnState}
 use Rattle.af_toolkit.specs.declared.end.ToolEnd.{ToolEnd}
 use Rattle.af_toolkit.specs.declared.end.ToolEnd.TheVariants as end
-use Rattle.af_toolkit.specs.Trace.{ClientState}
-use Rattle.af_toolkit.specs.Ends.{MatchesTrace, client_of}
-use Rattle.af_relay.specs.Pass.{RelayTrace, on_from, on_to, sends_first_from, sends_first_to}
+use Rattle.af_toolkit.specs.Trace.{ClientState, fault_end}
+use Rattle.af_toolkit.specs.Ends.{MatchesTrace, client_of, is_outer}
+use Rattle.af_relay.specs.Pass.{Both, RelayPart, RelayTrace, both, on_from, on_to, sending}
 
--- A part of a relay is a relay with what follows it left open.
-abbrev pub RelayPart : Type 0 → Type 0
-RelayPart X = (X → ClientState → ClientState → RelayTrace) → RelayTrace
+-- a connection as its link tells: the bytes that this has left to give, the client by them, and the bytes that it was sent
+pub record LinkSight : Type 0 where
+  pub left : Option (List ℕ)
+  pub client : List ℕ → ClientState
+  pub sent : Option (List ℕ)
 
--- a relay ended, having sent this on its links, and written nothing
-pub record MatchesRelayTrace (relay : RelayTrace) (how : ToolEnd) (sends_from sends_to : List ℕ) : Type 0 where
-  pub from : MatchesTrace (on_from relay) how sends_from []
-  pub to : MatchesTrace (on_to relay) how sends_to []
+abbrev pub link_sight : {L : Type 0} → (left sent : L → Option (List ℕ)) → ConnState L → LinkSight
+link_sight left sent conn = record { left = left conn.link; client = client_of conn; sent = sent conn.link }
 
--- how a part went, whatever follows it: it came to a value, and what follows goes on from there, or the relay ended
-abbrev pub RelayPartMatches : {X : Type 0} → RelayPart X → Result X ToolEnd → Option (List ℕ) → (List ℕ → ClientState) →
-    Option (List ℕ) → (List ℕ → ClientState) → List ℕ → List ℕ → Type 0
-RelayPartMatches {X} part (Ok x) left_from wire_from left_to wire_to sends_from sends_to =
-    (v w : List ℕ) × (left_from ≡ Some v) × (left_to ≡ Some w)
-    × ((next : X → ClientState → ClientState → RelayTrace) →
-    part next ≡ sends_first_from sends_from (sends_first_to sends_to (next x (wire_from v) (wire_to w))))
-RelayPartMatches {X} part (Err how) left_from wire_from left_to wire_to sends_from sends_to =
-    (next : X → ClientState → ClientState → RelayTrace) → MatchesRelayTrace (part next) how sends_from sends_to
+-- the client of a link that is observable has come so far
+abbrev pub IsClientOf : LinkSight → ClientState → Type 0
+IsClientOf link client = (input : List ℕ) × (link.left ≡ Some input) × (client ≡ link.client input)
 
--- the same by what the links were sent, before and after
-pub record ObservedRelayPart {X : Type 0} (part : RelayPart X) (result : Result X ToolEnd)
-    (left_from : Option (List ℕ)) (wire_from : List ℕ → ClientState) (from from' : Option (List ℕ))
-    (left_to : Option (List ℕ)) (wire_to : List ℕ → ClientState) (to to' : Option (List ℕ)) : Type 0 where
-  pub sends_from : List ℕ
-  pub sends_to : List ℕ
-  pub came : RelayPartMatches part result left_from wire_from left_to wire_to sends_from sends_to
-  pub link_from : Appended from sends_from from'
-  pub link_to : Appended to sends_to to'
+-- Relays, as programs: a fault ends one as any tool, and each of its links shows what was sent on it.
+abbrev pub relaying : ProgramKind (Both ClientState) (Both (List ℕ)) ConnFault ToolEnd (Both LinkSight)
+relaying = record {
+  deeds = sending;
+  reported = fault_end;
+  is_outer = is_outer;
+  Stands = λ links at. IsClientOf links.from at.from × IsClientOf links.to at.to;
+  Shows = λ links did links'.
+      Appended links.from.sent did.from links'.from.sent × Appended links.to.sent did.to links'.to.sent;
+}
 
--- The same over two connections whose links are observable: the part begins where the connections stand.
-abbrev pub ObservedRelayPartOver : {L M X : Type 0} → (left_from sent_from : L → Option (List ℕ)) →
-    (left_to sent_to : M → Option (List ℕ)) →
-    (from from' : ConnState L) → (to to' : ConnState M) → (ClientState → ClientState → RelayPart X) → Result X ToolEnd → Type 0
-ObservedRelayPartOver left_from sent_from left_to sent_to from from' to to' part result =
-    (v w : List ℕ) → left_from from.link ≡ Some v → left_to to.link ≡ Some w →
-    ObservedRelayPart (part (client_of from v) (client_of to w)) result (left_from from'.link) (client_of from')
-    (sent_from from.link) (sent_from from'.link)
-    (left_to to'.link) (client_of to') (sent_to to.link) (sent_to to'.link)
+-- a part of a relay over two connections went so
+abbrev pub GoesBetween : {L M X : Type 0} → (left_from sent_from : L → Option (List ℕ)) →
+    (left_to sent_to : M → Option (List ℕ)) → (from from' : ConnState L) → (to to' : ConnState M) → RelayPart X →
+    Result X ToolEnd → Type 0
+GoesBetween left_from sent_from left_to sent_to from from' to to' part result = Goes relaying part result
+    (both (link_sight left_from sent_from from) (link_sight left_to sent_to to))
+    (both (link_sight left_from sent_from from') (link_sight left_to sent_to to'))
 
 -- two counts of faults never fall, and one of them has risen if this failed
 abbrev pub CountsEither : Type 0 → (before now other other' : ℕ) → Type 0

@@ -1,11 +1,10 @@
 -- What a relay has passed when it is done: which bytes it recorded and played, and when.
 use Rattle.std.specs.Prelude.{◌≡◌, ◌+◌, ◌%◌, ◌^◌, ◌==◌, if◌then◌else◌, ⊤, ℕ, zero, suc, Bool, true, false}
-use Rattle.std.specs.Prelude.{List, [], ◌∷◌, ◌++◌, length, slice_get, unwrap_or, Result, Ok, Err}
+use Rattle.std.specs.Prelude.{List, [], ◌∷◌, ◌++◌, length, map, slice_get, Result, Ok, Err}
+use Rattle.std.specs.List.{flat_map}
 use Rattle.std.specs.declared.option.Option.{Option}
 use Rattle.std.specs.declared.option.Option.TheVariants.{None, Some}
 use Rattle.af_time.specs.declared.DevTime.{DevTime}
-use Rattle.af_sample.specs.declared.sample_type.SampleType.{SampleType}
-use Rattle.af_sample.specs.SampleTypes.{frame_bytes}
 use Rattle.af_io.specs.Observed.{Appended}
 use Rattle.af_wire.specs.declared.order.Order.{Order}
 use Rattle.af_request.specs.declared.reply.DeviceInfo.{DeviceInfo}
@@ -16,7 +15,7 @@ use Rattle.af_lib.specs.Calls.{Recorded, as_recorded, as_time}
 use Rattle.af_cli.specs.declared.job.PassJob.{PassJob}
 use Rattle.af_toolkit.specs.Trace.{ClientState, answer_on, after_reply}
 use Rattle.af_relay.specs.declared.pass.RelayPace.{RelayPace}
-use Rattle.af_relay.specs.Pass.{time_after, as_word, from_context, pace_of, passed_text, to_context}
+use Rattle.af_relay.specs.Pass.{time_after, as_word, from_context, pace_from, passed_text, to_context, type_from}
 
 -- a block that was passed: the other server's time before it, when it was played, and its bytes
 pub record PassedBlock : Type 0 where
@@ -25,16 +24,14 @@ pub record PassedBlock : Type 0 where
   pub samples : List ℕ
 
 -- the bytes that were played
-unfoldable pub samples_of : List PassedBlock → List (List ℕ)
-samples_of [] = []
-samples_of (b ∷ blocks) = b.samples ∷ samples_of blocks
+abbrev pub samples_of : List PassedBlock → List (List ℕ)
+samples_of blocks = map (λ b. b.samples) blocks
 
 -- what is sent for these blocks on the link that is played on
-unfoldable pub play_requests : Order → PassJob → List PassedBlock → List ℕ
-play_requests order job [] = []
-play_requests order job (b ∷ blocks) =
-    request_bytes order (get_time job.to_device) ++ request_bytes order (play_run false 1 b.time.0 b.samples)
-    ++ play_requests order job blocks
+abbrev pub play_requests : Order → PassJob → List PassedBlock → List ℕ
+play_requests order job blocks =
+    flat_map (λ b.
+    request_bytes order (get_time job.to_device) ++ request_bytes order (play_run false 1 b.time.0 b.samples)) blocks
 
 -- n record requests, each of a block: the first records from a time on, and each other from a block later
 unfoldable pub record_requests : Order → ℕ → RelayPace → DevTime → List ℕ
@@ -73,14 +70,6 @@ unfoldable pub AreTold : PassJob → ClientState → List PassedBlock → Type 0
 AreTold job w [] = ⊤
 AreTold job w (b ∷ blocks) =
     (answer_on (get_time job.to_device) as_word w ≡ Ok b.told) × AreTold job (after_reply (after_reply w)) blocks
-
--- the type of a job's samples, if this device is recorded
-abbrev pub type_from : PassJob → DeviceInfo → SampleType
-type_from job device = unwrap_or job.ty device.ty
-
--- the pace of a job, if this device is recorded
-abbrev pub pace_from : PassJob → DeviceInfo → RelayPace
-pace_from job device = pace_of job (frame_bytes (type_from job device) device.channels) device.rate
 
 -- What a relay has sent and written that passed all blocks of its job from a device, by what its links gave. The bytes of each
 -- play are those of the record reply with its number. Each play's time is the one before plus the block, except at exactly as

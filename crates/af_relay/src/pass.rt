@@ -3,7 +3,7 @@ ghost use Rattle.std.specs.Prelude.{◌≡◌, ◌<◌, ◌≤◌, ◌+◌, ◌^
 ghost use Rattle.std.specs.declared.option.Option.TheVariants.{None};
 ghost use Rattle.af_toolkit.specs.Ends.{is_of_link};
 ghost use Rattle.af_relay.specs.Pass.{has_drifted, in_step, no_progress, after_block, passes, passes_block, moment_of};
-ghost use Rattle.af_relay.specs.RelayParts.{ObservedRelayPartOver, KeepsConnections};
+ghost use Rattle.af_relay.specs.RelayParts.{GoesBetween, KeepsConnections};
 ghost use Rattle.af_cli.specs.Sizes.{greatest_block};
 
 use af_cli::PassJob;
@@ -107,8 +107,8 @@ fn pass_block<L: Link + Drop, M: Link + Drop>(
     requires block { (length block.old ≡ plan.now.pace.size) × (length block.old ≤ greatest_block) }
     requires pace { plan.now.pace.delay < 2 ^ 40 }
     requires few { passed.resynced + 1 < 2 ^ 32 }
-    ensures goes { ObservedRelayPartOver L.left L.sent M.left M.sent from.old from.new to.old to.new
-        (λ v w. passes_block plan.now.job plan.now.pace passed v w) result }
+    ensures goes { GoesBetween L.left L.sent M.left M.sent from.old from.new to.old to.new
+        (passes_block plan.now.job plan.now.pace passed) result }
     ensures holds { KeepsConnections L.left L.faults M.left M.faults from.old from.new to.old to.new result }
     ensures end { IfErr result (λ how. is_of_link how ≡ true) }
     ensures few { IfOk result (λ p. p.resynced ≤ passed.resynced + 1) }
@@ -132,8 +132,8 @@ pub fn pass_blocks<L: Link + Drop, M: Link + Drop>(
     requires usable { (from.old.cause ≡ None) × (to.old.cause ≡ None) }
     requires block { (length block.old ≡ plan.now.pace.size) × (length block.old ≤ greatest_block) }
     requires pace { plan.now.pace.delay < 2 ^ 40 }
-    ensures goes { ObservedRelayPartOver L.left L.sent M.left M.sent from.old from.new to.old to.new
-        (λ v w. passes plan.now.job.blocks plan.now.job plan.now.pace (no_progress start) v w) result }
+    ensures goes { GoesBetween L.left L.sent M.left M.sent from.old from.new to.old to.new
+        (passes plan.now.job.blocks plan.now.job plan.now.pace (no_progress start)) result }
     ensures holds { KeepsConnections L.left L.faults M.left M.faults from.old from.new to.old to.new result }
     ensures end { IfErr result (λ how. is_of_link how ≡ true) }
 {

@@ -7,11 +7,11 @@ ghost use Rattle.af_sample.specs.Channels.{IsChannelCount};
 ghost use Rattle.af_request.specs.Replies.{IsDeviceInfo};
 ghost use Rattle.af_lib.specs.Calls.{device_channels};
 ghost use Rattle.af_toolkit.specs.Ends.{is_of_link, is_of_report, Reports};
-ghost use Rattle.af_relay.specs.RelayParts.{CountsEither, ObservedRelayPartOver, KeepsConnections};
+ghost use Rattle.af_relay.specs.RelayParts.{CountsEither, GoesBetween, KeepsConnections};
 ghost use Rattle.af_relay.specs.Pair.{is_of_pass, pair_of, EndsByPair, HaveChannels};
 ghost use Rattle.af_relay.specs.Results.{RunsBetween};
 ghost use Rattle.af_cli.specs.Ranges.{IsPaced};
-ghost use Rattle.af_relay.specs.Pass.{begins_both, ends_contexts, pace_of, passed_between, passed_text};
+ghost use Rattle.af_relay.specs.Pass.{begins_both, ends_contexts, pace_of, passes_between, passed_text};
 ghost use Rattle.af_cli.specs.Sizes.{greatest_block};
 
 use crate::pass::{RelayPace, RelayPlan, pass_blocks};
@@ -48,9 +48,9 @@ fn begin_both<L: Link + Drop, M: Link + Drop>(
     to: &mut Conn<M>,
 ) -> Result<DevTime, ToolEnd>
     requires usable { (from.old.cause ≡ None) × (to.old.cause ≡ None) }
-    ensures goes { ObservedRelayPartOver L.left L.sent M.left M.sent from.old from.new to.old to.new
-        (λ v w. begins_both job.now ty (device_channels from.old.devices job.now.from_device)
-        (device_channels to.old.devices job.now.to_device) v w) result }
+    ensures goes { GoesBetween L.left L.sent M.left M.sent from.old from.new to.old to.new
+        (begins_both job.now ty (device_channels from.old.devices job.now.from_device)
+        (device_channels to.old.devices job.now.to_device)) result }
     ensures holds { KeepsConnections L.left L.faults M.left M.faults from.old from.new to.old to.new result }
     ensures end { IfErr result (λ how. is_of_link how ≡ true) }
 {
@@ -66,8 +66,7 @@ fn finish_both<L: Link + Drop, M: Link + Drop>(
     to: &mut Conn<M>,
 ) -> Result<(), ToolEnd>
     requires usable { (from.old.cause ≡ None) × (to.old.cause ≡ None) }
-    ensures goes { ObservedRelayPartOver L.left L.sent M.left M.sent from.old from.new to.old to.new
-        (λ v w. ends_contexts v w) result }
+    ensures goes { GoesBetween L.left L.sent M.left M.sent from.old from.new to.old to.new ends_contexts result }
     ensures holds { KeepsConnections L.left L.faults M.left M.faults from.old from.new to.old to.new result }
     ensures end { IfErr result (λ how. is_of_link how ≡ true) }
 {
@@ -90,8 +89,8 @@ fn pass_between<L: Link + Drop, M: Link + Drop>(
     requires alike { HaveChannels job.now from.old.devices to.old.devices device.channels }
     requires count { IsChannelCount device.channels }
     requires room { greatest_block ≤ length room.old }
-    ensures goes { ObservedRelayPartOver L.left L.sent M.left M.sent from.old from.new to.old to.new
-        (λ v w. passed_between job.now device v w) result }
+    ensures goes { GoesBetween L.left L.sent M.left M.sent from.old from.new to.old to.new
+        (passes_between job.now device) result }
     ensures holds { KeepsConnections L.left L.faults M.left M.faults from.old from.new to.old to.new result }
     ensures end { IfErr result (λ how. is_of_link how ≡ true) }
 {

@@ -1,4 +1,4 @@
-use Rattle.af_dialogue.proofs.PartLemmas.{shows_front, shows_whole}
+use Rattle.af_dialogue.proofs.SightLemmas.{shows_front, shows_whole}
 use Rattle.af_dialogue.proofs.laws.what_is_seen_is_a_front.Goals as goal
 
 pub returns : goal.returns

@@ -1,8 +1,8 @@
-use Rattle.std.proofs.Common.{◌≡◌, ◌≤◌, ◌+◌, ℕ, List, length, IsSome}
-use Rattle.std.specs.declared.option.Option.TheVariants.{None, Some}
-use Rattle.af_toolkit.specs.Ends.{client_of}
-use Rattle.af_relay.proofs.PassedBlockLemmas.{left_to_pass}
-use Rattle.af_relay.proofs.RelayPartLemmas.{ReachesBoth}
+use Rattle.std.proofs.Common.{◌≡◌, ◌≤◌, ◌+◌, length, IsSome}
+use Rattle.std.specs.declared.option.Option.TheVariants.{None}
+use Rattle.af_dialogue.proofs.PartLemmas.{Reached}
+use Rattle.af_relay.specs.Pass.{both, passes}
+use Rattle.af_relay.specs.RelayParts.{link_sight, relaying}
 use Rattle.af_relay.proofs.pass.pass_blocks.Given as goal
 
 abbrev pub invariant-loop-left : goal.invariant-loop-left
@@ -15,9 +15,9 @@ invariant-loop-left g l = record {
   count_to : g.M.Link.faults l.initial.to.link ≤ g.M.Link.faults l.to.link;
   size : length l.block ≡ length l.initial.block;
   few : l.passed.resynced + l.left ≤ l.plan.job.blocks;
-  passing : (v w : List ℕ) → g.L.Link.left l.initial.from.link ≡ Some v → g.M.Link.left l.initial.to.link ≡ Some w →
-      ReachesBoth (left_to_pass l.plan.job.blocks l.plan.job l.plan.pace l.initial.passed (client_of l.initial.from v) (client_of l.initial.to w)) (left_to_pass l.left l.plan.job l.plan.pace l.passed)
-      (g.L.Link.left l.from.link) (client_of l.from) (g.L.Link.sent l.initial.from.link) (g.L.Link.sent l.from.link) (g.M.Link.left l.to.link) (client_of l.to) (g.M.Link.sent l.initial.to.link) (g.M.Link.sent l.to.link);
+  passing : Reached relaying (passes l.plan.job.blocks l.plan.job l.plan.pace l.initial.passed) (passes l.left l.plan.job l.plan.pace l.passed)
+      (both (link_sight g.L.Link.left g.L.Link.sent l.initial.from) (link_sight g.M.Link.left g.M.Link.sent l.initial.to))
+      (both (link_sight g.L.Link.left g.L.Link.sent l.from) (link_sight g.M.Link.left g.M.Link.sent l.to));
 }
 
 abbrev pub decreases-loop-left : goal.decreases-loop-left

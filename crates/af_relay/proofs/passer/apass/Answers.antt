@@ -1,8 +1,7 @@
 use Rattle.std.proofs.Common.{refl}
 use Rattle.af_toolkit.specs.Ends.{is_of_link, is_of_report, client_of}
-use Rattle.af_relay.specs.Pass.{passed_between, passed_text}
 use Rattle.af_relay.proofs.RelayedLemmas.{between_ran}
-use Rattle.af_relay.proofs.RelayEndLemmas.{apart_ran, apass_there, both_followed_on, both_followed_stop, ends_apart, ends_together, pair_alike, reports}
+use Rattle.af_relay.proofs.RelayEndLemmas.{apart_ran, between_reported, between_stopped, ends_apart, ends_together, pair_alike}
 use Rattle.af_relay.proofs.passer.apass.Goals as goal
 
 pub returns-in-Err-clause-ran : goal.returns-in-Err-clause-ran
@@ -17,27 +16,13 @@ pass_between-requires-clause-alike g c = pair_alike c.args.job.now c.args.from.n
 
 pub returns-in-Ok-pass_between-clause-ran : goal.returns-in-Ok-pass_between-clause-ran
 returns-in-Ok-pass_between-clause-ran g c v w told_from told_to =
-    let job = c.args.job.now in
-    let from = c.args.from.now.devices in
-    let to = c.args.to.now.devices in
-    let device = c.in-Ok.device in
-    let v0 = client_of c.args.from.now v in
-    let w0 = client_of c.args.to.now w in
-    let f = both_followed_on (passed_between job device v0 w0) (reports job) c.in-Ok-pass_between.resynced (passed_text job.blocks c.in-Ok-pass_between.resynced)
-    (apass_there job from to v0 w0 device c.in-Ok.ensures.value) (λ v w. refl) (c.in-Ok-pass_between.ensures.goes v w told_from told_to) (c.report.ensures.followed _) in
-    between_ran job from to v0 w0 device f c.in-Ok.ensures.value c.in-Ok.ensures.stated c.requires.range
+    let went = between_reported c.args.job.now c.in-Ok.device _ _ c.in-Ok-pass_between.ensures.goes (v, told_from, refl) (w, told_to, refl) (c.report.ensures.followed _) in
+    between_ran c.args.job.now _ _ _ _ c.in-Ok.device went c.in-Ok.ensures.value c.in-Ok.ensures.stated c.requires.range
 
 pub returns-in-Err-pass_between-clause-ran : goal.returns-in-Err-pass_between-clause-ran
 returns-in-Err-pass_between-clause-ran g c v w told_from told_to =
-    let job = c.args.job.now in
-    let from = c.args.from.now.devices in
-    let to = c.args.to.now.devices in
-    let device = c.in-Ok.device in
-    let v0 = client_of c.args.from.now v in
-    let w0 = client_of c.args.to.now w in
-    let f = both_followed_stop (passed_between job device v0 w0) (reports job)
-    (apass_there job from to v0 w0 device c.in-Ok.ensures.value) (c.in-Err-pass_between.ensures.goes v w told_from told_to) in
-    between_ran job from to v0 w0 device f c.in-Ok.ensures.value c.in-Ok.ensures.stated c.requires.range
+    let went = between_stopped c.args.job.now c.in-Ok.device _ _ c.in-Err-pass_between.ensures.goes (v, told_from, refl) (w, told_to, refl) in
+    between_ran c.args.job.now _ _ _ _ c.in-Ok.device went c.in-Ok.ensures.value c.in-Ok.ensures.stated c.requires.range
 
 pub returns-in-Ok-pass_between-clause-apart : goal.returns-in-Ok-pass_between-clause-apart
 returns-in-Ok-pass_between-clause-apart g c = ends_together c.in-Ok.device _ _ c.in-Ok.ensures.value is_of_report c.report.ensures.end (λ n. refl) (λ m n. refl) (λ m n. refl)

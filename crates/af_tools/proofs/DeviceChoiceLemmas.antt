@@ -1,24 +1,20 @@
 -- A tool on a device that is there, or not.
-use Rattle.std.proofs.Common.{◌≡◌, ℕ, ◌<◌, ◌≤◌, ◌↔◌, List, [], length, slice_get, sym, ap, ◌∙◌, subst, refl, arith, inl, inr}
-use Rattle.std.specs.Prelude.{Result, Ok, Err}
-use Rattle.std.proofs.lemmas.Option.{slice_get_cases}
-use Rattle.std.specs.declared.option.Option.{Option}
-use Rattle.std.specs.declared.option.Option.TheVariants.{None, Some}
+use Rattle.std.proofs.Common.{◌≡◌, ℕ, ◌<◌, ◌≤◌, ◌↔◌, List, [], length, slice_get, sym, ap, ◌∙◌, subst, refl, arith, inl, inr, Result, Ok, Err, Option, None, Some}
+use Rattle.std.proofs.lemmas.Option.{slice_get_cases, none-some, same_Some, slice_get_within}
 use Rattle.af_request.specs.declared.reply.DeviceInfo.{DeviceInfo}
 use Rattle.af_request.specs.Replies.{IsDeviceInfo}
 use Rattle.af_toolkit.specs.declared.end.ToolEnd.{ToolEnd}
 use Rattle.af_toolkit.specs.declared.end.ToolEnd.TheVariants as end
 use Rattle.af_cli.specs.declared.job.PlayJob.{PlayJob}
-use Rattle.af_toolkit.specs.Trace.{Trace, ClientState, done, ends, no_device, on_device, writes_first}
+use Rattle.af_toolkit.specs.Trace.{Trace, ClientState, done, ends, no_device, with_job_device, writes_first}
 use Rattle.af_toolkit.specs.Device.{device_or_end}
 use Rattle.af_toolkit.specs.Talk.{creates}
 use Rattle.af_toolkit.specs.declared.talk.ToolContext.{ToolContext}
 use Rattle.af_lib.specs.Calls.{device_channels}
 use Rattle.af_request.specs.Asked.{Asked}
 use Rattle.af_tools.specs.declared.sound.SourceSound.{SourceSound}
-use Rattle.af_tools.specs.Play.{aplay_trace, played_text, plays_on}
+use Rattle.af_tools.specs.Play.{played_text, plays_on}
 use Rattle.af_toolkit.specs.Ends.{ObservedTrace}
-use Rattle.af_tools.specs.Sounds.{reads_sound}
 use Rattle.af_io.proofs.AppendedLemmas.{appended_none}
 use Rattle.af_toolkit.proofs.TracePartLemmas.{ended_at_once}
 
@@ -40,61 +36,43 @@ device_none : (o : Option DeviceInfo) (n : ℕ) (how : ToolEnd) → (let r : Res
 device_none None n how is = (refl, cc)
 device_none (Some d) n how is = cc
 
-some_none : (device : DeviceInfo) → (let o : Option DeviceInfo = Some device in o ≡ None) → ⊥
-some_none device e = cc
-
 pub is_there : (devices : List DeviceInfo) (number : ℕ) (device : DeviceInfo) → (let r : Result DeviceInfo ToolEnd = Ok device in r ≡ device_or_end (slice_get devices number) (length devices)) → IsThere devices number device
 is_there devices number device is =
     let get = device_some (slice_get devices number) (length devices) device is in
-    elim ((slice_get_cases devices number).1) [
-      | inl within ↦ record { get = get; within = within.1 }
-      | inr beyond ↦ absurd (let none = beyond.1 in some_none device (sym get ∙ none))
-    ]
+    record { get = get; within = slice_get_within devices number device get }
 
 pub is_missing : (devices : List DeviceInfo) (number : ℕ) (how : ToolEnd) → (let r : Result DeviceInfo ToolEnd = Err how in r ≡ device_or_end (slice_get devices number) (length devices)) → IsMissing devices number how
 is_missing devices number how is =
     let get = device_none (slice_get devices number) (length devices) how is in
     elim ((slice_get_cases devices number).1) [
-      | inl within ↦ absurd (some_none within.0 (sym within.2 ∙ get.0))
+      | inl within ↦ absurd (none-some within.0 (sym get.0 ∙ within.2))
       | inr beyond ↦ record { get = get.0; beyond = beyond.0; way = get.1 }
     ]
 
 -- the device with a number is one that may be stated
 pub stated_at : (devices : List DeviceInfo) (number : ℕ) (device : DeviceInfo) → slice_get devices number ≡ Some device → IsDeviceInfo device → (d : DeviceInfo) → slice_get devices number ≡ Some d → IsDeviceInfo d
 stated_at devices number device there stated d get =
-    let both : Some device ≡ Some d = sym there ∙ get in
-    let same : device ≡ d = cc in
-    subst IsDeviceInfo same stated
+    subst IsDeviceInfo (same_Some device d (sym there ∙ get)) stated
 
 pub missing_at : (devices : List DeviceInfo) (number : ℕ) → slice_get devices number ≡ None → (d : DeviceInfo) → slice_get devices number ≡ Some d → IsDeviceInfo d
-missing_at devices number none d get = absurd (some_none d (sym get ∙ none))
+missing_at devices number none d get = absurd (none-some d (sym none ∙ get))
 
 -- a sound is played on a device, and then that is written
 abbrev pub reported : PlayJob → DeviceInfo → ClientState → SourceSound → List ℕ → Trace
 reported job device w sound bytes = plays_on job sound device bytes w (λ frames start _. writes_first (played_text frames start) (ends done))
 
-module _ (devices : List DeviceInfo) (w : ClientState) where
-  pub aplay_there : (job : PlayJob) (bytes : List ℕ) (device : DeviceInfo) → slice_get devices job.device ≡ Some device →
-      aplay_trace job devices bytes w ≡ reads_sound job.form job device bytes (reported job device w)
-  unfolding aplay_trace
-  aplay_there job bytes device get = ap (λ (o : Option DeviceInfo). on_device o (length devices) (λ device. reads_sound job.form job device bytes (reported job device w))) get
-
-  pub aplay_missing : (job : PlayJob) (bytes : List ℕ) → slice_get devices job.device ≡ None → aplay_trace job devices bytes w ≡ ends (no_device (length devices))
-  unfolding aplay_trace
-  aplay_missing job bytes get = ap (λ (o : Option DeviceInfo). on_device o (length devices) (λ device. reads_sound job.form job device bytes (reported job device w))) get
-
 pub followed_same : (c d : Trace) (how : ToolEnd) (s s' h h' : Option (List ℕ)) → d ≡ c → ObservedTrace c how s s' h h' → ObservedTrace d how s s' h h'
 followed_same c d how s s' h h' is f = subst (λ (x : Trace). ObservedTrace x how s s' h h') (sym is) f
 
--- a tool whose device does not exist sends and writes nothing
-pub followed_missing : (trace : Trace) (n : ℕ) (how : ToolEnd) (s h : Option (List ℕ)) → trace ≡ ends (no_device n) → how ≡ end.NoDevice n → ObservedTrace trace how s s h h
-followed_missing trace n how s h is way = followed_same (ends (no_device n)) trace how s s h h is (record {
-  sends = [];
-  output = [];
-  ended = ended_at_once (ends (no_device n)) how [] [] refl refl way;
-  link = appended_none s;
-  sink = appended_none h;
-})
+module _ {trace : Trace} {number : ℕ} {devices : List DeviceInfo} (each : DeviceInfo → Trace) (is : trace ≡ with_job_device number devices each) where
+  -- a tool whose device exists follows its trace on that
+  pub followed_there : {device : DeviceInfo} {how : ToolEnd} {s s' h h' : Option (List ℕ)} → IsThere devices number device → ObservedTrace (each device) how s s' h h' → ObservedTrace trace how s s' h h'
+  followed_there t f = rw (is, t.get) f
+
+  -- one whose device does not exist sends and writes nothing
+  pub followed_missing : {how : ToolEnd} {s h : Option (List ℕ)} → IsMissing devices number how → ObservedTrace trace how s s h h
+  followed_missing {how} {s} {h} m =
+      rw (is, m.get) (record { sends = []; output = []; ended = ended_at_once (ends (no_device (length devices))) how [] [] refl refl m.way; link = appended_none s; sink = appended_none h })
 
 number_of : (a b : ℕ) → end.NoDevice a ≡ end.NoDevice b → a ≡ b
 number_of a b e = cc

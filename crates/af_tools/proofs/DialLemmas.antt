@@ -1,8 +1,5 @@
 -- Tools that dial: one server, or the two of a relay.
-use Rattle.std.proofs.Common.{◌≡◌, ◌==◌, ℕ, ◌≤◌, ◌⊎◌, inl, inr, Bool, true, false, List, [], ◌∷◌, ◌++◌, length, slice_get, sym, ap, ◌∙◌, subst, refl, if◌then◌else◌, append-nil, ◌≢◌, ◌+◌, ◌-◌, nat_lt, drop, length-drop, arith, length-append}
-use Rattle.std.specs.Prelude.{Result, Ok, Err}
-use Rattle.std.specs.declared.option.Option.{Option}
-use Rattle.std.specs.declared.option.Option.TheVariants.{None, Some}
+use Rattle.std.proofs.Common.{◌≡◌, ℕ, ◌≤◌, ◌⊎◌, inl, inr, true, false, List, [], ◌∷◌, ◌++◌, length, sym, ap, ◌∙◌, subst, refl, append-nil, ◌+◌, arith, length-append, Result, Ok, Err, Option, None, Some}
 use Rattle.clap.specs.Words.{Text}
 use Rattle.af_io.specs.Observed.{Appended}
 use Rattle.af_io.specs.Dial.{AppendedBack, IsFirstOf, ToldLink}
@@ -17,38 +14,25 @@ use Rattle.af_toolkit.specs.declared.end.ToolEnd.{ToolEnd}
 use Rattle.af_toolkit.specs.declared.end.ToolEnd.TheVariants as end
 use Rattle.af_cli.specs.declared.job.PassJob.{PassJob}
 use Rattle.af_cli.specs.declared.job.Task.{Task}
-use Rattle.af_toolkit.specs.Trace.{Trace, ClientState, new_client, channel_mismatch, connects, fault_end, mismatch, client_after_setup, setup_answer, Finish, after_answer, bad_sound, done, ends, no_device, not_dialled, on_device, refused, sound_cut, too_long, writes_first}
+use Rattle.af_toolkit.specs.Trace.{Trace, ClientState, new_client, connects, fault_end, client_after_setup, setup_answer, Finish, done, not_dialled, refused, too_long}
 use Rattle.af_relay.specs.RelayParts.{ObservedRelayTrace}
-use Rattle.af_tools.specs.Run.{RelayedOver, as_relay, connects_by, dials_to, relay_trace, IsEarly, IsServed, JobRan, RelayRanTo, one_trace, run_trace, task_trace}
+use Rattle.af_tools.specs.Run.{RelayedOver, as_relay, connects_by, dials_to, is_of_job, job_reads, relay_trace, IsEarly, IsServed, JobRan, RelayRanTo, one_trace, run_trace, task_trace}
+use Rattle.af_tools.specs.Reading.{TellsIfRead, UsesSource}
+use Rattle.af_tools.specs.Results.{is_unfit}
 use Rattle.af_toolkit.specs.Ends.{MatchesTrace, ObservedTrace, is_outer}
-use Rattle.af_relay.specs.Pass.{RelayTrace, apass_trace, of_one_shape, ends_both, on_from, on_one, on_to, passed_between, relay_after_answer, sends_first_from, sends_first_to}
+use Rattle.af_relay.specs.Pass.{RelayTrace, apass_trace, on_from, on_to, relay_after_answer, sends_first_from, sends_first_to}
 use Rattle.af_tools.specs.Limits.{most_bytes}
 use Rattle.af_cli.specs.Words.{Job, one, relay}
+use Rattle.af_io.proofs.ConsumedLemmas.{consumed_known}
 use Rattle.af_io.proofs.AppendedLemmas.{appended_none, appended_on}
 use Rattle.af_toolkit.proofs.TracePartLemmas.{ended_then, ended_early}
-use Rattle.af_toolkit.proofs.ToolEndLemmas.{done_unless_outer, IsDoneOrRefused, ends_as}
+use Rattle.af_toolkit.proofs.ToolEndLemmas.{done_unless_outer, ends_as}
 use Rattle.af_toolkit.proofs.FollowedLemmas.{ended_same}
+use Rattle.af_tools.proofs.EndLemmas.{never}
 use Rattle.af_tools.proofs.SetupTraceLemmas.{setup_known}
 use Rattle.af_relay.proofs.RelayPartLemmas.{is_from, is_to, one_goes}
-use Rattle.af_relay.proofs.RelayEndLemmas.{between_finish, reports}
-use Rattle.std.proofs.lemmas.Bool.Decides.{nat_tests}
 use Rattle.af_cli.specs.declared.job.Task.TheVariants as task
-use Rattle.af_sound.specs.declared.head.HeadStep.{HeadStep}
-use Rattle.af_sound.specs.declared.head.HeadStep.TheVariants as step
-use Rattle.af_sound.specs.declared.head.SoundFault.{SoundFault}
 use Rattle.af_sound.specs.declared.head.SoundForm.{SoundForm}
-use Rattle.af_sound.specs.declared.head.SoundHead.{SoundHead}
-use Rattle.af_sound.specs.Fronts.{front_of}
-use Rattle.af_sound.proofs.FrontLemmas.{front, front_has_fault, front_is_head, front_is_whole}
-use Rattle.af_cli.specs.declared.job.PlayJob.{PlayJob}
-use Rattle.af_tools.specs.declared.sound.SourceSound.{SourceSound}
-use Rattle.af_tools.specs.Sounds.{at_one_shape, after_header, file_sound, raw_sound, reads_sound}
-use Rattle.af_tools.specs.Play.{aplay_trace, played_text}
-use Rattle.af_tools.specs.Record.{arecord_trace}
-use Rattle.af_standing.specs.ControlsReport.{controls_report_text}
-use Rattle.af_standing.proofs.ListLemmas.{list_finish}
-use Rattle.af_tools.specs.Set.{aset_trace}
-use Rattle.af_tools.proofs.TraceEndLemmas.{played_finish, recorded_finish, set_finish}
 
 -- what a link was sent in all is its entry
 pub consumed_entry : (back back' : Option (List (List ℕ))) (before after : Option (List ℕ)) (first sends : List ℕ) → before ≡ Some first → Appended before sends after → AppendedBack back after back' → Appended back ((first ++ sends) ∷ []) back'
@@ -69,87 +53,6 @@ appended_nothing before after first sends is appended same =
     let whole : first ≡ first ++ sends = subst (λ (b : Option (List ℕ)). Appended b sends (Some first)) is (subst (λ (a : Option (List ℕ)). Appended before sends a) (same ∙ is) appended) in
     let len = ap length whole in
     none_of sends (omega (arith, length-append first sends))
-
--- the finish of a trace whose source gives no more than it may
-abbrev pub IsShort : Finish → Type 0
-IsShort finish = finish ≢ too_long
-
-pub short_of : (finish : Finish) → IsDoneOrRefused finish → IsShort finish
-short_of finish (inl is) e = let bad : done ≡ too_long = sym is ∙ e in cc
-short_of finish (inr r) e = let bad : refused r.0 ≡ too_long = sym r.1 ∙ e in cc
-
-device_short : (o : Option DeviceInfo) (n : ℕ) (next : DeviceInfo → Trace) → ((d : DeviceInfo) → IsShort (next d).finish) → IsShort (on_device o n next).finish
-device_short None n next more e = cc
-device_short (Some d) n next more e = more d e
-
-shape_short : (b c : Bool) (next : Trace) (x y z u : ℕ) → IsShort next.finish → IsShort (if b then (if c then next else ends (channel_mismatch x y)) else ends (mismatch z u)).finish
-shape_short true true next x y z u more = more
-shape_short true false next x y z u more = λ e. cc
-shape_short false c next x y z u more = λ e. cc
-
-front_short : (says : HeadStep) (next : SoundHead → Trace) → ((head : SoundHead) → IsShort (next head).finish) → IsShort (after_header says next).finish
-front_short (step.Head head) next more = more head
-front_short (step.Bad f) next more = λ e. cc
-front_short step.More next more = λ e. cc
-
-few_short : (b : Bool) (next : Trace) → b ≡ false → IsShort next.finish → IsShort (if b then ends too_long else next).finish
-few_short b next few more = rw few more
-
-front_within : (form : SoundForm) (bytes : List ℕ) → (front_of form bytes).size ≤ length bytes
-front_within form bytes = by (front_of form bytes).says (front_of form bytes).size refl where
-  by : (says : HeadStep) (size : ℕ) → front_of form bytes ≡ front says size → size ≤ length bytes
-  by (step.Head head) size is = (front_is_head form bytes size head is).0
-  by (step.Bad f) size is = (front_has_fault form bytes size f is).0
-  by step.More size is = let whole = front_is_whole form bytes size is in omega arith
-
-sound_short : (form : Option SoundForm) (job : PlayJob) (device : DeviceInfo) (bytes : List ℕ) (next : SourceSound → List ℕ → Trace) → length bytes ≤ most_bytes →
-    ((sound : SourceSound) (rest : List ℕ) → sound.head + length rest ≤ most_bytes → IsShort (next sound rest).finish) → IsShort (reads_sound form job device bytes next).finish
-sound_short None job device bytes next few more = more (raw_sound job device) bytes (omega arith)
-sound_short (Some form) job device bytes next few more =
-    let f = front_of form bytes in
-    let within = front_within form bytes in
-    let test : nat_lt most_bytes f.size ≡ false = grind (arith, nat_tests) in
-    let left : length (drop f.size bytes) ≡ length bytes - f.size = length-drop f.size bytes in
-    few_short (nat_lt most_bytes f.size) (after_header f.says (λ head. at_one_shape head device (next (file_sound device head f.size) (drop f.size bytes)))) test
-    (front_short f.says _ (λ head. shape_short (head.rate == device.rate) (head.channels == device.channels) (next (file_sound device head f.size) (drop f.size bytes)) _ _ _ _ (more (file_sound device head f.size) (drop f.size bytes) (omega arith))))
-
-task_short : (t : Task) (devices : List DeviceInfo) (bytes : List ℕ) (w : ClientState) → length bytes ≤ most_bytes → IsShort (task_trace t devices bytes w).finish
-unfolding aplay_trace arecord_trace aset_trace
-task_short (task.Play job) devices bytes w few =
-    device_short (slice_get devices job.device) (length devices) _ (λ d. sound_short job.form job d bytes _ few (λ sound rest within.
-    short_of _ (played_finish job sound d rest w (λ frames start _. writes_first (played_text frames start) (ends done)) within (λ frames start v. inl refl))))
-task_short (task.Record job) devices bytes w few =
-    device_short (slice_get devices job.device) (length devices) _ (λ d. short_of _ (recorded_finish job d w (λ _. ends done) (λ v. inl refl)))
-task_short (task.Set job) devices bytes w few =
-    device_short (slice_get devices job.device) (length devices) _ (λ d. short_of _ (set_finish job d w (λ controls_report _. writes_first (controls_report_text controls_report) (ends done)) (λ s v. inl refl)))
-task_short task.List devices bytes w few = short_of _ (list_finish devices w)
-
-setup_short : (r : Result (List DeviceInfo) ConnFault) (w : ClientState) (next : List DeviceInfo → ClientState → Trace) → ((devices : List DeviceInfo) (v : ClientState) → IsShort (next devices v).finish) → IsShort (after_answer r w next).finish
-setup_short (Ok devices) w next more = more devices w
-setup_short (Err f) w next more = λ e. cc
-
-pub one_short : (order : Order) (t : Task) (links : List ToldLink) (bytes : List ℕ) → length bytes ≤ most_bytes → IsShort (one_trace order t links bytes).finish
-unfolding connects
-one_short order t [] bytes few = λ e. cc
-one_short order t (link ∷ links) bytes few = setup_short (setup_answer order link.gives) (client_after_setup order link.gives) _ (λ devices v. task_short t devices bytes v few)
-
-pub served_done : (finish : Finish) → ((n : ℕ) → finish ≢ no_device n) → ((a b : ℕ) → finish ≢ mismatch a b) → ((a b : ℕ) → finish ≢ channel_mismatch a b) → ((f : SoundFault) → finish ≢ bad_sound f) → finish ≢ sound_cut → ((f : ConnFault) → finish ≢ refused f) → IsShort finish → (finish ≡ done) ⊎ (finish ≡ not_dialled)
-served_done done there even shape good whole answered short = inl refl
-served_done not_dialled there even shape good whole answered short = inr refl
-served_done (no_device n) there even shape good whole answered short = absurd (there n refl)
-served_done (mismatch a b) there even shape good whole answered short = absurd (even a b refl)
-served_done (channel_mismatch a b) there even shape good whole answered short = absurd (shape a b refl)
-served_done (bad_sound f) there even shape good whole answered short = absurd (good f refl)
-served_done sound_cut there even shape good whole answered short = absurd (whole refl)
-served_done too_long there even shape good whole answered short = absurd (short refl)
-served_done (refused f) there even shape good whole answered short = absurd (answered f refl)
-
--- a tool that has no link ends for something from outside
-pub undialled_outer : (trace : Trace) (how : ToolEnd) (sends output : List ℕ) → MatchesTrace trace how sends output → trace.finish ≡ not_dialled → is_outer how ≡ true
-undialled_outer trace how sends output e is = elim (ends_as trace how sends output e not_dialled is) [
-  | inl way ↦ ap is_outer way
-  | inr outer ↦ outer
-]
 
 -- a tool with one server is a relay that does not use its second link
 alone_from : (c : Trace) (how : ToolEnd) (sends output : List ℕ) → MatchesTrace c how sends output → MatchesTrace (on_from (as_relay c)) how sends output
@@ -194,31 +97,6 @@ over_none whole s t h = record {
   early = λ memory. (refl, refl);
 }
 
--- a relay is not too long
-pair_shape_short : (b c : Bool) (next : RelayTrace) (x y z u : ℕ) → IsShort next.finish → IsShort (if b then (if c then next else ends_both (channel_mismatch x y)) else ends_both (mismatch z u)).finish
-pair_shape_short true true next x y z u short = short
-pair_shape_short true false next x y z u short = λ e. cc e
-pair_shape_short false c next x y z u short = λ e. cc e
-
-pair_short : (o : Option DeviceInfo) (n : ℕ) (p : Option DeviceInfo) (m : ℕ) (next : DeviceInfo → RelayTrace) → ((a : DeviceInfo) → IsShort (next a).finish) → IsShort (on_one o n (λ a. on_one p m (λ b. of_one_shape a b (next a)))).finish
-pair_short None n p m next short = λ e. cc e
-pair_short (Some a) n None m next short = λ e. cc e
-pair_short (Some a) n (Some b) m next short = pair_shape_short (a.rate == b.rate) (a.channels == b.channels) (next a) a.channels b.channels a.rate b.rate (short a)
-
-apass_short : (job : PassJob) (from to : List DeviceInfo) (v w : ClientState) → IsShort (apass_trace job from to v w).finish
-unfolding apass_trace
-apass_short job from to v w =
-    pair_short (slice_get from job.from_device) (length from) (slice_get to job.to_device) (length to) (λ a. passed_between job a v w (reports job))
-    (λ a. short_of (passed_between job a v w (reports job)).finish (between_finish job a v w (reports job) (λ n v w. inl refl)))
-
-answer_short : (r : Result (List DeviceInfo) ConnFault) (w : ClientState) (next : List DeviceInfo → ClientState → RelayTrace) → ((devices : List DeviceInfo) (v : ClientState) → IsShort (next devices v).finish) → IsShort (relay_after_answer r w next).finish
-answer_short (Ok devices) w next more = more devices w
-answer_short (Err f) w next more = λ e. cc e
-
--- arguments have one job
-pub same_job : (o : Option Job) (j k : Job) → o ≡ Some j → o ≡ Some k → j ≡ k
-same_job o j k first second = let both : (let x : Option Job = Some j in x ≡ Some k) = sym first ∙ second in cc
-
 pub setup_memory : (f : ConnFault) → (let r : Result (List DeviceInfo) ConnFault = Err f in IsFresh r) → fault_end f ≡ end.OutOfMemory → ⊥
 setup_memory fault.OutOfMemory fresh e = absurd fresh
 setup_memory (fault.Spent first) fresh e = absurd fresh
@@ -244,10 +122,6 @@ module _ (order : Order) where
         early = λ none. (appended_nothing (sent_of far) after link.sent f.sends first.1 f.link (memory none), refl);
       }
 
-  connects_is : (sending : List ℕ → RelayTrace → RelayTrace) (input : List ℕ) (next : List DeviceInfo → ClientState → RelayTrace) → connects_by order sending input next ≡ sending (setup_bytes order) (relay_after_answer (setup_answer order input) (client_after_setup order input) next)
-  unfolding connects_by
-  connects_is sending input next = refl
-
   -- a setup that was answered, and what follows it
   record FollowsSetup {L : Type 0} (left sent : L → Option (List ℕ)) (sending : List ℕ → RelayTrace → RelayTrace) (input : List ℕ) (next : List DeviceInfo → ClientState → RelayTrace) (old new : L) (ring : RingState) (devices : List DeviceInfo) : Type 0 where
     a : List ℕ
@@ -262,38 +136,38 @@ module _ (order : Order) where
       record {
         a = k.0;
         told = k.1;
-        is = connects_is sending input next ∙ ap (λ (r : Result (List DeviceInfo) ConnFault). sending (setup_bytes order) (relay_after_answer r (client_after_setup order input) next)) (sym k.2) ∙ ap (λ (w : ClientState). sending (setup_bytes order) (next devices w)) (sym k.3);
+        is = ap (λ (r : Result (List DeviceInfo) ConnFault). sending (setup_bytes order) (relay_after_answer r (client_after_setup order input) next)) (sym k.2) ∙ ap (λ (w : ClientState). sending (setup_bytes order) (next devices w)) (sym k.3);
         appended = is.sends.whole (λ e. cc e);
       }
 
   -- the second link was set up, and the relay went on
-  over_ok : (whole rest : RelayTrace) (how : ToolEnd) (s s' t t' t'' h h' : Option (List ℕ)) → whole ≡ sends_first_to (setup_bytes order) rest → (how ≡ end.OutOfMemory → ⊥) → Appended t (setup_bytes order) t' → ObservedRelayTrace rest how s s' t' t'' h h' → RelayedOver whole how s s' t t'' h h'
-  over_ok whole rest how s s' t t' t'' h h' is never appended f = record {
-    followed = record {
-      sends_from = f.sends_from;
-      sends_to = setup_bytes order ++ f.sends_to;
-      output = f.output;
-      recorded = ended_same (on_from rest) (on_from whole) how f.sends_from f.output (ap on_from is) f.recorded;
-      played = ended_then (on_to rest) (on_to whole) how (setup_bytes order) [] f.sends_to f.output (ap on_to is) f.played;
-      link_from = f.link_from;
-      link_to = appended_on t t' t'' (setup_bytes order) f.sends_to appended f.link_to;
-      sink = f.sink;
-    };
-    early = λ memory. absurd (never memory);
-  }
-
   pub over_answered : {L : Type 0} (left sent : L → Option (List ℕ)) (faults : L → ℕ) (input : List ℕ) (next : List DeviceInfo → ClientState → RelayTrace) (old new : L) (ring : RingState) (devices : List DeviceInfo) (how : ToolEnd) (s s' t'' h h' : Option (List ℕ)) →
       IsSetUp order left sent faults old new ring (Ok devices) → left old ≡ Some input → (how ≡ end.OutOfMemory → ⊥) →
       ((a : List ℕ) → left new ≡ Some a → ObservedRelayTrace (next devices (new_client order ring a)) how s s' (sent new) t'' h h') → RelayedOver (connects_by order sends_first_to input next) how s s' (sent old) t'' h h'
   over_answered left sent faults input next old new ring devices how s s' t'' h h' is told never follows =
       let b = after_dial_setup left sent faults sends_first_to input next old new ring devices is told in
-      over_ok (connects_by order sends_first_to input next) (next devices (new_client order ring b.a)) how s s' (sent old) (sent new) t'' h h' b.is never b.appended (follows b.a b.told)
+      let f = follows b.a b.told in
+      let after = next devices (new_client order ring b.a) in
+      let whole = connects_by order sends_first_to input next in
+      record {
+        followed = record {
+          sends_from = f.sends_from;
+          sends_to = setup_bytes order ++ f.sends_to;
+          output = f.output;
+          recorded = ended_same (on_from after) (on_from whole) how f.sends_from f.output (ap on_from b.is) f.recorded;
+          played = ended_then (on_to after) (on_to whole) how (setup_bytes order) [] f.sends_to f.output (ap on_to b.is) f.played;
+          link_from = f.link_from;
+          link_to = appended_on (sent old) (sent new) t'' (setup_bytes order) f.sends_to b.appended f.link_to;
+          sink = f.sink;
+        };
+        early = λ memory. absurd (never memory);
+      }
 
   -- the second link was not set up
   pub over_refused : {L : Type 0} (left sent : L → Option (List ℕ)) (faults : L → ℕ) (input : List ℕ) (next : List DeviceInfo → ClientState → RelayTrace) (old new : L) (ring : RingState) (f : ConnFault) (s h : Option (List ℕ)) →
       IsSetUp order left sent faults old new ring (Err f) → left old ≡ Some input → (fault_end f ≡ end.OutOfMemory → ⊥) → RelayedOver (connects_by order sends_first_to input next) (fault_end f) s s (sent old) (sent new) h h
   over_refused left sent faults input next old new ring f s h is told never =
-      let g = one_goes sends_first_to on_to on_from is_to (setup_bytes order) (setup_answer order input) (client_after_setup order input) (λ next. connects_by order sends_first_to input next) (connects_is sends_first_to input) (left new) (new_client order ring) (sent old) (sent new) (Err f) is.sends (setup_known order left sent faults old new ring input (Err f) is told) in
+      let g = one_goes sends_first_to on_to on_from is_to (setup_bytes order) (setup_answer order input) (client_after_setup order input) (λ next. connects_by order sends_first_to input next) (λ next. refl) (left new) (new_client order ring) (sent old) (sent new) (Err f) is.sends (setup_known order left sent faults old new ring input (Err f) is told) in
       let e = g.came next in
       record {
         followed = record { sends_from = []; sends_to = g.sends; output = []; recorded = e.1; played = e.0; link_from = appended_none s; link_to = g.link; sink = appended_none h };
@@ -395,30 +269,28 @@ module _ (order : Order) where
     ran_refused left_of sent_of faults old new ring f [] gives is is_back entry is_links = absurd gives
     ran_refused left_of sent_of faults old new ring f (link ∷ rest) gives is is_back entry is_links =
         let next : List DeviceInfo → ClientState → RelayTrace = λ from v. dials_to order rest (λ to w. apass_trace job from to v w) in
-        let g = one_goes sends_first_from on_from on_to is_from (setup_bytes order) (setup_answer order link.gives) (client_after_setup order link.gives) (λ next. connects_by order sends_first_from link.gives next) (connects_is sends_first_from link.gives) (left_of new) (new_client order ring) (sent_of old) (sent_of new) (Err f) is.sends (setup_known order left_of sent_of faults old new ring link.gives (Err f) is gives.0) in
+        let g = one_goes sends_first_from on_from on_to is_from (setup_bytes order) (setup_answer order link.gives) (client_after_setup order link.gives) (λ next. connects_by order sends_first_from link.gives next) (λ next. refl) (left_of new) (new_client order ring) (sent_of old) (sent_of new) (Err f) is.sends (setup_known order left_of sent_of faults old new ring link.gives (Err f) is gives.0) in
         let e = g.came next in
         ran_first left_of sent_of old (fault_end f) (link ∷ rest) (sent_of new) g.sends gives e.0 e.1 g.link is_back entry is_links (λ memory. absurd (setup_memory f is.fresh memory))
 
-  to_short : (links : List ToldLink) (next : List DeviceInfo → ClientState → RelayTrace) → ((devices : List DeviceInfo) (v : ClientState) → IsShort (next devices v).finish) → IsShort (dials_to order links next).finish
-  unfolding connects_by
-  to_short [] next more = λ e. cc e
-  to_short (link ∷ links) next more = answer_short (setup_answer order link.gives) (client_after_setup order link.gives) next more
-
-  relay_short : (job : PassJob) (links : List ToldLink) → IsShort (relay_trace order job links).finish
-  unfolding connects_by
-  relay_short job [] = λ e. cc e
-  relay_short job (link ∷ links) = answer_short (setup_answer order link.gives) (client_after_setup order link.gives) (λ from v. dials_to order links (λ to w. apass_trace job from to v w))
-      (λ from v. to_short links (λ to w. apass_trace job from to v w) (λ to w. apass_short job from to v w))
-
-run_short : (j : Job) (links : List ToldLink) (bytes : List ℕ) → length bytes ≤ most_bytes → IsShort (run_trace j links bytes).finish
-run_short (one server order task) links bytes few = one_short order task links bytes few
-run_short (relay from to order job) links bytes few = relay_short order job links
+-- a tool whose source gives no more than it may does not end as too long
+pub not_too_long : {S : Type 0} {left : S → Option (List ℕ)} {faults : S → ℕ} {form : Option SoundForm} {how : ToolEnd} {bytes : List ℕ} {source source' : S} (j : Job) → is_of_job j how ≡ true →
+    UsesSource left faults (job_reads j) form how source source' → TellsIfRead left (job_reads j) bytes source source' → length bytes ≤ most_bytes → how ≡ end.TooLong → ⊥
+not_too_long {left} {bytes} {source} {source'} (one server order (task.Play job)) is uses tells few long =
+    let given = uses.long long in
+    let known = consumed_known (left source) (left source') bytes given.text (tells refl).0 given.consumed (tells refl).1 in
+    let beyond = given.beyond in
+    let all : length bytes ≡ length given.text + length known.0 = ap length known.2 ∙ length-append given.text known.0 in
+    omega arith
+not_too_long {how} (one server order t) is uses tells few long = never (λ (e : ToolEnd). is_of_job (one server order t) e) how end.TooLong is refl long
+not_too_long {how} (relay from to order job) is uses tells few long = never (λ (e : ToolEnd). is_of_job (relay from to order job) e) how end.TooLong is refl long
 
 -- a tool that is served is done, unless something from outside ends it
-pub run_done : (j : Job) (links : List ToldLink) (bytes sends output : List ℕ) (how : ToolEnd) → MatchesTrace (on_from (run_trace j links bytes)) how sends output →
-    length bytes ≤ most_bytes → IsServed (on_from (run_trace j links bytes)) → (how ≡ end.Done) ⊎ (is_outer how ≡ true)
-run_done j links bytes sends output how e few served =
-    elim (served_done (run_trace j links bytes).finish served.there served.even served.one_shape served.good served.whole served.answered (run_short j links bytes few)) [
-      | inl is ↦ done_unless_outer (on_from (run_trace j links bytes)) how sends output e is
-      | inr none ↦ inr (undialled_outer (on_from (run_trace j links bytes)) how sends output e none)
-    ]
+pub served_done : (trace : Trace) (how : ToolEnd) (sends output : List ℕ) → MatchesTrace trace how sends output → (how ≡ end.TooLong → ⊥) → IsServed trace → (how ≡ end.Done) ⊎ (is_outer how ≡ true)
+served_done trace how sends output e short served = by trace.finish refl where
+  by : (finish : Finish) → trace.finish ≡ finish → (how ≡ end.Done) ⊎ (is_outer how ≡ true)
+  by done is = done_unless_outer trace how sends output e is
+  by not_dialled is = elim (ends_as trace how sends output e not_dialled is) [ inl way ↦ inr (ap is_outer way) | inr outer ↦ inr outer ]
+  by too_long is = elim (ends_as trace how sends output e too_long is) [ inl way ↦ absurd (short way) | inr outer ↦ inr outer ]
+  by (refused f) is = absurd (served.answered f is)
+  by finish is = absurd (let fits : is_unfit finish ≡ false = ap is_unfit (sym is) ∙ served.fits in cc fits)

@@ -1,13 +1,11 @@
 -- Which end a tool has, and what it has done if it is done.
-use Rattle.std.proofs.Common.{◌≡◌, ℕ, Bool, true, false, List, [], ◌++◌, IsErrOf, append-nil, refl, sym, ap, ◌∙◌}
-use Rattle.std.specs.Prelude.{Result, Err}
+use Rattle.std.proofs.Common.{◌≡◌, ℕ, Bool, true, false, List, [], ◌++◌, IsErrOf, append-nil, refl, sym, ap, ◌∙◌, Result, Err}
 use Rattle.af_toolkit.specs.declared.end.ToolEnd.{ToolEnd}
 use Rattle.af_toolkit.specs.declared.end.ToolEnd.TheVariants as end
 use Rattle.af_toolkit.specs.Trace.{Trace, Finish, bad_sound, channel_mismatch, done, mismatch, no_device, sound_cut, tool_end}
 use Rattle.af_toolkit.specs.Ends.{MatchesTrace, is_outer}
 use Rattle.af_toolkit.proofs.ToolEndLemmas.{ends_as, finish_done, finish_is}
-use Rattle.af_tools.specs.Results.{is_of_sound_finish, EndsBySound}
-use Rattle.af_tools.specs.Run.{EndsByDevice, EndsByRates}
+use Rattle.af_tools.specs.Results.{is_unfit, EndsIfUnfit}
 
 -- an end of a result
 pub err_of : {T : Type 0} (how other : ToolEnd) → how ≡ other → IsErrOf {T = T} (Err how) other
@@ -39,31 +37,18 @@ is_whole {trace} {how} {sends} {output} e way =
       wrote = all_done trace.output output e.unwritten e.wrote whole.2;
     }
 
--- an end for a source that is no sound that its device plays is not from outside
-sound_inner : (finish : Finish) → is_of_sound_finish finish ≡ true → is_outer (tool_end finish) ≡ false
-sound_inner (mismatch from to) is = refl
-sound_inner (channel_mismatch from to) is = refl
-sound_inner (bad_sound f) is = refl
-sound_inner sound_cut is = refl
-sound_inner finish is = cc
+-- an end for an unfit device or source is not from outside
+unfit_inner : (finish : Finish) → is_unfit finish ≡ true → is_outer (tool_end finish) ≡ false
+unfit_inner (no_device devices) is = refl
+unfit_inner (mismatch from to) is = refl
+unfit_inner (channel_mismatch from to) is = refl
+unfit_inner (bad_sound f) is = refl
+unfit_inner sound_cut is = refl
+unfit_inner finish is = cc
 
 -- it is that of the trace, and of no other
-pub ends_by_sound : (trace : Trace) (how : ToolEnd) (sends output : List ℕ) → MatchesTrace trace how sends output → EndsBySound trace how
-ends_by_sound trace how sends output e = record {
-  only = λ finish is same. finish_is trace how sends output e finish (sound_inner finish is) same;
+pub ends_if_unfit : {trace : Trace} {how : ToolEnd} {sends output : List ℕ} → MatchesTrace trace how sends output → EndsIfUnfit trace how
+ends_if_unfit {trace} {how} {sends} {output} e = record {
+  only = λ finish is same. finish_is trace how sends output e finish (unfit_inner finish is) same;
   always = λ finish _ is. ends_as trace how sends output e finish is;
-}
-
--- an end for a missing device is that of the trace, and of no other
-pub device_of : (trace : Trace) (how : ToolEnd) (sends output : List ℕ) → MatchesTrace trace how sends output → EndsByDevice trace how
-device_of trace how sends output e = record {
-  only = λ n is. finish_is trace how sends output e (no_device n) refl is;
-  always = λ n is. ends_as trace how sends output e (no_device n) is;
-}
-
--- an end for two rates is that of the trace, and of no other
-pub rates_of : (trace : Trace) (how : ToolEnd) (sends output : List ℕ) → MatchesTrace trace how sends output → EndsByRates trace how
-rates_of trace how sends output e = record {
-  only = λ a b is. finish_is trace how sends output e (mismatch a b) refl is;
-  always = λ a b is. ends_as trace how sends output e (mismatch a b) is;
 }

@@ -1,10 +1,7 @@
 -- A recording that is written as a sound file, beside the same recording written raw.
-use Rattle.std.proofs.Common.{◌≡◌, ℕ, ◌+◌, ◌*◌, ◌%◌, ◌^◌, ◌==◌, Bool, true, false, List, [], ◌∷◌, ◌++◌, length, length-append, slice_get, append_assoc, append-nil, sym, ap, ap₂, ◌∙◌, subst, refl, arith, if◌then◌else◌}
-use Rattle.std.specs.Prelude.{Result, Ok, Err, option_and_then, option_map, unwrap_or}
+use Rattle.std.proofs.Common.{◌≡◌, ℕ, ◌+◌, ◌*◌, ◌%◌, ◌^◌, ◌==◌, Bool, true, false, List, [], ◌∷◌, ◌++◌, length, length-append, slice_get, append_assoc, append-nil, sym, ap, ap₂, ◌∙◌, subst, refl, arith, if◌then◌else◌, Result, Ok, Err, option_and_then, option_map, unwrap_or, Option, None, Some}
 use Rattle.std.proofs.Math.Nat.{add-mul}
 use Rattle.std.proofs.lemmas.Bool.Decides.{nat_tests}
-use Rattle.std.specs.declared.option.Option.{Option}
-use Rattle.std.specs.declared.option.Option.TheVariants.{None, Some}
 use Rattle.af_io.specs.Observed.{Appended}
 use Rattle.af_sample.specs.declared.sample_type.SampleType.{SampleType}
 use Rattle.af_sample.specs.declared.sample_type.SampleType.TheVariants as ty
@@ -26,7 +23,7 @@ use Rattle.af_cli.specs.Sizes.{block_frames}
 use Rattle.af_cli.specs.declared.job.RecordJob.{RecordJob}
 use Rattle.af_toolkit.specs.declared.end.ToolEnd.{ToolEnd}
 use Rattle.af_toolkit.specs.declared.end.ToolEnd.TheVariants as end
-use Rattle.af_toolkit.specs.Trace.{Trace, ClientState, after_reply, answer_on, after_answer, asks, done, ends, next_message, on_device, writes_first}
+use Rattle.af_toolkit.specs.Trace.{Trace, ClientState, after_reply, answer_on, after_answer, asks, done, ends, next_message, writes_first}
 use Rattle.af_toolkit.specs.Ends.{ObservedTrace}
 use Rattle.af_tools.proofs.EndLemmas.{is_whole}
 use Rattle.af_tools.specs.declared.record.RecordedSound.{RecordedSound}
@@ -34,6 +31,7 @@ use Rattle.af_tools.specs.Files.{as_filed, as_raw, coding_in, front_of_recording
 use Rattle.af_tools.specs.Record.{arecord_trace, block_lengths, ends_row, peak, record_context, recorded_frame, records_on, records, records_all, writes_recording}
 use Rattle.af_tools.specs.Recorded.{IsRecorded}
 use Rattle.af_tools.specs.Sounds.{AreWhole}
+use Rattle.af_tools.proofs.PlayedBlockLemmas.{on_device_done}
 use Rattle.af_tools.proofs.RecordBlockLemmas.{whole_frames}
 
 -- A trace that writes a file, beside one that writes its samples raw, when n bytes of these were written before. They send the
@@ -97,11 +95,6 @@ module _ (front : List ℕ) (form : Option SoundForm) (coding : Option Coding) (
   if_file true c d c' d' f g = f
   if_file false c d c' d' f g = g
 
-  -- the device exists
-  chosen_file : (o : Option DeviceInfo) (device : DeviceInfo) (n : ℕ) (next next' : DeviceInfo → Trace) → o ≡ Some device → IsFileOf front form coding before (next device) (next' device) →
-      IsFileOf front form coding before (on_device o n next) (on_device o n next')
-  chosen_file o device n next next' there f = rw there f
-
 -- the front of a file is written
 front_file : (front : List ℕ) (form : Option SoundForm) (coding : Option Coding) (c raw : Trace) → IsFileOf [] form coding 0 c raw → IsFileOf front form coding 0 (writes_first front c) raw
 front_file front form coding c raw f = record { sends = f.sends; finish = f.finish; output = λ way. ap (λ (l : List ℕ). front ++ l) (f.output way) }
@@ -160,10 +153,6 @@ records_file job device sound at before peaks (n ∷ lengths) w next next' filed
     (if_file [] job.form sound.coding ((before + n) * frame) (ends_row job (peak sound.ty r.samples ∷ peaks)) _ _ _ _ (more (before + n) v)
     (records_file job device sound ((at + n) % 2 ^ 32) (before + n) (peak sound.ty r.samples ∷ peaks) lengths v next next' filed more))))
 
--- after nothing
-at_zero : (form : Option SoundForm) (coding : Option Coding) (frame : ℕ) (c raw : Trace) → IsFileOf [] form coding (0 * frame) c raw → IsFileOf [] form coding 0 c raw
-at_zero form coding frame c raw f = subst (λ (m : ℕ). IsFileOf [] form coding m c raw) (let none : 0 * frame ≡ 0 = omega arith in none) f
-
 -- what follows the front, and the same written raw
 abbrev file_body : RecordJob → DeviceInfo → (start : ℕ) → ClientState → Trace
 file_body job device start w = records_all job (recorded_sound job device) start w (λ frames w.
@@ -176,13 +165,13 @@ body_file : (job : RecordJob) (device : DeviceInfo) (start : ℕ) (w : ClientSta
 body_file job device start w =
     let sound = recorded_sound job device in
     let frame = recorded_frame sound in
-    at_zero job.form sound.coding frame (file_body job device start w) (raw_body job device start w)
-    (records_file job device sound start 0 [] (block_lengths (block_frames job.block frame) job.frames) w
+    let none : 0 * frame ≡ 0 = omega arith in
+    rw none at (records_file job device sound start 0 [] (block_lengths (block_frames job.block frame) job.frames) w
     (λ frames w. writes_first (pad_after job.form (frames * frame)) (asks (free_ac 1) as_done w (λ _ _. ends done))) (λ frames w. asks (free_ac 1) as_done w (λ _ _. ends done))
     (filed_as job.form (unwrap_or job.ty device.ty)) (λ frames v. end_file job.form sound.coding (frames * frame) v))
 
 recorded_file : (job : RecordJob) (device : DeviceInfo) (w : ClientState) →
-    IsFileOf (front_of_recording job device) job.form (recorded_sound job device).coding 0 (records_on job device w (λ _. ends done)) (records_on (as_raw job device) device w (λ _. ends done))
+    IsFileOf (front_of_recording job device) job.form (recorded_sound job device).coding 0 (records_on job device w (λ _ _. ends done)) (records_on (as_raw job device) device w (λ _ _. ends done))
 unfolding records_on writes_recording
 recorded_file job device w =
     let front = front_of_recording job device in
@@ -195,21 +184,13 @@ recorded_file job device w =
 pub arecord_file : (job : RecordJob) (devices : List DeviceInfo) (w : ClientState) (device : DeviceInfo) → slice_get devices job.device ≡ Some device →
     IsFileOf (front_of_recording job device) job.form (recorded_sound job device).coding 0 (arecord_trace job devices w) (arecord_trace (as_raw job device) devices w)
 unfolding arecord_trace
-arecord_file job devices w device there =
-    chosen_file (front_of_recording job device) job.form (recorded_sound job device).coding 0 (slice_get devices job.device) device (length devices) _ _ there (recorded_file job device w)
-
-there_done : (o : Option DeviceInfo) (n : ℕ) (next : DeviceInfo → Trace) → (on_device o n next).finish ≡ done → (device : DeviceInfo) × (o ≡ Some device)
-there_done (Some device) n next way = (device, refl)
-there_done None n next way = absurd cc
-
-device_done : (job : RecordJob) (devices : List DeviceInfo) (w : ClientState) → (arecord_trace job devices w).finish ≡ done → (device : DeviceInfo) × (slice_get devices job.device ≡ Some device)
-unfolding arecord_trace
-device_done job devices w way = there_done (slice_get devices job.device) (length devices) _ way
+arecord_file job devices w device there = rw there (recorded_file job device w)
 
 pub is_recorded : (job : RecordJob) (devices : List DeviceInfo) (w : ClientState) (how : ToolEnd) (s s' h h' : Option (List ℕ)) → ObservedTrace (arecord_trace job devices w) how s s' h h' → how ≡ end.Done → IsRecorded job devices w s s' h h'
+unfolding arecord_trace
 is_recorded job devices w how s s' h h' followed way =
     let all = is_whole followed.ended way in
-    let d = device_done job devices w all.finish in
+    let d = on_device_done (slice_get devices job.device) (length devices) (λ device. records_on job device w (λ _ _. ends done)) all.finish in
     let f = arecord_file job devices w d.0 d.1 in
     let samples : List ℕ = (arecord_trace (as_raw job d.0) devices w).output in
     let size : 0 + length samples ≡ length samples = omega arith in

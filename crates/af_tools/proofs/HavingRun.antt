@@ -1,13 +1,11 @@
 -- What a tool on one connection has done, if it followed its trace.
-use Rattle.std.proofs.Common.{◌≡◌, ◌==◌, ◌+◌, ◌-◌, ℕ, Bool, true, false, nat_lt, if◌then◌else◌, ◌<◌, ◌≤◌, List, drop, length-append, length-drop, length, slice_get, refl, sym, ap, ◌∙◌, subst, arith, inl, inr}
+use Rattle.std.proofs.Common.{◌≡◌, ◌==◌, ◌+◌, ◌-◌, ℕ, Bool, true, false, nat_lt, if◌then◌else◌, ◌<◌, ◌≤◌, List, drop, length-append, length-drop, length, slice_get, refl, ap, ◌∙◌, arith, inl, inr, Option, None, Some}
 use Rattle.std.proofs.lemmas.Bool.Decides.{nat_tests}
 use Rattle.std.proofs.lemmas.Option.{slice_get_cases}
-use Rattle.std.specs.declared.option.Option.{Option}
-use Rattle.std.specs.declared.option.Option.TheVariants.{None, Some}
 use Rattle.af_request.specs.declared.reply.DeviceInfo.{DeviceInfo}
 use Rattle.af_request.specs.Replies.{IsDeviceInfo}
 use Rattle.af_toolkit.specs.declared.end.ToolEnd.{ToolEnd}
-use Rattle.af_toolkit.specs.Trace.{Trace, ClientState, done, ends, on_device, too_long, with_job_device, writes_first}
+use Rattle.af_toolkit.specs.Trace.{Trace, ClientState, done, ends, too_long, with_job_device, writes_first}
 use Rattle.af_toolkit.specs.Ends.{ObservedTrace}
 use Rattle.af_toolkit.proofs.ToolEndLemmas.{IsDoneOrRefused, done_where_answered, ends_by_reply}
 use Rattle.af_cli.specs.declared.job.PlayJob.{PlayJob}
@@ -22,14 +20,14 @@ use Rattle.af_tools.specs.declared.sound.SourceSound.{SourceSound}
 use Rattle.af_tools.specs.Limits.{most_bytes}
 use Rattle.af_tools.specs.Sounds.{at_one_shape, file_sound, raw_sound, reads_front, reads_sound, GivesSamples, IsFileSound, IsPlayable}
 use Rattle.af_tools.specs.Play.{aplay_trace, played_text}
-use Rattle.af_tools.proofs.EndLemmas.{ends_by_sound}
+use Rattle.af_tools.proofs.EndLemmas.{ends_if_unfit}
 use Rattle.af_tools.specs.Record.{arecord_trace, records_on}
 use Rattle.af_standing.specs.ControlsReport.{controls_report_text}
 use Rattle.af_tools.specs.Set.{aset_trace, sets_on}
 use Rattle.af_tools.specs.Results.{AplayRan, ToolRan}
 use Rattle.af_tools.proofs.TraceEndLemmas.{played_finish, recorded_finish, set_finish}
 use Rattle.af_tools.proofs.PlayedBlockLemmas.{is_played}
-use Rattle.af_tools.proofs.DeviceChoiceLemmas.{IsMissing, IsThere, aplay_missing, aplay_there, followed_missing, followed_same, missing_at, reported, stated_at}
+use Rattle.af_tools.proofs.DeviceChoiceLemmas.{IsMissing, IsThere, followed_missing, followed_there, missing_at, reported, stated_at}
 
 -- the device with a number below their number
 device_at : (devices : List DeviceInfo) (number : ℕ) → number < length devices → (device : DeviceInfo) × (slice_get devices number ≡ Some device)
@@ -71,18 +69,23 @@ playable_finish (Some form) job device bytes w ty samples is few =
     let r = sound_read form job device bytes (reported job device w) ty samples is few in
     rw r.3 (played_finish job r.0 device r.1 w (λ frames start _. writes_first (played_text frames start) (ends done)) r.2 (λ frames start v. inl refl))
 
+aplay_is : (job : PlayJob) (devices : List DeviceInfo) (bytes : List ℕ) (w : ClientState) →
+    aplay_trace job devices bytes w ≡ with_job_device job.device devices (λ device. reads_sound job.form job device bytes (reported job device w))
+unfolding aplay_trace
+aplay_is job devices bytes w = refl
+
 aplay_finish : (job : PlayJob) (devices : List DeviceInfo) (bytes : List ℕ) (w : ClientState) (device : DeviceInfo) → slice_get devices job.device ≡ Some device → IsPlayable job device bytes → length bytes ≤ most_bytes → IsDoneOrRefused (aplay_trace job devices bytes w).finish
 aplay_finish job devices bytes w device there playable few =
-    rw (aplay_there devices w job bytes device there) (playable_finish job.form job device bytes w playable.0 playable.1 playable.2 few)
+    rw (aplay_is job devices bytes w, there) (playable_finish job.form job device bytes w playable.0 playable.1 playable.2 few)
 
 -- a tool on the device with a number; on each device it is done or refused
 pub record IsOnDevice (trace : Trace) (number : ℕ) (devices : List DeviceInfo) (each : DeviceInfo → Trace) : Type 0 where
   pub is : trace ≡ with_job_device number devices each
   pub finish : (device : DeviceInfo) → IsDoneOrRefused (each device).finish
 
-pub arecord_on : (job : RecordJob) (devices : List DeviceInfo) (w : ClientState) → IsOnDevice (arecord_trace job devices w) job.device devices (λ device. records_on job device w (λ _. ends done))
+pub arecord_on : (job : RecordJob) (devices : List DeviceInfo) (w : ClientState) → IsOnDevice (arecord_trace job devices w) job.device devices (λ device. records_on job device w (λ _ _. ends done))
 unfolding arecord_trace
-arecord_on job devices w = record { is = refl; finish = λ device. recorded_finish job device w (λ _. ends done) (λ v. inl refl) }
+arecord_on job devices w = record { is = refl; finish = λ device. recorded_finish job device w (λ _ _. ends done) (λ _ v. inl refl) }
 
 pub aset_on : (job : SetJob) (devices : List DeviceInfo) (w : ClientState) →
     IsOnDevice (aset_trace job devices w) job.device devices (λ device. sets_on job device w (λ controls_report _. writes_first (controls_report_text controls_report) (ends done)))
@@ -90,25 +93,22 @@ unfolding aset_trace
 aset_on job devices w = record { is = refl; finish = λ device. set_finish job device w (λ controls_report _. writes_first (controls_report_text controls_report) (ends done)) (λ s v. inl refl) }
 
 module _ (trace : Trace) (number : ℕ) (devices : List DeviceInfo) (each : DeviceInfo → Trace) (t : IsOnDevice trace number devices each) where
-  chosen : (found : Option DeviceInfo) → slice_get devices number ≡ found → trace ≡ on_device found (length devices) each
-  chosen found get = t.is ∙ ap (λ (o : Option DeviceInfo). on_device o (length devices) each) get
-
   followed_ran : (how : ToolEnd) (s s' h h' : Option (List ℕ)) → ObservedTrace trace how s s' h h' → ToolRan trace number devices how s s' h h'
   followed_ran how s s' h h' f = record {
     followed = f;
     reply = ends_by_reply trace how s s' h h' f;
     complete = λ there answered.
         let d = device_at devices number there in
-        done_where_answered trace how f.sends f.output f.ended (subst (λ (c : Trace). IsDoneOrRefused c.finish) (sym (chosen (Some d.0) d.1)) (t.finish d.0)) answered;
+        done_where_answered trace how f.sends f.output f.ended (rw (t.is, d.1) (t.finish d.0)) answered;
   }
 
   -- the device does not exist, and nothing was sent
   pub missing_ran : (how : ToolEnd) (s h : Option (List ℕ)) → IsMissing devices number how → ToolRan trace number devices how s s h h
-  missing_ran how s h m = followed_ran how s s h h (followed_missing trace (length devices) how s h (chosen None m.get) m.way)
+  missing_ran how s h m = followed_ran how s s h h (followed_missing each t.is m)
 
   -- the device exists, and the tool did what it does on it
   pub there_ran : (device : DeviceInfo) (how : ToolEnd) (s s' h h' : Option (List ℕ)) → IsThere devices number device → ObservedTrace (each device) how s s' h h' → ToolRan trace number devices how s s' h h'
-  there_ran device how s s' h h' d f = followed_ran how s s' h h' (followed_same (each device) trace how s s' h h' (chosen (Some device) d.get) f)
+  there_ran device how s s' h h' d f = followed_ran how s s' h h' (followed_there each t.is d f)
 
 aplay_ran : (job : PlayJob) (devices : List DeviceInfo) (bytes : List ℕ) (w : ClientState) (how : ToolEnd) (s s' h h' : Option (List ℕ)) → 1 ≤ job.block →
     ((d : DeviceInfo) → slice_get devices job.device ≡ Some d → IsDeviceInfo d) → ObservedTrace (aplay_trace job devices bytes w) how s s' h h' → AplayRan job devices bytes w how s s' h h'
@@ -116,17 +116,17 @@ aplay_ran job devices bytes w how s s' h h' some stated f = record {
   followed = f;
   heard = λ way. is_played job devices bytes w how s s' h h' f way some stated;
   reply = ends_by_reply (aplay_trace job devices bytes w) how s s' h h' f;
-  sound = ends_by_sound (aplay_trace job devices bytes w) how f.sends f.output f.ended;
+  unfit = ends_if_unfit f.ended;
   complete = λ device there playable few answered. done_where_answered (aplay_trace job devices bytes w) how f.sends f.output f.ended (aplay_finish job devices bytes w device there playable few) answered;
 }
 
 -- the device of aplay is not there, and nothing was sent
 pub aplay_missing_ran : (job : PlayJob) {devices : List DeviceInfo} {bytes : List ℕ} {w : ClientState} {how : ToolEnd} {s h : Option (List ℕ)} → 1 ≤ job.block → IsMissing devices job.device how → AplayRan job devices bytes w how s s h h
 aplay_missing_ran job {devices} {bytes} {w} {how} {s} {h} some m =
-    aplay_ran job devices bytes w how s s h h some (missing_at devices job.device m.get) (followed_missing _ (length devices) how s h (aplay_missing devices w job bytes m.get) m.way)
+    aplay_ran job devices bytes w how s s h h some (missing_at devices job.device m.get) (followed_missing (λ device. reads_sound job.form job device bytes (reported job device w)) (aplay_is job devices bytes w) m)
 
 -- it is there, and the source was read and played
 pub aplay_there_ran : (job : PlayJob) {devices : List DeviceInfo} {bytes : List ℕ} {w : ClientState} {how : ToolEnd} {s s' h h' : Option (List ℕ)} {device : DeviceInfo} → 1 ≤ job.block → IsThere devices job.device device → IsDeviceInfo device →
     ObservedTrace (reads_sound job.form job device bytes (reported job device w)) how s s' h h' → AplayRan job devices bytes w how s s' h h'
 aplay_there_ran job {devices} {bytes} {w} {how} {s} {s'} {h} {h'} {device} some t stated f =
-    aplay_ran job devices bytes w how s s' h h' some (stated_at devices job.device device t.get stated) (followed_same _ _ how s s' h h' (aplay_there devices w job bytes device t.get) f)
+    aplay_ran job devices bytes w how s s' h h' some (stated_at devices job.device device t.get stated) (followed_there (λ device. reads_sound job.form job device bytes (reported job device w)) (aplay_is job devices bytes w) t f)

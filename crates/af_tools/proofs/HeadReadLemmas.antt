@@ -1,12 +1,10 @@
 -- The front of a file is read byte by byte.
-use Rattle.std.proofs.Common.{◌≡◌, ◌<◌, ◌≤◌, ℕ, zero, suc, ◌+◌, nat_lt, true, false, Bool, List, [], ◌∷◌, ◌++◌, length, take, drop, slice_index, refl, sym, ap, ◌∙◌, subst, arith, inr, append-nil, append_assoc, length-append, if◌then◌else◌, IsSome}
+use Rattle.std.proofs.Common.{◌≡◌, ◌<◌, ◌≤◌, ℕ, ◌+◌, nat_lt, true, false, Bool, List, [], ◌∷◌, ◌++◌, length, take, drop, slice_index, refl, sym, ap, ◌∙◌, subst, arith, inr, append-nil, append_assoc, length-append, if◌then◌else◌, IsSome, Ok, Err, Option, Some}
+use Rattle.af_tools.proofs.SourceCountLemmas.{spent_none}
 use Rattle.std.proofs.lemmas.Bool.Decides.{nat_tests}
-use Rattle.std.proofs.lemmas.List.{drop_at}
-use Rattle.std.specs.Prelude.{Ok, Err}
-use Rattle.std.specs.declared.option.Option.{Option}
-use Rattle.std.specs.declared.option.Option.TheVariants.{None, Some}
+use Rattle.std.proofs.lemmas.List.{drop_at, take_all}
 use Rattle.af_io.specs.Observed.{Consumed}
-use Rattle.af_io.specs.Flow.{IsSpent}
+use Rattle.af_io.specs.Flow.{ConsumedWithin, IsSpent}
 use Rattle.af_io.proofs.ConsumedLemmas.{consumed_known, consumed_none, consumed_on}
 use Rattle.af_sound.specs.declared.head.HeadStep.{HeadStep}
 use Rattle.af_sound.specs.declared.head.HeadStep.TheVariants as step
@@ -22,7 +20,7 @@ use Rattle.af_toolkit.specs.declared.end.ToolEnd.TheVariants as end
 use Rattle.af_toolkit.specs.Trace.{Trace, bad_sound, ends, sound_cut, too_long}
 use Rattle.af_tools.specs.declared.sound.FileHead.{FileHead}
 use Rattle.af_tools.specs.Limits.{most_bytes}
-use Rattle.af_tools.specs.Fill.{ConsumedCut, ConsumedFault, ConsumedHead, ConsumedWithinMost}
+use Rattle.af_tools.specs.Fill.{ConsumedCut, ConsumedFault, ConsumedHead}
 use Rattle.af_tools.specs.Sounds.{after_header, reads_front}
 use Rattle.af_tools.specs.Reading.{HeadCame, TakesFront}
 
@@ -37,39 +35,31 @@ pub read_begin : (form : SoundForm) (reader : HeadReader) (before : Option (List
 read_begin form reader before taken = record { bytes = []; consumed = consumed_none before; all = refl; taken = taken }
 
 -- the one byte that was read
-one_byte : (n : ℕ) (into : List ℕ) → length into ≡ 1 → 1 ≤ n → take n into ≡ slice_index into 0 ∷ []
-one_byte n [] one some = absurd (omega arith)
-one_byte (suc n) (b ∷ []) one some = ap (λ (l : List ℕ). b ∷ l) (nothing n) where
-  nothing : (n : ℕ) → take n [] ≡ (let l : List ℕ = [] in l)
-  nothing zero = refl
-  nothing (suc n) = refl
-one_byte zero (b ∷ []) one some = absurd (omega arith)
-one_byte n (a ∷ b ∷ into) one some = absurd (omega arith)
+one_byte : (into : List ℕ) → length into ≡ 1 → into ≡ slice_index into 0 ∷ []
+one_byte [] one = absurd (omega arith)
+one_byte (b ∷ []) one = refl
+one_byte (a ∷ b ∷ into) one = absurd (omega arith)
 
 -- a byte was read
 pub record IsByteRead (byte : ℕ) (before after : Option (List ℕ)) : Type 0 where
   pub consumed : Consumed before (byte ∷ []) after
 
 pub byte_read : (n : ℕ) (into : List ℕ) (a b : Option (List ℕ)) → length into ≡ 1 → 1 ≤ n → Consumed a (take n into) b → IsByteRead (slice_index into 0) a b
-byte_read n into a b one some taken = record { consumed = subst (λ (l : List ℕ). Consumed a l b) (one_byte n into one some) taken }
+byte_read n into a b one some taken = record { consumed = subst (λ (l : List ℕ). Consumed a l b) (take_all n into (omega arith) ∙ one_byte into one) taken }
 
 module _ {form : SoundForm} {reader : HeadReader} {size : ℕ} {a b : Option (List ℕ)} (h : HasRead form reader size a b) where
-  read_within : size ≤ most_bytes → ConsumedWithinMost a b
-  read_within few = record { bytes = h.bytes; consumed = h.consumed; within = (let all = h.all in omega arith) }
+  read_within : size ≤ most_bytes → ConsumedWithin most_bytes a b
+  read_within few = record { text = h.bytes; consumed = h.consumed; within = (let all = h.all in omega arith) }
 
   -- the source ended
   read_spent : IsOpen reader → size ≤ most_bytes → IsSpent b → (bytes : List ℕ) → a ≡ Some bytes → IsSome b → HeadCame form bytes (Err end.SoundCut) b
   read_spent opens few spent bytes told tells =
       let k = consumed_known a b bytes h.bytes told h.consumed tells in
-      let none : k.0 ≡ [] = spent_is b k.0 k.1 spent in
+      let none : k.0 ≡ [] = spent_none b k.0 k.1 spent in
       let whole : bytes ≡ h.bytes = k.2 ∙ ap (λ (l : List ℕ). h.bytes ++ l) none ∙ append-nil h.bytes in
       let said : front_of form bytes ≡ front step.More (length h.bytes) = ap (front_of form) whole ∙ front_open form reader h.bytes h.taken opens in
       let all = h.all in
       inr (sound_cut, refl, λ next. ap (λ (f : Front). reads_front f next) said ∙ fits (length h.bytes) step.More next (omega arith)) where
-        spent_is : (b : Option (List ℕ)) (rest : List ℕ) → b ≡ Some rest → IsSpent b → rest ≡ []
-        spent_is None rest is spent = cc is
-        spent_is (Some x) rest is spent = let same : x ≡ rest = cc in sym same ∙ spent
-
         fits : (n : ℕ) (says : HeadStep) (next : SoundHead → Trace) → n ≤ most_bytes → reads_front (front says n) next ≡ after_header says next
         fits n says next few =
             let test : nat_lt most_bytes n ≡ false = grind (arith, nat_tests) in
@@ -102,8 +92,8 @@ module _ {form : SoundForm} {reader : HeadReader} {size : ℕ} {a b : Option (Li
     pub read_more : {reader' : HeadReader} → HasTaken reader' form (h.bytes ++ (byte ∷ [])) → HasRead form reader' (size + 1) a c
     read_more taken = record { bytes = h.bytes ++ (byte ∷ []); consumed = all_read; all = read_long; taken = taken }
 
-    read_more_within : size < most_bytes → ConsumedWithinMost a c
-    read_more_within few = record { bytes = h.bytes ++ (byte ∷ []); consumed = all_read; within = (let long = read_long in omega arith) }
+    read_more_within : size < most_bytes → ConsumedWithin most_bytes a c
+    read_more_within few = record { text = h.bytes ++ (byte ∷ []); consumed = all_read; within = (let long = read_long in omega arith) }
 
     -- a byte too many
     pub read_too_long : IsOpen reader → most_bytes ≤ size → (bytes : List ℕ) → a ≡ Some bytes → IsSome c → HeadCame form bytes (Err end.TooLong) c
@@ -125,7 +115,7 @@ module _ {form : SoundForm} {reader : HeadReader} {size : ℕ} {a b : Option (Li
     takes_too_long many = record {
       bad = λ fault is. cc is;
       cut = λ is. cc is;
-      long = λ _. record { bytes = h.bytes ++ (byte ∷ []); consumed = all_read; beyond = (let long = read_long in omega arith) };
+      long = λ _. record { text = h.bytes ++ (byte ∷ []); consumed = all_read; beyond = (let long = read_long in omega arith) };
       within = λ other. absurd (other refl);
     }
 

@@ -1,11 +1,9 @@
 -- What is played is heard as intended, in each channel.
-use Rattle.std.proofs.Common.{◌≡◌, ℕ, ◌+◌, ◌-◌, ◌*◌, ◌/◌, ◌<◌, ◌≤◌, ◌&&◌, nat_le, nat_lt, ℤ, pos, true, List, length, take, drop, get_or, slice_get, slice_index_or, slice_range, sym, ap, ap₂, ◌∙◌, subst, arith, inl, inr}
+use Rattle.std.proofs.Common.{◌≡◌, ℕ, ◌+◌, ◌-◌, ◌*◌, ◌/◌, ◌<◌, ◌≤◌, ◌&&◌, nat_le, nat_lt, ℤ, pos, true, List, length, take, drop, get_or, slice_get, slice_index_or, slice_range, sym, ap, ap₂, ◌∙◌, subst, arith, inl, inr, Some}
 use Rattle.std.proofs.Math.Nat.{div-div-eq-div-mul, mul-div-le}
-use Rattle.std.specs.declared.option.Option.{Option}
-use Rattle.std.specs.declared.option.Option.TheVariants.{Some}
 use Rattle.std.proofs.lemmas.List.{get_or-map, length-map}
 use Rattle.std.proofs.lemmas.List.FromFn.{get_or-map-range_with_len, length-map-range_with_len}
-use Rattle.std.proofs.lemmas.Option.{slice_get-get_or}
+use Rattle.std.proofs.lemmas.Option.{slice_get-get_or, same_Some}
 use Rattle.std.proofs.lemmas.Bool.{and_parts}
 use Rattle.std.proofs.lemmas.Bool.Decides.{nat_tests}
 use Rattle.af_sample.specs.declared.sample_type.SampleType.{SampleType}
@@ -104,9 +102,6 @@ covered channels e t on =
     let to : nat_lt t (e.start + frame_count channels e.samples) ≡ true = q.1 in
     (grind (arith, nat_tests), grind (arith, nat_tests))
 
-same_entry : (o : Option AcceptedPlay) (d e : AcceptedPlay) → o ≡ Some d → o ≡ Some e → d ≡ e
-same_entry o d e is is' = cc
-
 module _ (ty : SampleType) (channels : ℕ) (count : IsChannelCount channels) (gain : ℤ) (start : ℕ) where
   -- the play of a block covers only the times of its frames
   frame_of : (b : Block) (e d : AcceptedPlay) (i : ℕ) → IsEntryOf ty gain start b e → d ≡ e → covers channels d (start + i) ≡ true → (j : ℕ) × (j < length b.bytes / frame_bytes ty channels) × (b.before + j ≡ i)
@@ -126,7 +121,7 @@ module _ (ty : SampleType) (channels : ℕ) (count : IsChannelCount channels) (g
         let b : Block = get_or (sent_blocks ty channels frames bytes) o.0 f.block in
         let get : slice_get (sent_blocks ty channels frames bytes) o.0 ≡ Some b = slice_get-get_or (sent_blocks ty channels frames bytes) o.0 f.block o.1 in
         let e = a.each o.0 b get in
-        let same : d ≡ e.0 = same_entry (slice_get accepted j) d e.0 at (ap (slice_get accepted) o.2 ∙ e.1) in
+        let same : d ≡ e.0 = same_Some d e.0 (sym at ∙ ap (slice_get accepted) o.2 ∙ e.1) in
         let g = frame_of b e.0 d i e.2 same on in
         let here = g.2 in
         let place = f.place in

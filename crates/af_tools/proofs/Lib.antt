@@ -1,3 +1,4 @@
+pub mod PartStepLemmas
 pub mod SetupTraceLemmas
 pub mod EndLemmas
 pub mod PlayBlockLemmas
@@ -7,7 +8,6 @@ pub mod RecordBlockLemmas
 pub mod TraceEndLemmas
 pub mod DeviceChoiceLemmas
 pub mod FiledLemmas
-pub mod SetRequestLemmas
 pub mod DialLemmas
 pub mod SentBlockLemmas
 pub mod HeardAsIntendedLemmas

@@ -1,9 +1,7 @@
 -- What a tool that dials has done, if it is done.
-use Rattle.std.proofs.Common.{◌≡◌, ◌≤◌, ℕ, List, [], ◌∷◌, ◌++◌, sym, ap, ◌∙◌, subst, refl, append-nil, slice_get}
+use Rattle.std.proofs.Common.{length, ◌≡◌, ◌≤◌, ℕ, List, [], ◌∷◌, sym, ap, ◌∙◌, subst, refl, slice_get, Result, Ok, Option, Some}
+use Rattle.af_toolkit.proofs.TracePartLemmas.{ended_at_once}
 use Rattle.std.proofs.lemmas.Option.{get_or_from_slice_get, slice_get_within}
-use Rattle.std.specs.Prelude.{Result, Ok}
-use Rattle.std.specs.declared.option.Option.{Option}
-use Rattle.std.specs.declared.option.Option.TheVariants.{Some}
 use Rattle.clap.specs.Words.{Text}
 use Rattle.af_io.specs.Observed.{Appended}
 use Rattle.af_io.specs.Dial.{ToldLink}
@@ -28,39 +26,26 @@ use Rattle.af_toolkit.specs.Trace.{Trace, ClientState, connects, done, tool_end,
 use Rattle.af_cli.specs.Call.{IsCall, job_of_call}
 use Rattle.af_cli.specs.Ranges.{IsPaced, IsRanged}
 use Rattle.af_relay.specs.Pass.{RelayTrace, apass_trace, sends_first_from, sends_first_to}
-use Rattle.af_tools.specs.Run.{connects_by, dials_to, relay_trace, DevicesListed, JobDone, ReturnedLinks, PlayRan, JobRan, RecordRan, RelayRan, SetUpFirst, one_trace, task_trace}
-use Rattle.af_tools.specs.Play.{aplay_trace}
-use Rattle.af_tools.specs.Record.{arecord_trace}
+use Rattle.af_tools.specs.Run.{dials_to, relay_trace, JobDone, JobRan, RelayRan, SetUpFirst, UsedServer, one_trace, task_trace}
+use Rattle.af_tools.specs.Intent.{IsPlayed}
+use Rattle.af_tools.specs.Limits.{most_bytes}
+use Rattle.af_tools.specs.Recorded.{IsRecorded}
 use Rattle.af_toolkit.specs.Ends.{ObservedTrace}
 use Rattle.af_relay.specs.Relayed.{IsRelayed}
+use Rattle.af_standing.specs.List.{HasLines}
 use Rattle.af_standing.proofs.ListLemmas.{list_ran}
 use Rattle.af_cli.specs.Words.{Job, one, relay}
 use Rattle.af_toolkit.proofs.ToolEndLemmas.{reply_of}
-use Rattle.af_tools.proofs.EndLemmas.{device_of, ends_by_sound, is_whole, rates_of}
+use Rattle.af_tools.proofs.EndLemmas.{ends_if_unfit, is_whole}
 use Rattle.af_relay.proofs.RelayedLemmas.{answered_from, answered_to, trace_relayed}
 use Rattle.af_tools.proofs.PlayedBlockLemmas.{answered_done, is_played}
 use Rattle.af_tools.proofs.FiledLemmas.{is_recorded}
-use Rattle.af_tools.proofs.DialLemmas.{run_done}
-
-consumed_both : {links : List ToldLink} {links' : Option (List ToldLink)} {s t s' t' : List ℕ} {back back' : Option (List (List ℕ))} → s ≡ s' → t ≡ t' → ReturnedLinks links links' s t back back' → ReturnedLinks links links' s' t' back back'
-consumed_both {links} {links'} {t} {s'} {back} {back'} from to consumed =
-    subst (λ (l : List ℕ). ReturnedLinks links links' s' l back back') to (subst (λ (l : List ℕ). ReturnedLinks links links' l t back back') from consumed)
+use Rattle.af_tools.proofs.DialLemmas.{served_done}
 
 -- a trace that is sent and written to its end
 followed_whole : (trace : Trace) (how : ToolEnd) (held held' : Option (List ℕ)) → how ≡ end.Done → trace.finish ≡ done → Appended held trace.output held' → ObservedTrace trace how (Some []) (Some trace.sends) held held'
-followed_whole trace how held held' way finish sink = record {
-  sends = trace.sends;
-  output = trace.output;
-  ended = record {
-    unsent = [];
-    unwritten = [];
-    sent = sym (append-nil trace.sends);
-    wrote = sym (append-nil trace.output);
-    whole = λ inner. (way ∙ ap tool_end (sym finish), refl, refl);
-  };
-  link = refl;
-  sink = sink;
-}
+followed_whole trace how held held' way finish sink =
+    record { sends = trace.sends; output = trace.output; ended = ended_at_once trace how trace.sends trace.output refl refl (way ∙ ap tool_end (sym finish)); link = refl; sink = sink }
 
 -- the values of a job are in range
 abbrev pub IsInRange : Job → Type 0
@@ -83,7 +68,6 @@ module _ (order : Order) where
 
   after_first : (job : PassJob) (from : List DeviceInfo) (v : ClientState) (links : List ToldLink) (held held' : Option (List ℕ)) → ((d : DeviceInfo) → slice_get from job.from_device ≡ Some d → IsDeviceInfo d) → IsPaced job →
       (dials_to order links (λ to w. apass_trace job from to v w)).finish ≡ done → AfterFirst job from v links (dials_to order links (λ to w. apass_trace job from to v w)) held held'
-  unfolding connects_by
   after_first job from v [] held held' stated paced is = cc
   after_first job from v (second ∷ rest) held held' stated paced is =
       let w = client_after_setup order second.gives in
@@ -110,7 +94,6 @@ module _ (order : Order) where
     whole : relay_trace order job links ≡ sends_first_from (setup_bytes order) (sends_first_to (setup_bytes order) after.part)
 
   after_both : (job : PassJob) (links : List ToldLink) (held held' : Option (List ℕ)) → IsPaced job → (relay_trace order job links).finish ≡ done → AfterBoth job links held held'
-  unfolding connects_by
   after_both job [] held held' paced is = cc
   after_both job (first ∷ links) held held' paced is =
       let a = answered_from (setup_bytes order) (setup_answer order first.gives) (client_after_setup order first.gives) (λ from v. dials_to order links (λ to w. apass_trace job from to v w)) is in
@@ -133,12 +116,6 @@ module _ (order : Order) where
       let a = answered_done (setup_answer order first.gives) (client_after_setup order first.gives) (λ devices w. task_trace t devices bytes w) is in
       record { server = record { link = first; rest = rest; links_are = refl; devices = a.0; set = a.1 }; whole = ap (sends_first (setup_bytes order)) a.2 }
 
-  -- what a tool with one server that is done did after its setup
-  record OneDone (t : Task) (bytes : List ℕ) (how : ToolEnd) (links : List ToldLink) (links' : Option (List ToldLink)) (held held' : Option (List ℕ)) (back back' : Option (List (List ℕ))) : Type 0 where
-    after : AfterSetup t bytes links
-    followed : ObservedTrace (task_trace t after.server.devices bytes (client_after_setup order after.server.link.gives)) how (Some []) (Some (task_trace t after.server.devices bytes (client_after_setup order after.server.link.gives)).sends) held held'
-    link : ReturnedLinks links links' (setup_bytes order ++ (task_trace t after.server.devices bytes (client_after_setup order after.server.link.gives)).sends) [] back back'
-
   module _ {bytes : List ℕ} {how : ToolEnd} {links : List ToldLink} {links' : Option (List ToldLink)} {held held' : Option (List ℕ)} {back back' : Option (List (List ℕ))} (way : how ≡ end.Done) where
     -- a relay that is done has passed all blocks
     ran_relayed : {from to : Text} (job : PassJob) → JobRan (relay from to order job) bytes how links links' held held' back back' → IsPaced job → RelayRan order job links links' held held' back back'
@@ -155,67 +132,60 @@ module _ (order : Order) where
           sends_from = b.after.part.from;
           sends_to = b.after.part.to;
           relayed = b.after.relayed (subst (λ (l : List ℕ). Appended held l held') output r.sink);
-          link = consumed_both (recorded.sent ∙ ap (λ (x : RelayTrace). x.from) b.whole) (played.sent ∙ ap (λ (x : RelayTrace). x.to) b.whole) r.link;
+          link = rw (recorded.sent ∙ ap (λ (x : RelayTrace). x.from) b.whole, played.sent ∙ ap (λ (x : RelayTrace). x.to) b.whole) at r.link;
         }
 
-    one_done : {server : Text} (t : Task) → JobRan (one server order t) bytes how links links' held held' back back' → OneDone t bytes how links links' held held' back back'
+    -- a tool with one server that is done followed its trace to the end
+    one_done : {server : Text} (t : Task) → JobRan (one server order t) bytes how links links' held held' back back' →
+        UsedServer order links links' back back' (λ devices w sends. ObservedTrace (task_trace t devices bytes w) how (Some []) (Some sends) held held')
     one_done t r =
         let recorded = is_whole r.recorded way in
         let b = after_dial_setup t bytes links recorded.finish in
         let inner = task_trace t b.server.devices bytes (client_after_setup order b.server.link.gives) in
         let output = recorded.wrote ∙ ap (λ (x : Trace). x.output) b.whole in
         record {
-          after = b;
-          followed = followed_whole inner how held held' way (ap (λ (x : Trace). x.finish) (sym b.whole) ∙ recorded.finish) (subst (λ (l : List ℕ). Appended held l held') output r.sink);
-          link = consumed_both (recorded.sent ∙ ap (λ (x : Trace). x.sends) b.whole) (is_whole r.played way).sent r.link;
+          server = b.server;
+          sends = inner.sends;
+          used = followed_whole inner how held held' way (ap (λ (x : Trace). x.finish) (sym b.whole) ∙ recorded.finish) (subst (λ (l : List ℕ). Appended held l held') output r.sink);
+          link = rw (recorded.sent ∙ ap (λ (x : Trace). x.sends) b.whole, (is_whole r.played way).sent) at r.link;
         }
 
-    -- what aplay that is done has played is heard as it was intended
-    ran_played : {server : Text} (job : PlayJob) → JobRan (one server order (task.Play job)) bytes how links links' held held' back back' → 1 ≤ job.block → PlayRan order job bytes links links' held held' back back'
+    -- aplay: what it has played is heard as it was intended
+    ran_played : {server : Text} (job : PlayJob) → JobRan (one server order (task.Play job)) bytes how links links' held held' back back' → 1 ≤ job.block →
+        UsedServer order links links' back back' (λ devices w sends. IsPlayed job devices bytes w (Some []) (Some sends) held held')
     ran_played job r some =
         let d = one_done (task.Play job) r in
-        let server = d.after.server in
-        record {
-          server = server;
-          sends = (aplay_trace job server.devices bytes (client_after_setup order server.link.gives)).sends;
-          played = is_played job server.devices bytes (client_after_setup order server.link.gives) how _ _ held held' d.followed way some (answered_at job.device (next_message (client_before_setup order server.link.gives)).found server.devices server.set);
-          link = d.link;
-        }
+        let server = d.server in
+        let stated = answered_at job.device (next_message (client_before_setup order server.link.gives)).found server.devices server.set in
+        record { server = server; sends = d.sends; used = is_played job server.devices bytes (client_after_setup order server.link.gives) how _ _ held held' d.used way some stated; link = d.link }
 
-    -- what arecord that is done has recorded is in its sink
-    ran_recorded : {server : Text} (job : RecordJob) → JobRan (one server order (task.Record job)) bytes how links links' held held' back back' → RecordRan order job links links' held held' back back'
+    -- arecord: what it has recorded is in its sink
+    ran_recorded : {server : Text} (job : RecordJob) → JobRan (one server order (task.Record job)) bytes how links links' held held' back back' →
+        UsedServer order links links' back back' (λ devices w sends. IsRecorded job devices w (Some []) (Some sends) held held')
     ran_recorded job r =
         let d = one_done (task.Record job) r in
-        let server = d.after.server in
-        record {
-          server = server;
-          sends = (arecord_trace job server.devices (client_after_setup order server.link.gives)).sends;
-          recorded = is_recorded job server.devices (client_after_setup order server.link.gives) how _ _ held held' d.followed way;
-          link = d.link;
-        }
+        record { server = d.server; sends = d.sends; used = is_recorded job d.server.devices (client_after_setup order d.server.link.gives) how _ _ held held' d.used way; link = d.link }
 
-    -- list that is done has told each device
-    ran_listed : {server : Text} → JobRan (one server order task.List) bytes how links links' held held' back back' → DevicesListed order links held held'
+    -- list: it has told each device
+    ran_listed : {server : Text} → JobRan (one server order task.List) bytes how links links' held held' back back' →
+        UsedServer order links links' back back' (λ devices w sends. (output : List ℕ) × HasLines 0 devices output × Appended held output held')
     ran_listed r =
         let d = one_done task.List r in
-        let server = d.after.server in
-        let l = list_ran server.devices (client_after_setup order server.link.gives) how _ _ held held' d.followed in
-        record { server = server; output = l.followed.output; lines = l.listed way; sink = l.followed.sink }
+        let l = list_ran d.server.devices (client_after_setup order d.server.link.gives) how _ _ held held' d.used in
+        record { server = d.server; sends = d.sends; used = (l.followed.output, l.listed way, l.followed.sink); link = d.link }
 
 -- what a tool did that ran
 pub did : (j : Job) (bytes : List ℕ) (how : ToolEnd) (links : List ToldLink) (links' : Option (List ToldLink)) (held held' : Option (List ℕ)) (back back' : Option (List (List ℕ))) →
-    JobRan j bytes how links links' held held' back back' → (how ≡ end.Done → IsInRange j) → JobDone j bytes how links links' held held' back back'
-did j bytes how links links' held held' back back' r ranged =
+    JobRan j bytes how links links' held held' back back' → (how ≡ end.Done → IsInRange j) → (length bytes ≤ most_bytes → how ≡ end.TooLong → ⊥) → JobDone j bytes how links links' held held' back back'
+did j bytes how links links' held held' back back' r ranged short =
     let ran : (k : Job) → j ≡ k → JobRan k bytes how links links' held held' back back' = λ k same. subst (λ (x : Job). JobRan x bytes how links links' held held' back back') same r in
     record {
       ran = r;
       reply = reply_of _ _ _ _ r.recorded;
-      device = device_of _ _ _ _ r.recorded;
-      rates = rates_of _ _ _ _ r.recorded;
-      sound = ends_by_sound _ _ _ _ r.recorded;
+      unfit = ends_if_unfit r.recorded;
       heard = λ server order play same way. (let range = subst IsInRange same (ranged way) in ran_played order way play (ran (one server order (task.Play play)) same) range.0);
       recorded = λ server order recording same way. ran_recorded order way recording (ran (one server order (task.Record recording)) same);
       listed = λ server order same way. ran_listed order way (ran (one server order task.List) same);
       relayed = λ from to order pass same way. ran_relayed order way pass (ran (relay from to order pass) same) (subst IsInRange same (ranged way));
-      complete = run_done j links bytes _ _ how r.recorded;
+      complete = λ few served. served_done _ how _ _ r.recorded (short few) served;
     }

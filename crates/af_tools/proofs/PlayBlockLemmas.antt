@@ -1,10 +1,9 @@
 -- Blocks that are played, one after the other.
-use Rattle.std.proofs.Common.{◌≡◌, ℕ, zero, suc, ◌+◌, ◌-◌, ◌/◌, ◌<◌, ◌≤◌, nat_lt, true, false, List, [], ◌∷◌, ◌++◌, length, take, drop, sym, ap, ap₂, ◌∙◌, append-nil, refl, arith, inl, inr, length-append, length-drop, length-take}
+use Rattle.std.proofs.Common.{◌≡◌, ℕ, zero, suc, ◌+◌, ◌-◌, ◌/◌, ◌<◌, ◌≤◌, nat_lt, true, false, List, [], ◌∷◌, ◌++◌, length, take, drop, sym, ap, ap₂, ◌∙◌, append-nil, refl, arith, inl, inr, length-append, length-drop, length-take, Option}
 use Rattle.std.proofs.lemmas.Bool.Decides.{nat_tests}
 use Rattle.std.proofs.lemmas.List.{take_at, drop_at, take_all, drop_all}
 use Rattle.std.proofs.lemmas.Bool.{cases_lt}
-use Rattle.std.proofs.Math.Nat.{zero-div}
-use Rattle.std.specs.declared.option.Option.{Option}
+use Rattle.std.proofs.Math.Nat.{div-le_self}
 use Rattle.af_io.specs.Observed.{Consumed}
 use Rattle.af_request.specs.Asked.{play_run}
 use Rattle.af_lib.specs.Calls.{as_time}
@@ -31,10 +30,6 @@ cut_enough (suc n) (suc m) size [] some few less = refl
 cut_enough (suc n) (suc m) size (b ∷ bytes) some few less =
     let len : length (drop size (b ∷ bytes)) ≡ suc (length bytes) - size = length-drop size (b ∷ bytes) in
     ap (λ more. take size (b ∷ bytes) ∷ more) (cut_enough n m size (drop size (b ∷ bytes)) some (omega arith) (omega arith))
-
-pub blocks_none : (size : ℕ) → blocks size [] ≡ []
-unfolding blocks
-blocks_none size = refl
 
 -- the first block, and those of the rest
 pub blocks_some : (size : ℕ) (bytes : List ℕ) → 0 < size → 0 < length bytes → blocks size bytes ≡ take size bytes ∷ blocks size (drop size bytes)
@@ -63,12 +58,9 @@ blocks_read size rest block later some more fits is ended =
     blocks_some size rest some (omega arith)
     ∙ ap₂ (λ (a b : List ℕ). a ∷ blocks size b) (ap (take size) is ∙ parts.0) (ap (drop size) is ∙ parts.1)
 
-some_of : (n width : ℕ) → 0 < n / width → 0 < n
-some_of zero width some = absurd (let none : 0 / width ≡ 0 = zero-div width in omega arith)
-some_of (suc n) width some = omega arith
-
 pub blocks_empty : (size : ℕ) (rest : List ℕ) → length rest ≡ 0 → blocks size rest ≡ []
-blocks_empty size [] none = blocks_none size
+unfolding blocks
+blocks_empty size [] none = refl
 blocks_empty size (x ∷ rest) none = absurd (omega arith)
 
 module _ (coding : Option Coding) (width start frames given : ℕ) (w : ClientState) (next : ℕ → ClientState → Trace) where
@@ -103,8 +95,8 @@ module _ (coding : Option Coding) (width start frames given : ℕ) (w : ClientSt
       plays coding width start frames given (blocks size rest) w next
       ≡ asks (play_run false 1 (block_time start frames) (as_served coding (whole_frames width block))) as_time w (λ _ v. plays coding width start (frames + frames_in width block) (given + length block) (blocks size later) v next)
   plays_next size rest block later some fits is ended within whole =
-      let more : 0 < length block = some_of (length block) width whole in
-      ap (λ b. plays coding width start frames given b w next) (blocks_read size rest block later some more fits is ended) ∙ plays_block block (blocks size later) within whole
+      let least = div-le_self (length block) width in
+      ap (λ b. plays coding width start frames given b w next) (blocks_read size rest block later some (omega arith) fits is ended) ∙ plays_block block (blocks size later) within whole
 
   -- fewer bytes than a frame has are left
   pub plays_over : (size : ℕ) (rest : List ℕ) → 0 < size → length rest ≤ size → given + length rest ≤ most_bytes → length rest / width ≡ 0 → plays coding width start frames given (blocks size rest) w next ≡ next frames w

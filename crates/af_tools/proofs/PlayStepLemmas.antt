@@ -1,11 +1,9 @@
 -- The steps of playing a source: a block is read and played, or the tool ends.
-use Rattle.std.proofs.Common.{◌≡◌, ◌⊎◌, ℕ, zero, suc, ◌+◌, ◌-◌, ◌*◌, ◌/◌, ◌<◌, ◌≤◌, true, false, List, [], ◌++◌, length, take, sym, ap, ap₂, ◌∙◌, refl, subst, arith, append-nil, length-take-le, IsSome, inl, inr}
-use Rattle.std.specs.Prelude.{Ok, Err}
+use Rattle.std.proofs.Common.{◌≡◌, ◌⊎◌, ℕ, zero, suc, ◌+◌, ◌-◌, ◌*◌, ◌/◌, ◌<◌, ◌≤◌, false, List, [], ◌++◌, length, take, sym, ap, ap₂, ◌∙◌, refl, subst, arith, append-nil, length-take-le, IsSome, inl, inr, Ok, Err, Option, None, Some}
+use Rattle.std.proofs.lemmas.Option.{same_Some}
 use Rattle.std.proofs.lemmas.List.{take-take}
 use Rattle.std.proofs.Math.Seq.{take-append-add}
 use Rattle.std.proofs.Math.Nat.{zero-div}
-use Rattle.std.specs.declared.option.Option.{Option}
-use Rattle.std.specs.declared.option.Option.TheVariants.{None, Some}
 use Rattle.af_time.specs.declared.DevTime.{DevTime}
 use Rattle.af_io.specs.Observed.{Consumed}
 use Rattle.af_io.specs.Flow.{IsSpent}
@@ -22,12 +20,12 @@ use Rattle.af_tools.specs.Limits.{most_bytes}
 use Rattle.af_tools.specs.Sounds.{as_served, source_width, stated_after, stated_part, stated_room, FitsStated}
 use Rattle.af_tools.specs.Play.{block_time, blocks, frames_in, plays, plays_sound, whole_frames}
 use Rattle.af_tools.specs.Fill.{fill_end, ConsumedAbove, FillsBlock, IsFirstBlock}
-use Rattle.af_toolkit.specs.Ends.{ObservedPart, TracePart, is_outer}
+use Rattle.af_toolkit.specs.Ends.{ObservedPart, TracePart}
 use Rattle.af_io.proofs.ConsumedLemmas.{consumed_known, consumed_told}
-use Rattle.af_toolkit.proofs.TracePartLemmas.{goes_stop}
-use Rattle.af_toolkit.proofs.PartProgressLemmas.{goes_at_once, goes_early, goes_same, goes_value, Reaches, reaches_goes, reaches_none, reaches_on}
+use Rattle.af_toolkit.proofs.PartProgressLemmas.{goes_at_once, goes_early, Reaches, reaches_none, reaches_on}
+use Rattle.af_tools.proofs.PartStepLemmas.{part_is_done, part_reaches, part_stops, reaches_as}
 use Rattle.af_tools.proofs.PlayBlockLemmas.{plays_beyond, plays_next, plays_over}
-use Rattle.af_tools.proofs.SourceCountLemmas.{whole_of}
+use Rattle.af_tools.proofs.SourceCountLemmas.{spent_none, whole_of}
 use Rattle.af_tools.proofs.SourceFrameLemmas.{BlockFits, block_short}
 
 -- So many frames of a sound were played: the trace goes on with the blocks of what is left of it. The source is to give so many
@@ -48,10 +46,6 @@ pub record IsFilled (part : TracePart ℕ) (coding : Option Coding) (width start
   pub full : length (take n room) ≡ n
   pub ended : n < size → stated_part (stated_after of n) after ≡ []
   pub reaches : Reaches part (plays coding width start frames given (blocks size (take n room ++ stated_part (stated_after of n) after)) (wire input)) sent sent' held held
-
-spent_none : (left' : Option (List ℕ)) (after : List ℕ) → left' ≡ Some after → IsSpent left' → after ≡ []
-spent_none None after is spent = cc is
-spent_none (Some x) after is spent = let same : x ≡ after = cc in sym same ∙ spent
 
 -- a part of a sound at its front
 part_front : (of : Option ℕ) (part after : List ℕ) → FitsStated of (length part) → stated_part of (part ++ after) ≡ part ++ stated_part (stated_after of (length part)) after
@@ -77,9 +71,6 @@ part_ended : (of : Option ℕ) (n : ℕ) (left' : Option (List ℕ)) (after : Li
 part_ended of n left' after is (inl spent) = ap (stated_part (stated_after of n)) (spent_none left' after is spent) ∙ part_none (stated_after of n)
 part_ended of n left' after is (inr all) = part_over of n after all
 
-same_rest : (left : Option (List ℕ)) (a b : List ℕ) → left ≡ Some a → left ≡ Some b → a ≡ b
-same_rest left a b is other = cc
-
 -- the samples of a block, which are the first of a buffer
 samples_of : (n width : ℕ) (room : List ℕ) → length (take n room) ≡ n → n / width * width ≤ n → take (n / width * width) room ≡ whole_frames width (take n room)
 samples_of n width room full within =
@@ -91,11 +82,6 @@ fits_room (Some m) size n fits = (omega arith, omega arith)
 
 module _ {part : TracePart ℕ} {coding : Option Coding} {width start size frames given : ℕ} {of : Option ℕ} {left told : Option (List ℕ)} {wire : List ℕ → ClientState} {sent sent' held : Option (List ℕ)}
     (p : IsPlaying part coding width start size frames given of left told wire sent sent' held) where
-  -- something from outside ended the tool
-  play_stopped : (how : ToolEnd) → is_outer how ≡ true → {told' : Option (List ℕ)} {wire' : List ℕ → ClientState} → ObservedPart {X = ℕ} part (Err how) told' wire' sent sent' held held
-  play_stopped how outer {told'} {wire'} =
-      reaches_goes part (plays coding width start frames given (blocks size (stated_part of p.rest)) (wire p.input)) (Err how) told' wire' sent sent' sent' held held held p.reaches (goes_early _ how told' wire' sent' held outer)
-
   -- the source gave too much
   pub play_too_long : (allowed : ℕ) (left' : Option (List ℕ)) → 0 < size → allowed + given ≡ most_bytes → ConsumedAbove allowed (stated_room of size) left left' → IsSome left' →
       {told' : Option (List ℕ)} {wire' : List ℕ → ClientState} → ObservedPart {X = ℕ} part (Err end.TooLong) told' wire' sent sent' held held
@@ -104,16 +90,15 @@ module _ {part : TracePart ℕ} {coding : Option Coding} {width start size frame
       let beyond = above.beyond in
       let part_fits = fits_room of size (length above.bytes) above.within in
       let fits = part_fits.0 in
-      reaches_goes part (plays coding width start frames given (blocks size (stated_part of p.rest)) (wire p.input)) (Err end.TooLong) told' wire' sent sent' sent' held held held p.reaches
+      part_reaches p.reaches
       (goes_at_once _ too_long end.TooLong told' wire' sent' held (λ next. plays_beyond coding width start frames given (wire p.input) next size (stated_part of p.rest) above.bytes
       (stated_part (stated_after of (length above.bytes)) k.0) some (ap (stated_part of) k.2 ∙ part_front of above.bytes k.0 part_fits.1) fits (omega arith) (omega arith)) refl)
 
   -- nothing is left of the sound
   play_ended : (rest : List ℕ) → 0 < size → given ≤ most_bytes → left ≡ Some rest → stated_part of rest ≡ [] → ObservedPart part (Ok frames) told wire sent sent' held held
   play_ended rest some within is none =
-      let len : length (stated_part of p.rest) ≡ 0 = ap (λ (l : List ℕ). length (stated_part of l)) (same_rest left p.rest rest p.is_left is) ∙ ap length none in
-      reaches_goes part (plays coding width start frames given (blocks size (stated_part of p.rest)) (wire p.input)) (Ok frames) told wire sent sent' sent' held held held p.reaches
-      (goes_value _ frames p.input told wire sent' held p.is_told
+      let len : length (stated_part of p.rest) ≡ 0 = ap (λ (l : List ℕ). length (stated_part of l)) (same_Some p.rest rest (sym p.is_left ∙ is)) ∙ ap length none in
+      part_reaches p.reaches (part_is_done p.is_told
       (λ next. plays_over coding width start frames given (wire p.input) next size (stated_part of p.rest) some (omega arith) (omega arith) (ap (λ k. k / width) len ∙ zero-div width)))
 
   -- the next block is read
@@ -132,7 +117,7 @@ module _ {part : TracePart ℕ} {coding : Option Coding} {width start size frame
         is_told = p.is_told;
         full = full;
         ended = λ short. part_ended of n left' k.0 k.1 (ended short);
-        reaches = subst (λ (l : List ℕ). Reaches part (plays coding width start frames given (blocks size l) (wire p.input)) sent sent' held held) parts p.reaches;
+        reaches = rw parts at p.reaches;
       }
 
 -- nothing was played, and the source has all
@@ -146,8 +131,7 @@ play_begin sound block start width bytes input left told wire sent held same_hea
       input = input;
       is_left = is_left;
       is_told = is_told;
-      reaches = subst (λ (k : ℕ). Reaches whole (plays sound.coding width start 0 k (blocks (block * width) (stated_part sound.length bytes)) (wire input)) sent sent held held) same_head
-          (subst (λ (x : ℕ). Reaches whole (plays sound.coding x start 0 sound.head (blocks (block * x) (stated_part sound.length bytes)) (wire input)) sent sent held held) (sym same) (reaches_none whole sent held));
+      reaches = rw (← same_head, same) (reaches_none whole sent held);
     }
 
 module _ {part : TracePart ℕ} {coding : Option Coding} {width start size frames given n : ℕ} {of : Option ℕ} {room : List ℕ} {left told : Option (List ℕ)} {wire : List ℕ → ClientState} {sent sent' held : Option (List ℕ)}
@@ -160,8 +144,7 @@ module _ {part : TracePart ℕ} {coding : Option Coding} {width start size frame
       let short = block_short fits none in
       let all : List ℕ = take n room ++ stated_part (stated_after of n) f.after in
       let len : length all ≡ n = ap length (ap (λ b. take n room ++ b) (f.ended short) ∙ append-nil (take n room)) ∙ f.full in
-      reaches_goes part (plays coding width start frames given (blocks size all) (wire f.input)) (Ok frames) told wire sent sent' sent' held held held f.reaches
-      (goes_value _ frames f.input told wire sent' held f.is_told
+      part_reaches f.reaches (part_is_done f.is_told
       (λ next. plays_over coding width start frames given (wire f.input) next size all fits.some (omega arith) (omega arith) (ap (λ k. k / width) len ∙ none)))
 
   module _ {at : ℕ} (place : at ≡ block_time start frames) (whole : 0 < n / width) where
@@ -181,22 +164,18 @@ module _ {part : TracePart ℕ} {coding : Option Coding} {width start size frame
     module _ {told' : Option (List ℕ)} {wire' : List ℕ → ClientState} {sent'' : Option (List ℕ)} where
       pub play_refused : {how : ToolEnd} → ((input : List ℕ) → told ≡ Some input → ObservedPart {X = DevTime} (asks (play_run false 1 at (as_served coding (take (n / width * width) room))) as_time (wire input)) (Err how) told' wire' sent' sent'' held held) →
           ObservedPart {X = ℕ} part (Err how) told' wire' sent sent'' held held
-      play_refused {how} goes =
-          reaches_goes part (plays coding width start frames given (blocks size (take n room ++ stated_part (stated_after of n) f.after)) (wire f.input)) (Err how) told' wire' sent sent' sent'' held held held f.reaches
-          (goes_same _ _ (Err how) told' wire' sent' sent'' held held asked_next
-          (goes_stop (asks (play_run false 1 at (as_served coding (take (n / width * width) room))) as_time (wire f.input)) (λ _ v. plays coding width start (frames + n / width) (given + n) (blocks size (stated_part (stated_after of n) f.after)) v) how told' told' wire' wire' sent' sent'' held held (goes f.input f.is_told)))
+      play_refused goes = part_reaches (reaches_as f.reaches asked_next) (part_stops (goes f.input f.is_told))
 
       module _ {now : DevTime} (goes : (input : List ℕ) → told ≡ Some input → ObservedPart (asks (play_run false 1 at (as_served coding (take (n / width * width) room))) as_time (wire input)) (Ok now) told' wire' sent' sent'' held held) where
         play_on : {given' : ℕ} {of' : Option ℕ} → given + n ≡ given' → of' ≡ stated_after of n → IsPlaying part coding width start size (frames + n / width) given' of' left told' wire' sent sent'' held
         play_on {given'} {of'} count same =
-            let k = reaches_on part (plays coding width start frames given (blocks size (take n room ++ stated_part (stated_after of n) f.after)) (wire f.input)) (asks (play_run false 1 at (as_served coding (take (n / width * width) room))) as_time (wire f.input)) (λ _ v. plays coding width start (frames + n / width) (given + n) (blocks size (stated_part (stated_after of n) f.after)) v) now told' wire' sent sent' sent'' held held held f.reaches asked_next (goes f.input f.is_told) in
+            let k = reaches_on _ _ _ (λ _ v. plays coding width start (frames + n / width) (given + n) (blocks size (stated_part (stated_after of n) f.after)) v) now told' wire' sent sent' sent'' held held held f.reaches asked_next (goes f.input f.is_told) in
             record {
               rest = f.after;
               input = k.0;
               is_left = f.is_left;
               is_told = k.1;
-              reaches = subst (λ (o : Option ℕ). Reaches part (plays coding width start (frames + n / width) given' (blocks size (stated_part o f.after)) (wire' k.0)) sent sent'' held held) (sym same)
-                  (subst (λ (m : ℕ). Reaches part (plays coding width start (frames + n / width) m (blocks size (stated_part (stated_after of n) f.after)) (wire' k.0)) sent sent'' held held) count k.2);
+              reaches = rw (same, ← count) k.2;
             }
 
         -- it was the last one
@@ -213,11 +192,11 @@ module _ {part : TracePart ℕ} {coding : Option Coding} {width start size frame
         -- the next one is not had
         pub play_unfilled : {allowed : ℕ} {of' : Option ℕ} {room' : List ℕ} {left' : Option (List ℕ)} (fault : FillFault) → of' ≡ stated_after of n → FillsBlock (length room') allowed of' (Err fault) room' left left' → length room' ≡ size → IsSome left' → allowed + (given + n) ≡ most_bytes →
             ObservedPart {X = ℕ} part (Err (fill_end fault)) told' wire' sent sent'' held held
-        play_unfilled fill.ReadFault same block sized tells limit = play_stopped (play_on refl refl) end.ReadFault refl
+        play_unfilled fill.ReadFault same block sized tells limit = part_reaches (play_on refl refl).reaches (goes_early _ end.ReadFault _ _ _ _ refl)
         play_unfilled {allowed} {of'} {left'} fill.TooLong same block sized tells limit =
             play_too_long (play_on refl same) allowed left' fits.some limit (subst (λ (k : ℕ). ConsumedAbove allowed (stated_room of' k) left left') sized (block.long refl)) tells
 
 -- a source that is not had for a fault told what it had before
 pub told_unfilled : {room allowed : ℕ} {len : Option ℕ} {bytes : List ℕ} {left left' : Option (List ℕ)} (fault : FillFault) → FillsBlock room allowed len (Err fault) bytes left left' → IsSome left' → IsSome left
-told_unfilled {left} {left'} fill.ReadFault block tells = let m = block.cut refl in consumed_told left left' m.bytes m.consumed tells
+told_unfilled {left} {left'} fill.ReadFault block tells = let m = block.cut refl in consumed_told left left' m.text m.consumed tells
 told_unfilled {left} {left'} fill.TooLong block tells = let m = block.long refl in consumed_told left left' m.bytes m.consumed tells

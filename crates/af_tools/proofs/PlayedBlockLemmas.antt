@@ -1,12 +1,6 @@
 -- If aplay is done, each block was played.
-use Rattle.std.proofs.Common.{◌≡◌, ◌==◌, ℕ, Bool, true, nat_lt, if◌then◌else◌, ap₂, take, drop, ◌+◌, ◌*◌, ◌/◌, ◌%◌, ◌^◌, ◌<◌, ◌≤◌, false, List, [], ◌∷◌, ◌++◌, length, slice_get, sym, ap, ◌∙◌, append_assoc, append-nil, subst, refl, arith, inl, inr}
-use Rattle.std.specs.Prelude.{Result, Ok, Err}
-use Rattle.std.specs.List.{flat_map}
-use Rattle.std.specs.declared.option.Option.{Option}
-use Rattle.std.specs.declared.option.Option.TheVariants.{None, Some}
+use Rattle.std.proofs.Common.{◌≡◌, ◌⊎◌, ℕ, ap₂, ◌+◌, ◌*◌, ◌/◌, ◌%◌, ◌^◌, ◌<◌, ◌≤◌, false, List, [], ◌∷◌, ◌++◌, length, map, slice_get, sym, ap, ◌∙◌, append_assoc, append-nil, subst, refl, arith, inl, inr, Result, Ok, Err, flat_map, Option, None, Some}
 use Rattle.std.proofs.lemmas.Bool.{cases_lt}
-use Rattle.std.proofs.lemmas.List.{take-append-drop}
-use Rattle.std.proofs.lemmas.Bool.Decides.{nat_tests}
 use Rattle.af_time.specs.DeviceTime.{frames_lasting}
 use Rattle.af_time.specs.declared.DevTime.{DevTime}
 use Rattle.af_sample.specs.Channels.{IsChannelCount}
@@ -25,31 +19,27 @@ use Rattle.af_toolkit.specs.declared.end.ToolEnd.{ToolEnd}
 use Rattle.af_toolkit.specs.declared.end.ToolEnd.TheVariants as end
 use Rattle.af_cli.specs.declared.job.PlayJob.{PlayJob}
 use Rattle.af_tools.proofs.EndLemmas.{is_whole}
-use Rattle.af_toolkit.specs.Trace.{Trace, Finish, ClientState, answer_on, after_answer, asks, after_reply, channel_mismatch, done, ends, mismatch, on_device, sends_first, too_long, writes_first}
+use Rattle.af_toolkit.specs.Trace.{Trace, ClientState, answer_on, after_answer, asks, after_reply, done, ends, on_device, sends_first, too_long, writes_first}
 use Rattle.af_sound.specs.declared.head.Coding.{Coding}
-use Rattle.af_sound.specs.declared.head.HeadStep.{HeadStep}
-use Rattle.af_sound.specs.declared.head.HeadStep.TheVariants as step
 use Rattle.af_sound.specs.declared.head.SoundForm.{SoundForm}
-use Rattle.af_sound.specs.declared.head.SoundHead.{SoundHead}
-use Rattle.af_sound.specs.Fronts.{front_of}
-use Rattle.af_sound.proofs.FrontLemmas.{front, front_is_head}
 use Rattle.af_tools.specs.declared.sound.SourceSound.{SourceSound}
 use Rattle.af_tools.specs.Limits.{most_bytes}
-use Rattle.af_tools.specs.Sounds.{as_served, at_one_shape, after_header, file_sound, raw_sound, reads_sound, source_width, stated_part, GivesSamples, IsServedAs}
+use Rattle.af_tools.specs.Sounds.{as_served, reads_sound, source_width, stated_part, IsServedAs}
 use Rattle.af_tools.specs.Play.{aplay_trace, blocks, frames_in, play_context, played_text, played_frames, plays_on, plays, plays_sound, start_at, whole_frames}
 use Rattle.af_toolkit.specs.Ends.{ObservedTrace}
 use Rattle.af_tools.specs.Blocks.{Block}
 use Rattle.af_tools.specs.Intent.{blocks_sent, play_of, played_whole, IsPlayed}
 use Rattle.af_tools.proofs.PlayBlockLemmas.{plays_block, plays_last, plays_long, plays_none}
-use Rattle.af_tools.proofs.SentBlockLemmas.{frames_sent, sent_more, sent_no_more, sent_none, frames_converted, sent_converted, sent_served, served_first, served_last}
+use Rattle.af_tools.proofs.SentBlockLemmas.{frames_sent, sent_first, sent_last, sent_more, sent_no_more, frames_converted, sent_converted, sent_served, served_block}
 use Rattle.af_tools.proofs.HeardAsIntendedLemmas.{heard_as_intended}
+use Rattle.af_tools.proofs.SoundFitLemmas.{sound_cases, SoundRead, SoundRefused}
 
 -- a trace that is done went on after an answer
 pub answered_done : {X : Type 0} (r : Result X ConnFault) (w : ClientState) (next : X → ClientState → Trace) → (after_answer r w next).finish ≡ done → (x : X) × (r ≡ Ok x) × (after_answer r w next ≡ next x w)
 answered_done (Ok x) w next is = (x, refl, refl)
 answered_done (Err fault) w next is = absurd (cc)
 
-asks_done : {X : Type 0} (asked : Asked) (value_of : Answer → Option X) (w : ClientState) (next : X → ClientState → Trace) → (asks asked value_of w next).finish ≡ done →
+pub asks_done : {X : Type 0} (asked : Asked) (value_of : Answer → Option X) (w : ClientState) (next : X → ClientState → Trace) → (asks asked value_of w next).finish ≡ done →
     (x : X) × (answer_on asked value_of w ≡ Ok x) × (asks asked value_of w next ≡ sends_first (request_bytes w.order asked) (next x (after_reply w))) × ((next x (after_reply w)).finish ≡ done)
 unfolding asks
 asks_done asked value_of w next is =
@@ -64,7 +54,7 @@ ended_long c is way = let bad : too_long ≡ done = sym (ap (λ (x : Trace). x.f
 
 plays_done : (coding : Option Coding) (width start frames given : ℕ) (bs : List (List ℕ)) (w : ClientState) (next : ℕ → ClientState → Trace) → (plays coding width start frames given bs w next).finish ≡ done →
     (n : ℕ) × (v : ClientState) × (n ≡ frames + frames_sent width bs) × (plays coding width start frames given bs w next ≡ sends_first (flat_map (play_of w.order start) (sent_served coding width frames bs)) (next n v)) × ((next n v).finish ≡ done) × (v.order ≡ w.order)
-plays_done coding width start frames given [] w next way = (frames, w, (let none = sent_none width in omega arith), plays_none coding width start frames given w next, ap (λ (c : Trace). c.finish) (sym (plays_none coding width start frames given w next)) ∙ way, refl)
+plays_done coding width start frames given [] w next way = (frames, w, omega arith, plays_none coding width start frames given w next, ap (λ (c : Trace). c.finish) (sym (plays_none coding width start frames given w next)) ∙ way, refl)
 plays_done coding width start frames given (block ∷ more) w next way = elim (cases_lt most_bytes (given + length block)) [
   | inl long ↦ absurd (ended_long _ (plays_long coding width start frames given w next block more long) way)
   | inr fits ↦ elim (cases_lt 0 (length block / width)) [
@@ -82,7 +72,7 @@ plays_done coding width start frames given (block ∷ more) w next way = elim (c
           omega arith,
           e ∙ a.2 ∙ ap (sends_first first) r.3
               ∙ sending_twice first (flat_map (play_of w.order start) others) (next r.0 r.1)
-              ∙ ap (λ (s : List Block). sends_first (flat_map (play_of w.order start) s) (next r.0 r.1)) (sym (served_first coding width frames block more some)),
+              ∙ ap (λ (s : List Block). sends_first (flat_map (play_of w.order start) s) (next r.0 r.1)) (ap (map (served_block coding)) (sym (sent_first width frames block more some))),
           r.4,
           r.5,
         )
@@ -91,7 +81,7 @@ plays_done coding width start frames given (block ∷ more) w next way = elim (c
       w,
       (let here = sent_no_more width block more (omega arith) in omega arith),
       plays_last coding width start frames given w next block more fits (omega arith)
-          ∙ ap (λ (s : List Block). sends_first (flat_map (play_of w.order start) s) (next frames w)) (sym (served_last coding width frames block more (omega arith))),
+          ∙ ap (λ (s : List Block). sends_first (flat_map (play_of w.order start) s) (next frames w)) (ap (map (served_block coding)) (sym (sent_last width frames block more (omega arith)))),
       ap (λ (c : Trace). c.finish) (sym (plays_last coding width start frames given w next block more fits (omega arith))) ∙ way,
       refl,
     )
@@ -144,51 +134,15 @@ done_on job sound device bytes w next served channels begun way =
           ∙ ap (λ (o : Order). sends_first (context ++ (time ++ (known ++ request_bytes o (free_ac 1)))) (next (length samples / frame_bytes sound.ty sound.channels) (start_of now) (after_reply p.1))) p.5,
     )
 
-on_device_done : (o : Option DeviceInfo) (n : ℕ) (next : DeviceInfo → Trace) → (on_device o n next).finish ≡ done → (device : DeviceInfo) × (o ≡ Some device) × (on_device o n next ≡ next device)
+pub on_device_done : (o : Option DeviceInfo) (n : ℕ) (next : DeviceInfo → Trace) → (on_device o n next).finish ≡ done → (device : DeviceInfo) × (o ≡ Some device) × (on_device o n next ≡ next device)
 on_device_done (Some device) n next way = (device, refl, refl)
 on_device_done None n next way = absurd (cc)
 
--- a file that has the rate and the channels of its device
-shape_done : (b c : Bool) (next : Trace) (x y : Finish) → (if b then (if c then next else ends x) else ends y).finish ≡ done → (x ≡ done → ⊥) → (y ≡ done → ⊥) → (b ≡ true) × (c ≡ true) × ((if b then (if c then next else ends x) else ends y) ≡ next)
-shape_done true true next x y way one other = (refl, refl, refl)
-shape_done true false next x y way one other = absurd (one way)
-shape_done false c next x y way one other = absurd (other way)
-
-same_number : (m n : ℕ) → (m == n) ≡ true → m ≡ n
-same_number m n is = grind (arith, nat_tests)
-
-said_sound : (form : SoundForm) (job : PlayJob) (device : DeviceInfo) (bytes : List ℕ) (next : SourceSound → List ℕ → Trace) (says : HeadStep) (size : ℕ) → front_of form bytes ≡ front says size →
-    (after_header says (λ head. at_one_shape head device (next (file_sound device head size) (drop size bytes)))).finish ≡ done →
-    (head : SoundHead) × (says ≡ step.Head head) × (head.rate ≡ device.rate) × (head.channels ≡ device.channels)
-    × (after_header says (λ head. at_one_shape head device (next (file_sound device head size) (drop size bytes))) ≡ next (file_sound device head size) (drop size bytes))
-said_sound form job device bytes next (step.Head head) size is way =
-    let s = shape_done (head.rate == device.rate) (head.channels == device.channels) (next (file_sound device head size) (drop size bytes)) (channel_mismatch head.channels device.channels) (mismatch head.rate device.rate) way (λ e. cc) (λ e. cc) in
-    (head, refl, same_number head.rate device.rate s.0, same_number head.channels device.channels s.1, s.2)
-said_sound form job device bytes next (step.Bad fault) size is way = absurd cc
-said_sound form job device bytes next step.More size is way = absurd cc
-
-long_done : (b : Bool) (next : Trace) → (if b then ends too_long else next).finish ≡ done → (if b then ends too_long else next) ≡ next
-long_done true next way = absurd cc
-long_done false next way = refl
-
-sound_done : (form : Option SoundForm) (job : PlayJob) (device : DeviceInfo) (bytes : List ℕ) (next : SourceSound → List ℕ → Trace) → job.form ≡ form → (reads_sound form job device bytes next).finish ≡ done →
-    (sound : SourceSound) × (rest : List ℕ) × GivesSamples form job device bytes sound.ty (as_served sound.coding (stated_part sound.length rest)) × IsServedAs sound.coding sound.ty × (sound.channels ≡ device.channels)
-    × (reads_sound form job device bytes next ≡ next sound rest)
-sound_done None job device bytes next is way = (raw_sound job device, bytes, (refl, refl), tt, refl, refl)
-sound_done (Some form) job device bytes next is way =
-    let f = front_of form bytes in
-    let l = long_done (nat_lt most_bytes f.size) (after_header f.says (λ head. at_one_shape head device (next (file_sound device head f.size) (drop f.size bytes)))) way in
-    let s = said_sound form job device bytes next f.says f.size refl (ap (λ (c : Trace). c.finish) (sym l) ∙ way) in
-    let head = s.0 in
-    let known : f ≡ front (step.Head head) f.size = ap (λ (said : HeadStep). front said f.size) s.1 in
-    let h = front_is_head form bytes f.size head known in (
-      file_sound device head f.size,
-      drop f.size bytes,
-      (record { front = take f.size bytes; rest = drop f.size bytes; head = head; is = sym (take-append-drop f.size bytes); is_head = h.1; one_rate = s.2; one_shape = s.3; is_type = refl; is_samples = refl }),
-      refl,
-      refl,
-      l ∙ s.4,
-    )
+-- a tool that is done has read a sound
+sound_done : {form : Option SoundForm} {job : PlayJob} {device : DeviceInfo} {bytes : List ℕ} → SoundRead form job device bytes ⊎ SoundRefused form job device bytes →
+    (next : SourceSound → List ℕ → Trace) → (reads_sound form job device bytes next).finish ≡ done → SoundRead form job device bytes
+sound_done (inl read) next way = read
+sound_done (inr ended) next way = absurd (ended.undone (ap (λ (c : Trace). c.finish) (sym (ended.goes next)) ∙ way))
 
 pub is_played : (job : PlayJob) (devices : List DeviceInfo) (bytes : List ℕ) (w : ClientState) (how : ToolEnd) (s s' h h' : Option (List ℕ)) →
     ObservedTrace (aplay_trace job devices bytes w) how s s' h h' → how ≡ end.Done → 1 ≤ job.block →
@@ -200,20 +154,21 @@ is_played job devices bytes w how s s' h h' followed way some stated =
     let reporting = λ (frames start : ℕ) (v : ClientState). writes_first (played_text frames start) (ends done) in
     let d = on_device_done (slice_get devices job.device) (length devices) (λ device. reads_sound job.form job device bytes (λ sound rest. plays_on job sound device rest w reporting)) finish in
     let device = d.0 in
-    let g = sound_done job.form job device bytes (λ sound rest. plays_on job sound device rest w reporting) refl (ap (λ (c : Trace). c.finish) (sym d.2) ∙ finish) in
-    let sound = g.0 in
-    let samples : List ℕ = as_served sound.coding (stated_part sound.length g.1) in
+    let g = sound_done (sound_cases job.form job device bytes) (λ sound rest. plays_on job sound device rest w reporting) (ap (λ (c : Trace). c.finish) (sym d.2) ∙ finish) in
+    let sound = g.sound in
+    let goes = g.goes (λ sound rest. plays_on job sound device rest w reporting) in
+    let samples : List ℕ = as_served sound.coding (stated_part sound.length g.rest) in
     let count : IsChannelCount device.channels = (stated device d.1).channels in
-    let alike : sound.channels ≡ device.channels = g.4 in
-    let p = done_on job sound device g.1 w reporting g.3 (subst IsChannelCount (sym alike) count) some (ap (λ (c : Trace). c.finish) (sym (d.2 ∙ g.5)) ∙ finish) in
+    let alike : sound.channels ≡ device.channels = g.channels in
+    let p = done_on job sound device g.rest w reporting g.served (subst IsChannelCount (sym alike) count) some (ap (λ (c : Trace). c.finish) (sym (d.2 ∙ goes)) ∙ finish) in
     let start = start_at job.time p.0.0 (frames_lasting device.rate job.lead) in
-    let is = d.2 ∙ g.5 ∙ p.3 ∙ ap (λ (n : ℕ). sends_first (played_whole w.order job sound.ty n samples start) (reporting (length samples / frame_bytes sound.ty n) start p.1)) alike in
+    let is = d.2 ∙ goes ∙ p.3 ∙ ap (λ (n : ℕ). sends_first (played_whole w.order job sound.ty n samples start) (reporting (length samples / frame_bytes sound.ty n) start p.1)) alike in
     record {
       device = device;
       is_there = d.1;
       ty = sound.ty;
       samples = samples;
-      gives = g.2;
+      gives = g.gives;
       now = p.0;
       told = p.2;
       start = start;

@@ -1,16 +1,14 @@
 -- The blocks that are sent of a source's bytes, also as a server takes them: each frame stands in exactly one of them.
-use Rattle.std.proofs.Common.{◌≡◌, ℕ, zero, suc, ◌+◌, ◌-◌, ◌*◌, ◌/◌, ◌<◌, ◌≤◌, nat_lt, Bool, true, false, if◌then◌else◌, List, [], ◌∷◌, length, take, drop, slice_get, slice_range, refl, sym, ap, ◌∙◌, subst, arith, inl, inr, length-take, length-take-le, length-drop, min, ◌++◌, map, ap₂}
+use Rattle.std.proofs.Common.{◌≡◌, ℕ, zero, suc, ◌+◌, ◌-◌, ◌*◌, ◌/◌, ◌<◌, ◌≤◌, nat_lt, true, false, if◌then◌else◌, List, [], ◌∷◌, length, take, drop, slice_get, slice_range, refl, sym, ap, ◌∙◌, subst, arith, inl, inr, length-take, length-take-le, length-drop, min, ◌++◌, map, ap₂, Option, None, Some}
+use Rattle.std.proofs.lemmas.Option.{none-some, same_Some}
 use Rattle.std.proofs.lemmas.Bool.Decides.{nat_tests}
 use Rattle.std.proofs.lemmas.Bool.{cases_lt}
 use Rattle.std.proofs.lemmas.List.{take-take, drop-take}
 use Rattle.std.proofs.Math.Seq.{drop-nil}
-use Rattle.std.specs.declared.option.Option.{Option}
-use Rattle.std.specs.declared.option.Option.TheVariants.{None, Some}
-use Rattle.std.specs.Prelude.{min, true, false}
 use Rattle.af_cli.proofs.FrameSizeLemmas.{by_size, IsFrameSize, frame_size}
 use Rattle.af_tools.specs.Play.{blocks, cut_blocks, frames_in, whole_frames}
 use Rattle.af_tools.specs.Blocks.{sent_after, Block, sent_blocks}
-use Rattle.std.proofs.Math.Nat.{div-div-eq-div-mul, mul_assoc, mul_comm}
+use Rattle.std.proofs.Math.Nat.{div-div-eq-div-mul, div-le_self, div-mul-le_self, mul_assoc, mul_comm}
 use Rattle.af_sample.specs.declared.sample_type.SampleType.{SampleType}
 use Rattle.af_sample.specs.declared.sample_type.SampleType.TheVariants as ty
 use Rattle.af_sample.specs.Channels.{IsChannelCount}
@@ -46,30 +44,26 @@ frame width bytes i = slice_range bytes (i * width) (i * width + width)
 pub whole_count : (w : ℕ) → IsFrameSize w → (n : ℕ) → n / w * w / w ≡ n / w
 whole_count w small n = by_size (λ w. n / w * w / w ≡ n / w) (omega arith) (omega arith) (omega arith) (omega arith) w small
 
-whole_within : (w : ℕ) → IsFrameSize w → (n : ℕ) → n / w * w ≤ n
-whole_within w small n = by_size (λ w. n / w * w ≤ n) (omega arith) (omega arith) (omega arith) (omega arith) w small
-
-no_frames : (w : ℕ) → IsFrameSize w → (n i : ℕ) → n ≤ 0 → i < n / w → ⊥
-no_frames w small n i none = by_size (λ w. i < n / w → ⊥) (λ low. omega arith) (λ low. omega arith) (λ low. omega arith) (λ low. omega arith) w small
-
 frame_end : (w : ℕ) → IsFrameSize w → (n i : ℕ) → i < n → i * w + w ≤ n * w
 frame_end w small n i low = by_size (λ w. i * w + w ≤ n * w) (omega arith) (omega arith) (omega arith) (omega arith) w small
 
--- if a frame is not in the first block, that block is full
-record IsInLaterBlock (width frames len first rest i : ℕ) : Type 0 where
-  full : first ≡ frames * width
-  count : first / width ≡ frames
-  fewer : rest < len
-  low : i - frames < rest / width
-  within : frames ≤ i
+-- So many bytes are cut: a first block of so many frames, and the rest. A frame that is not in the block comes after a full one.
+record IsCut (w frames len first rest : ℕ) : Type 0 where
+  all : first / w + rest / w ≡ len / w
+  fewer : 0 < len → rest < len
+  some : 0 < len / w → 0 < first / w
+  none : first / w ≡ 0 → 0 ≡ len / w
+  full : (i : ℕ) → i < len / w → first / w ≤ i → first / w ≡ frames
+  later : (i : ℕ) → i < len / w → first / w ≤ i → i - frames < rest / w
 
-is_after : (w : ℕ) → IsFrameSize w → (frames len first rest i : ℕ) → 0 < frames → first ≡ min (frames * w) len → rest ≡ len - frames * w → i < len / w → first / w ≤ i → IsInLaterBlock w frames len first rest i
-is_after w small frames len first rest i some =
-    by_size (λ w. first ≡ min (frames * w) len → rest ≡ len - frames * w → i < len / w → first / w ≤ i → IsInLaterBlock w frames len first rest i)
-    (λ f r low after. record { full = omega arith; count = omega arith; fewer = omega arith; low = omega arith; within = omega arith })
-    (λ f r low after. record { full = omega arith; count = omega arith; fewer = omega arith; low = omega arith; within = omega arith })
-    (λ f r low after. record { full = omega arith; count = omega arith; fewer = omega arith; low = omega arith; within = omega arith })
-    (λ f r low after. record { full = omega arith; count = omega arith; fewer = omega arith; low = omega arith; within = omega arith }) w small
+cut : (w : ℕ) → IsFrameSize w → (frames : ℕ) (bytes : List ℕ) → 0 < frames → IsCut w frames (length bytes) (length (take (frames * w) bytes)) (length (drop (frames * w) bytes))
+cut w small frames bytes some = by some (length bytes) _ _ (length-take (frames * w) bytes) (length-drop (frames * w) bytes) where
+  by : 0 < frames → (len first rest : ℕ) → first ≡ min (frames * w) len → rest ≡ len - frames * w → IsCut w frames len first rest
+  by some len first rest = by_size (λ w. first ≡ min (frames * w) len → rest ≡ len - frames * w → IsCut w frames len first rest)
+      (λ f r. record { all = omega arith; fewer = λ more. omega arith; some = λ more. omega arith; none = λ no_more. omega arith; full = λ i low after. omega arith; later = λ i low after. omega arith })
+      (λ f r. record { all = omega arith; fewer = λ more. omega arith; some = λ more. omega arith; none = λ no_more. omega arith; full = λ i low after. omega arith; later = λ i low after. omega arith })
+      (λ f r. record { all = omega arith; fewer = λ more. omega arith; some = λ more. omega arith; none = λ no_more. omega arith; full = λ i low after. omega arith; later = λ i low after. omega arith })
+      (λ f r. record { all = omega arith; fewer = λ more. omega arith; some = λ more. omega arith; none = λ no_more. omega arith; full = λ i low after. omega arith; later = λ i low after. omega arith }) w small
 
 frame_place : (w : ℕ) → IsFrameSize w → (n i : ℕ) → n ≤ i → n * w + (i - n) * w ≡ i * w
 frame_place w small n i low = by_size (λ w. n * w + (i - n) * w ≡ i * w) (omega arith) (omega arith) (omega arith) (omega arith) w small
@@ -111,7 +105,7 @@ pub record IsAt (w : ℕ) (bytes : List ℕ) (before i : ℕ) (sent : List Block
 
 head_count : (w : ℕ) → IsFrameSize w → (before : ℕ) (block : List ℕ) → length (head w before block).bytes / w ≡ length block / w
 head_count w small before block =
-    ap (λ n. n / w) (length-take-le (length block / w * w) block (whole_within w small (length block))) ∙ whole_count w small (length block)
+    ap (λ n. n / w) (length-take-le (length block / w * w) block (div-mul-le_self (length block) w)) ∙ whole_count w small (length block)
 
 is_first : (w : ℕ) → IsFrameSize w → (before size i : ℕ) (bytes : List ℕ) (more : List Block) → i < length (take size bytes) / w → IsAt w bytes before i (head w before (take size bytes) ∷ more)
 is_first w small before size i bytes more low = record {
@@ -123,60 +117,54 @@ is_first w small before size i bytes more low = record {
   within = subst (λ (n : ℕ). i < n) (sym (head_count w small before (take size bytes))) low;
   same =
       let len = length-take size bytes in
-      let part = whole_within w small (length (take size bytes)) in
+      let part = div-mul-le_self (length (take size bytes)) w in
       let end = frame_end w small (length (take size bytes) / w) i low in
       frame_within w (take size bytes) i _ end ∙ frame_within w bytes i size (omega arith);
 }
 
 pub find_block : (w : ℕ) → IsFrameSize w → (frames n before : ℕ) (bytes : List ℕ) (i : ℕ) → 0 < frames → length bytes ≤ n → i < length bytes / w →
     IsAt w bytes before i (sent_after w before (cut_blocks n (frames * w) bytes))
-find_block w small frames zero before bytes i some fits low = absurd (no_frames w small (length bytes) i fits low)
-find_block w small frames (suc n) before [] i some fits low = absurd (no_frames w small 0 i (omega arith) low)
+find_block w small frames zero before bytes i some fits low = absurd (let few = div-le_self (length bytes) w in omega arith)
+find_block w small frames (suc n) before [] i some fits low = absurd (let few = div-le_self 0 w in omega arith)
 find_block w small frames (suc n) before (b ∷ bs) i some fits low =
     let bytes : List ℕ = b ∷ bs in
     let size = frames * w in
     let first : List ℕ = take size bytes in
     let rest : List ℕ = drop size bytes in
-    elim (cases_lt i (length first / w)) [
-      | inl here ↦ subst (λ (s : List Block). IsAt w bytes before i s) (sym (sent_first w before first (cut_blocks n size rest) (omega arith))) (is_first w small before size i bytes _ here)
+    let parts = cut w small frames bytes some in
+    let whole = parts.some (omega arith) in
+    let fewer = parts.fewer (omega arith) in
+    rw (sent_first w before first (cut_blocks n size rest) whole) (elim (cases_lt i (length first / w)) [
+      | inl here ↦ is_first w small before size i bytes _ here
       | inr after ↦
-          let e = is_after w small frames (length bytes) (length first) (length rest) i some (length-take size bytes) (length-drop size bytes) low after in
-          let count = e.count in
-          let fewer = e.fewer in
-          let r = find_block w small frames n (before + length first / w) rest (i - frames) some (omega arith) e.low in
+          let count = parts.full i low after in
+          let r = find_block w small frames n (before + length first / w) rest (i - frames) some (omega arith) (parts.later i low after) in
           let place = r.place in
-          let within = e.within in
-          subst (λ (s : List Block). IsAt w bytes before i s) (sym (sent_first w before first (cut_blocks n size rest) (omega arith))) (record {
+          record {
             k = suc r.k;
             block = r.block;
             j = r.j;
             get = r.get;
             place = omega arith;
             within = r.within;
-            same = r.same ∙ frame_after w small bytes frames i e.within;
-          })
-    ]
-
-no_block : (b : Block) → (let o : Option Block = None in o ≡ Some b) → ⊥
-no_block b is = cc
-
-same_block : (a b : Block) → (let o : Option Block = Some a in o ≡ Some b) → a ≡ b
-same_block a b is = cc
+            same = r.same ∙ frame_after w small bytes frames i (omega arith);
+          }
+    ])
 
 -- a block is the first, or not before the others
 first_or_later : (first : Block) (more : List Block) (from k : ℕ) (b : Block) → slice_get (first ∷ more) k ≡ Some b → first.before ≤ from → ((n : ℕ) → slice_get more n ≡ Some b → from ≤ b.before) → first.before ≤ b.before
-first_or_later first more from zero b is low later = let same : first.before ≡ b.before = ap (λ (x : Block). x.before) (same_block first b is) in omega arith
+first_or_later first more from zero b is low later = let same : first.before ≡ b.before = ap (λ (x : Block). x.before) (same_Some first b is) in omega arith
 first_or_later first more from (suc k) b is low later = let far : from ≤ b.before = later k is in omega arith
 
 -- no block is before the first
 first_before : (width before : ℕ) (blocks : List (List ℕ)) (k : ℕ) (b : Block) → slice_get (sent_after width before blocks) k ≡ Some b → before ≤ b.before
-first_before width before [] k b is = absurd (no_block b is)
+first_before width before [] k b is = absurd (none-some b is)
 first_before width before (block ∷ more) k b is = elim (cases_lt 0 (length block / width)) [
   | inl some ↦
       first_or_later (head width before block) (sent_after width (before + frames_in width block) more) (before + frames_in width block) k b
-      (subst (λ (s : List Block). slice_get s k ≡ Some b) (sent_first width before block more some) is) (omega arith)
+      (rw (sent_first width before block more some) at is) (omega arith)
       (λ n is. first_before width (before + frames_in width block) more n b is)
-  | inr none ↦ absurd (no_block b (subst (λ (s : List Block). slice_get s k ≡ Some b) (sent_last width before block more (omega arith)) is))
+  | inr none ↦ absurd (none-some b (rw (sent_last width before block more (omega arith)) at is))
 ]
 
 -- two places of blocks that are not apart are one
@@ -184,8 +172,8 @@ first_or_same : (first : Block) (more : List Block) (k k' : ℕ) (b b' : Block) 
     ((n : ℕ) → first ≡ b → slice_get more n ≡ Some b' → ⊥) → ((n : ℕ) → first ≡ b' → slice_get more n ≡ Some b → ⊥) →
     ((n n' : ℕ) → slice_get more n ≡ Some b → slice_get more n' ≡ Some b' → n ≡ n') → k ≡ k'
 first_or_same first more zero zero b b' is is' left right later = refl
-first_or_same first more zero (suc k') b b' is is' left right later = absurd (left k' (same_block first b is) is')
-first_or_same first more (suc k) zero b b' is is' left right later = absurd (right k (same_block first b' is') is)
+first_or_same first more zero (suc k') b b' is is' left right later = absurd (left k' (same_Some first b is) is')
+first_or_same first more (suc k) zero b b' is is' left right later = absurd (right k (same_Some first b' is') is)
 first_or_same first more (suc k) (suc k') b b' is is' left right later = ap suc (later k k' is is')
 
 -- a frame of the first block is before those of the others
@@ -200,74 +188,44 @@ apart w small before block more c d m l n is at low same =
 -- two blocks with the same frame are one
 pub one_block : (w : ℕ) → IsFrameSize w → (before : ℕ) (blocks : List (List ℕ)) (k k' : ℕ) (b b' : Block) (j j' : ℕ) → slice_get (sent_after w before blocks) k ≡ Some b → slice_get (sent_after w before blocks) k' ≡ Some b' →
     j < length b.bytes / w → j' < length b'.bytes / w → b.before + j ≡ b'.before + j' → k ≡ k'
-one_block w small before [] k k' b b' j j' is is' low low' same = absurd (no_block b is)
+one_block w small before [] k k' b b' j j' is is' low low' same = absurd (none-some b is)
 one_block w small before (block ∷ more) k k' b b' j j' is is' low low' same = elim (cases_lt 0 (length block / w)) [
   | inl some ↦
       first_or_same (head w before block) (sent_after w (before + frames_in w block) more) k k' b b'
-      (subst (λ (s : List Block). slice_get s k ≡ Some b) (sent_first w before block more some) is)
-      (subst (λ (s : List Block). slice_get s k' ≡ Some b') (sent_first w before block more some) is')
+      (rw (sent_first w before block more some) at is) (rw (sent_first w before block more some) at is')
       (λ n is at. apart w small before block more b b' j j' n is at low same)
       (λ n is at. apart w small before block more b' b j' j n is at low' (sym same))
       (λ n n' at at'. one_block w small (before + frames_in w block) more n n' b b' j j' at at' low low' same)
-  | inr none ↦ absurd (no_block b (subst (λ (s : List Block). slice_get s k ≡ Some b) (sent_last w before block more (omega arith)) is))
+  | inr none ↦ absurd (none-some b (rw (sent_last w before block more (omega arith)) at is))
 ]
 
 -- how many frames of some blocks are sent
-unfoldable pub frames_sent : ℕ → List (List ℕ) → ℕ
+abbrev pub frames_sent : ℕ → List (List ℕ) → ℕ
 frames_sent width [] = 0
 frames_sent width (block ∷ more) = if nat_lt 0 (frames_in width block) then frames_in width block + frames_sent width more else 0
 
-pub sent_none : (width : ℕ) → frames_sent width [] ≡ 0
-unfolding frames_sent
-sent_none width = refl
-
 pub sent_more : (width : ℕ) (block : List ℕ) (more : List (List ℕ)) → 0 < length block / width → frames_sent width (block ∷ more) ≡ length block / width + frames_sent width more
-unfolding frames_sent
 sent_more width block more some =
     let whole : nat_lt 0 (length block / width) ≡ true = grind (arith, nat_tests) in
-    ap (λ (b : Bool). if b then length block / width + frames_sent width more else 0) whole
+    rw whole refl
 
 pub sent_no_more : (width : ℕ) (block : List ℕ) (more : List (List ℕ)) → length block / width ≡ 0 → frames_sent width (block ∷ more) ≡ 0
-unfolding frames_sent
 sent_no_more width block more none =
     let whole : nat_lt 0 (length block / width) ≡ false = grind (arith, nat_tests) in
-    ap (λ (b : Bool). if b then length block / width + frames_sent width more else 0) whole
-
-none_in : (w : ℕ) → IsFrameSize w → (n : ℕ) → n ≤ 0 → 0 ≡ n / w
-none_in w small n none = by_size (λ w. 0 ≡ n / w) (omega arith) (omega arith) (omega arith) (omega arith) w small
-
-in_all : (w : ℕ) → IsFrameSize w → (frames len first rest : ℕ) → 0 < frames → first ≡ min (frames * w) len → rest ≡ len - frames * w → first / w + rest / w ≡ len / w
-in_all w small frames len first rest some =
-    by_size (λ w. first ≡ min (frames * w) len → rest ≡ len - frames * w → first / w + rest / w ≡ len / w)
-    (λ f r. omega arith) (λ f r. omega arith) (λ f r. omega arith) (λ f r. omega arith) w small
-
-in_none : (w : ℕ) → IsFrameSize w → (frames len first : ℕ) → 0 < frames → first ≡ min (frames * w) len → first / w ≡ 0 → 0 ≡ len / w
-in_none w small frames len first some =
-    by_size (λ w. first ≡ min (frames * w) len → first / w ≡ 0 → 0 ≡ len / w)
-    (λ f none. omega arith) (λ f none. omega arith) (λ f none. omega arith) (λ f none. omega arith) w small
-
-fewer : (w : ℕ) → IsFrameSize w → (frames len rest n : ℕ) → 0 < frames → 0 < len → len ≤ suc n → rest ≡ len - frames * w → rest ≤ n
-fewer w small frames len rest n some there most =
-    by_size (λ w. rest ≡ len - frames * w → rest ≤ n) (λ r. omega arith) (λ r. omega arith) (λ r. omega arith) (λ r. omega arith) w small
+    rw whole refl
 
 frames_cut : (w : ℕ) → IsFrameSize w → (frames n : ℕ) (bytes : List ℕ) → 0 < frames → length bytes ≤ n → frames_sent w (cut_blocks n (frames * w) bytes) ≡ length bytes / w
-frames_cut w small frames zero bytes some few = sent_none w ∙ none_in w small (length bytes) few
-frames_cut w small frames (suc n) [] some few = sent_none w ∙ none_in w small 0 (omega arith)
+frames_cut w small frames zero bytes some few = let less = div-le_self (length bytes) w in omega arith
+frames_cut w small frames (suc n) [] some few = let less = div-le_self 0 w in omega arith
 frames_cut w small frames (suc n) (b ∷ bytes) some few =
     let xs : List ℕ = b ∷ bytes in
     let size : ℕ = frames * w in
-    let block : List ℕ = take size xs in
     let more = cut_blocks n size (drop size xs) in
-    let first : length block ≡ min size (length xs) = length-take size xs in
-    let rest : length (drop size xs) ≡ length xs - size = length-drop size xs in
-    elim (cases_lt 0 (length block / w)) [
-      | inl whole ↦
-          sent_more w block more whole
-          ∙ ap (λ (m : ℕ). length block / w + m) (frames_cut w small frames n (drop size xs) some (fewer w small frames (length xs) (length (drop size xs)) n some (omega arith) few rest))
-          ∙ in_all w small frames (length xs) (length block) (length (drop size xs)) some first rest
-      | inr none ↦
-          let zero_frames : length block / w ≡ 0 = omega arith in
-          sent_no_more w block more zero_frames ∙ in_none w small frames (length xs) (length block) some first zero_frames
+    let parts = cut w small frames xs some in
+    let fewer = parts.fewer (omega arith) in
+    elim (cases_lt 0 (length (take size xs) / w)) [
+      | inl whole ↦ sent_more w (take size xs) more whole ∙ ap (λ (m : ℕ). length (take size xs) / w + m) (frames_cut w small frames n (drop size xs) some (omega arith)) ∙ parts.all
+      | inr none ↦ sent_no_more w (take size xs) more (omega arith) ∙ parts.none (omega arith)
     ]
 
 -- the frames that are sent are all whole frames
@@ -275,25 +233,12 @@ pub all_frames : (w : ℕ) → IsFrameSize w → (frames : ℕ) (bytes : List �
 unfolding blocks
 all_frames w small frames bytes some = frames_cut w small frames (length bytes) bytes some (omega arith)
 
--- the blocks with a whole frame as a server takes them, after n frames, up to the first without one
-abbrev pub sent_served : Option Coding → ℕ → ℕ → List (List ℕ) → List Block
-sent_served coding width before [] = []
-sent_served coding width before (block ∷ more) =
-    if nat_lt 0 (frames_in width block)
-    then (record { before = before; bytes = as_served coding (whole_frames width block) }) ∷ sent_served coding width (before + frames_in width block) more
-    else []
+-- a block as a server takes it, and all that are sent so
+abbrev pub served_block : Option Coding → Block → Block
+served_block coding block = record { before = block.before; bytes = as_served coding block.bytes }
 
-pub served_first : (coding : Option Coding) (width before : ℕ) (block : List ℕ) (more : List (List ℕ)) → 0 < length block / width →
-    sent_served coding width before (block ∷ more)
-    ≡ (let first : Block = record { before = before; bytes = as_served coding (whole_frames width block) } in first) ∷ sent_served coding width (before + frames_in width block) more
-served_first coding width before block more some =
-    let whole : nat_lt 0 (length block / width) ≡ true = grind (arith, nat_tests) in
-    rw whole refl
-
-pub served_last : (coding : Option Coding) (width before : ℕ) (block : List ℕ) (more : List (List ℕ)) → length block / width ≡ 0 → sent_served coding width before (block ∷ more) ≡ []
-served_last coding width before block more none =
-    let whole : nat_lt 0 (length block / width) ≡ false = grind (arith, nat_tests) in
-    rw whole refl
+abbrev pub sent_served : Option Coding → (width before : ℕ) → List (List ℕ) → List Block
+sent_served coding width before blocks = map (served_block coding) (sent_after width before blocks)
 
 -- a number of bytes in pairs
 abbrev twice : ℕ → ℕ
@@ -305,23 +250,12 @@ twice_is zero = let none : 0 * 2 ≡ 0 = omega arith in none
 twice_is (suc k) = let more = twice_is k in omega arith
 
 -- pairs
-pairs_take : (k : ℕ) (xs : List ℕ) → take (twice k) (swapped_pairs xs) ≡ swapped_pairs (take (twice k) xs)
-pairs_take zero xs = refl
-pairs_take (suc k) [] = refl
-pairs_take (suc k) (a ∷ []) = refl
-pairs_take (suc k) (a ∷ b ∷ xs) = ap (λ (l : List ℕ). b ∷ a ∷ l) (pairs_take k xs)
-
-pairs_drop : (k : ℕ) (xs : List ℕ) → drop (twice k) (swapped_pairs xs) ≡ swapped_pairs (drop (twice k) xs)
-pairs_drop zero xs = refl
-pairs_drop (suc k) [] = refl
-pairs_drop (suc k) (a ∷ []) = refl
-pairs_drop (suc k) (a ∷ b ∷ xs) = pairs_drop k xs
-
-swapped_take : (k : ℕ) (xs : List ℕ) → take (k * 2) (swapped_pairs xs) ≡ swapped_pairs (take (k * 2) xs)
-swapped_take k xs = subst (λ (n : ℕ). take n (swapped_pairs xs) ≡ swapped_pairs (take n xs)) (sym (twice_is k)) (pairs_take k xs)
-
-swapped_drop : (k : ℕ) (xs : List ℕ) → drop (k * 2) (swapped_pairs xs) ≡ swapped_pairs (drop (k * 2) xs)
-swapped_drop k xs = subst (λ (n : ℕ). drop n (swapped_pairs xs) ≡ swapped_pairs (drop n xs)) (sym (twice_is k)) (pairs_drop k xs)
+swapped_parts : (k : ℕ) (xs : List ℕ) →
+    (take (twice k) (swapped_pairs xs) ≡ swapped_pairs (take (twice k) xs)) × (drop (twice k) (swapped_pairs xs) ≡ swapped_pairs (drop (twice k) xs))
+swapped_parts zero xs = (refl, refl)
+swapped_parts (suc k) [] = (refl, refl)
+swapped_parts (suc k) (a ∷ []) = (refl, refl)
+swapped_parts (suc k) (a ∷ b ∷ xs) = let more = swapped_parts k xs in (ap (λ (l : List ℕ). b ∷ a ∷ l) more.0, more.1)
 
 swapped_frames : (xs : List ℕ) → length (swapped_pairs xs) / 2 ≡ length xs / 2
 swapped_frames [] = refl
@@ -329,25 +263,17 @@ swapped_frames (a ∷ []) = let none : 0 / 2 ≡ 1 / 2 = omega arith in none
 swapped_frames (a ∷ b ∷ xs) = let more = swapped_frames xs in omega arith
 
 -- bytes of 8 bits
-wide_take : (k : ℕ) (xs : List ℕ) → take (twice k) (bytes_of ty.Lin16 (map sample_of xs)) ≡ bytes_of ty.Lin16 (map sample_of (take k xs))
-wide_take zero xs = refl
-wide_take (suc k) [] = refl
-wide_take (suc k) (x ∷ xs) = ap (λ (l : List ℕ). encoded ty.Lin16 (sample_of x) ++ l) (wide_take k xs)
+abbrev wide : List ℕ → List ℕ
+wide xs = bytes_of ty.Lin16 (map sample_of xs)
 
-wide_drop : (k : ℕ) (xs : List ℕ) → drop (twice k) (bytes_of ty.Lin16 (map sample_of xs)) ≡ bytes_of ty.Lin16 (map sample_of (drop k xs))
-wide_drop zero xs = refl
-wide_drop (suc k) [] = refl
-wide_drop (suc k) (x ∷ xs) = wide_drop k xs
+wide_parts : (k : ℕ) (xs : List ℕ) → (take (twice k) (wide xs) ≡ wide (take k xs)) × (drop (twice k) (wide xs) ≡ wide (drop k xs))
+wide_parts zero xs = (refl, refl)
+wide_parts (suc k) [] = (refl, refl)
+wide_parts (suc k) (x ∷ xs) = let more = wide_parts k xs in (ap (λ (l : List ℕ). encoded ty.Lin16 (sample_of x) ++ l) more.0, more.1)
 
-widened_take : (k : ℕ) (xs : List ℕ) → take (k * 2) (bytes_of ty.Lin16 (map sample_of xs)) ≡ bytes_of ty.Lin16 (map sample_of (take k xs))
-widened_take k xs = ap (λ (n : ℕ). take n (bytes_of ty.Lin16 (map sample_of xs))) (twice_is k) ∙ wide_take k xs
-
-widened_drop : (k : ℕ) (xs : List ℕ) → drop (k * 2) (bytes_of ty.Lin16 (map sample_of xs)) ≡ bytes_of ty.Lin16 (map sample_of (drop k xs))
-widened_drop k xs = ap (λ (n : ℕ). drop n (bytes_of ty.Lin16 (map sample_of xs))) (twice_is k) ∙ wide_drop k xs
-
-widened_length : (xs : List ℕ) → length (bytes_of ty.Lin16 (map sample_of xs)) ≡ length xs * 2
-widened_length [] = refl
-widened_length (x ∷ xs) = let more = widened_length xs in omega arith
+wide_length : (xs : List ℕ) → length (wide xs) ≡ length xs * 2
+wide_length [] = refl
+wide_length (x ∷ xs) = let more = wide_length xs in omega arith
 
 -- a coding whose frames have so many bytes, and so many as a server takes them
 pub record Converts (coding : Option Coding) (from to : ℕ) : Type 0 where
@@ -355,21 +281,18 @@ pub record Converts (coding : Option Coding) (from to : ℕ) : Type 0 where
   pub takes : (k : ℕ) (xs : List ℕ) → take (k * to) (as_served coding xs) ≡ as_served coding (take (k * from) xs)
   pub drops : (k : ℕ) (xs : List ℕ) → drop (k * to) (as_served coding xs) ≡ as_served coding (drop (k * from) xs)
 
-times_one : (k : ℕ) → k ≡ k * 1
-times_one k = omega arith
-
 converts_as : (c : Coding) → Converts (Some c) (sample_size c) (width_of (served_type c))
-converts_as coding.Lin16Little = record { frames = swapped_frames; takes = swapped_take; drops = swapped_drop }
+converts_as coding.Lin16Little = record { frames = swapped_frames; takes = λ k xs. rw (twice_is k) (swapped_parts k xs).0; drops = λ k xs. rw (twice_is k) (swapped_parts k xs).1 }
 converts_as coding.U8 = record {
-  frames = λ xs. (let len = widened_length xs in omega arith);
-  takes = λ k xs. widened_take k xs ∙ ap (λ (m : ℕ). bytes_of ty.Lin16 (map sample_of (take m xs))) (times_one k);
-  drops = λ k xs. widened_drop k xs ∙ ap (λ (m : ℕ). bytes_of ty.Lin16 (map sample_of (drop m xs))) (times_one k);
+  frames = λ xs. (let len = wide_length xs in omega arith);
+  takes = λ k xs. (let one : k * 1 ≡ k = omega arith in rw (one, twice_is k) (wide_parts k xs).0);
+  drops = λ k xs. (let one : k * 1 ≡ k = omega arith in rw (one, twice_is k) (wide_parts k xs).1);
 }
 converts_as c = record { frames = λ xs. refl; takes = λ k xs. refl; drops = λ k xs. refl }
 
 converts_sample : (c : Option Coding) (to : SampleType) → IsServedAs c to → Converts c (source_sample c to) (width_of to)
 converts_sample None to is = record { frames = λ xs. refl; takes = λ k xs. refl; drops = λ k xs. refl }
-converts_sample (Some c) to is = subst (λ (t : SampleType). Converts (Some c) (sample_size c) (width_of t)) (sym is) (converts_as c)
+converts_sample (Some c) to is = rw is (converts_as c)
 
 samples_in : (k w channels : ℕ) → k * (w * channels) ≡ k * channels * w
 samples_in k w channels = ap (λ (n : ℕ). k * n) (mul_comm w channels) ∙ sym (mul_assoc k channels w)
@@ -399,37 +322,14 @@ source_size (Some coding.Lin16Big) to channels count = frame_size ty.Lin16 chann
 source_size (Some coding.Lin16Little) to channels count = frame_size ty.Lin16 channels count
 source_size (Some coding.U8) to channels count = frame_size ty.Mu255 channels count
 
--- frames are small
-some_first : (w : ℕ) → IsFrameSize w → (frames len first : ℕ) → 0 < frames → first ≡ min (frames * w) len → 0 < len / w → 0 < first / w
-some_first w small frames len first some =
-    by_size (λ w. first ≡ min (frames * w) len → 0 < len / w → 0 < first / w) (λ f whole. omega arith) (λ f whole. omega arith) (λ f whole. omega arith) (λ f whole. omega arith) w small
-
-none_first : (w : ℕ) → IsFrameSize w → (frames len first : ℕ) → first ≡ min (frames * w) len → len / w ≡ 0 → first / w ≡ 0
-none_first w small frames len first =
-    by_size (λ w. first ≡ min (frames * w) len → len / w ≡ 0 → first / w ≡ 0) (λ f none. omega arith) (λ f none. omega arith) (λ f none. omega arith) (λ f none. omega arith) w small
-
-some_in : (w : ℕ) → IsFrameSize w → (len : ℕ) → 0 < len / w → 0 < len
-some_in w small len = by_size (λ w. 0 < len / w → 0 < len) (λ some. omega arith) (λ some. omega arith) (λ some. omega arith) (λ some. omega arith) w small
-
-none_of : (w : ℕ) → IsFrameSize w → (len : ℕ) → len ≤ 0 → len / w ≡ 0
-none_of w small len none = by_size (λ w. len / w ≡ 0) (omega arith) (omega arith) (omega arith) (omega arith) w small
-
 pub some_size : (w : ℕ) → IsFrameSize w → (frames : ℕ) → 0 < frames → 0 < frames * w
 some_size w small frames some = by_size (λ w. 0 < frames * w) (omega arith) (omega arith) (omega arith) (omega arith) w small
-
-none_served : (c : Option Coding) (w : ℕ) → IsFrameSize w → (frames before : ℕ) (bytes : List ℕ) → 0 < frames → length bytes / w ≡ 0 → sent_served c w before (blocks (frames * w) bytes) ≡ []
-none_served c w small frames before bytes some none = elim (cases_lt 0 (length bytes)) [
-  | inl more ↦
-      ap (sent_served c w before) (blocks_some (frames * w) bytes (some_size w small frames some) more)
-      ∙ served_last c w before (take (frames * w) bytes) _ (none_first w small frames (length bytes) _ (length-take (frames * w) bytes) none)
-  | inr no_more ↦ ap (sent_served c w before) (blocks_empty (frames * w) bytes (omega arith))
-]
 
 none_sent : (w : ℕ) → IsFrameSize w → (frames before : ℕ) (bytes : List ℕ) → 0 < frames → length bytes / w ≡ 0 → sent_after w before (blocks (frames * w) bytes) ≡ []
 none_sent w small frames before bytes some none = elim (cases_lt 0 (length bytes)) [
   | inl more ↦
-      ap (sent_after w before) (blocks_some (frames * w) bytes (some_size w small frames some) more)
-      ∙ sent_last w before (take (frames * w) bytes) _ (none_first w small frames (length bytes) _ (length-take (frames * w) bytes) none)
+      let parts = (cut w small frames bytes some).all in
+      ap (sent_after w before) (blocks_some (frames * w) bytes (some_size w small frames some) more) ∙ sent_last w before (take (frames * w) bytes) _ (omega arith)
   | inr no_more ↦ ap (sent_after w before) (blocks_empty (frames * w) bytes (omega arith))
 ]
 
@@ -438,35 +338,35 @@ module _ (c : Option Coding) (from to : ℕ) (small : IsFrameSize from) (small' 
   whole_served : (xs : List ℕ) → as_served c (whole_frames from xs) ≡ whole_frames to (as_served c xs)
   whole_served xs = sym (v.takes (length xs / from) xs) ∙ ap (λ (k : ℕ). take (k * to) (as_served c xs)) (sym (v.frames xs))
 
+  none_served : (frames before : ℕ) (bytes : List ℕ) → 0 < frames → length bytes / from ≡ 0 →
+      sent_served c from before (blocks (frames * from) bytes) ≡ sent_after to before (blocks (frames * to) (as_served c bytes))
+  none_served frames before bytes some none =
+      ap (map (served_block c)) (none_sent from small frames before bytes some none) ∙ sym (none_sent to small' frames before (as_served c bytes) some (v.frames bytes ∙ none))
+
   same_blocks : (fuel frames before : ℕ) (bytes : List ℕ) → 0 < frames → length bytes ≤ fuel →
       sent_served c from before (blocks (frames * from) bytes) ≡ sent_after to before (blocks (frames * to) (as_served c bytes))
-  same_blocks zero frames before bytes some few =
-      let none : length bytes / from ≡ 0 = none_of from small (length bytes) few in
-      none_served c from small frames before bytes some none ∙ sym (none_sent to small' frames before (as_served c bytes) some (v.frames bytes ∙ none))
+  same_blocks zero frames before bytes some few = none_served frames before bytes some (let less = div-le_self (length bytes) from in omega arith)
   same_blocks (suc fuel) frames before bytes some few = elim (cases_lt 0 (length bytes / from)) [
     | inl whole ↦
         let size = frames * from in
         let size' = frames * to in
         let first : List ℕ = take size bytes in
         let rest : List ℕ = drop size bytes in
-        let more : 0 < length bytes = some_in from small (length bytes) whole in
+        let parts = cut from small frames bytes some in
+        let less = div-le_self (length bytes) from in
+        let less' = div-le_self (length (as_served c bytes)) to in
         let count = v.frames bytes in
-        let more' : 0 < length (as_served c bytes) = some_in to small' (length (as_served c bytes)) (omega arith) in
-        let sized = some_size from small frames some in
-        let full : 0 < length first / from = some_first from small frames (length bytes) (length first) some (length-take size bytes) whole in
         let counted = v.frames first in
-        let fewer : length rest ≤ fuel = omega (arith, length-drop size bytes) in
-        let here : Block = record { before = before; bytes = as_served c (whole_frames from first) } in
-        ap (sent_served c from before) (blocks_some size bytes sized more)
-        ∙ served_first c from before first (blocks size rest) full
-        ∙ ap (λ (l : List Block). here ∷ l) (same_blocks fuel frames (before + frames_in from first) rest some fewer)
+        let full = parts.some whole in
+        let fewer = parts.fewer (omega arith) in
+        ap (sent_served c from before) (blocks_some size bytes (some_size from small frames some) (omega arith))
+        ∙ ap (map (served_block c)) (sent_first from before first (blocks size rest) full)
+        ∙ ap (λ (l : List Block). served_block c (head from before first) ∷ l) (same_blocks fuel frames (before + frames_in from first) rest some (omega arith))
         ∙ ap₂ (λ (b : List ℕ) (k : ℕ). (let block : Block = record { before = before; bytes = b } in block) ∷ sent_after to (before + k) (blocks size' (as_served c rest))) (whole_served first) (sym counted)
         ∙ sym (sent_first to before (as_served c first) (blocks size' (as_served c rest)) (omega arith))
         ∙ ap₂ (λ (b r : List ℕ). sent_after to before (b ∷ blocks size' r)) (sym (v.takes frames bytes)) (sym (v.drops frames bytes))
-        ∙ ap (sent_after to before) (sym (blocks_some size' (as_served c bytes) (some_size to small' frames some) more'))
-    | inr none ↦
-        none_served c from small frames before bytes some (omega arith)
-        ∙ sym (none_sent to small' frames before (as_served c bytes) some (let count = v.frames bytes in omega arith))
+        ∙ ap (sent_after to before) (sym (blocks_some size' (as_served c bytes) (some_size to small' frames some) (omega arith)))
+    | inr none ↦ none_served frames before bytes some (omega arith)
   ]
 
 -- The blocks that are sent of a sound as a server takes it are those of its converted samples, and so is the number of their

@@ -1,8 +1,5 @@
 -- The trace of a tool that sets a link up.
-use Rattle.std.proofs.Common.{◌≡◌, ℕ, List, refl}
-use Rattle.std.specs.Prelude.{Result}
-use Rattle.std.specs.declared.option.Option.{Option}
-use Rattle.std.specs.declared.option.Option.TheVariants.{Some}
+use Rattle.std.proofs.Common.{◌≡◌, ℕ, List, refl, Result, Option, Some}
 use Rattle.af_lib.specs.declared.fault.ConnFault.{ConnFault}
 use Rattle.af_lib.specs.Ring.{RingState}
 use Rattle.af_wire.specs.declared.order.Order.{Order}

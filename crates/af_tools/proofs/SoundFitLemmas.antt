@@ -1,18 +1,18 @@
 -- A file and its device, which fit each other or do not.
-use Rattle.std.proofs.Common.{◌≡◌, ◌≤◌, ◌==◌, ℕ, Bool, true, false, nat_lt, List, [], drop, refl, ap, ◌∙◌, sym, arith, inl, inr, if◌then◌else◌}
+use Rattle.std.proofs.Common.{◌≡◌, ◌≢◌, ◌≤◌, ◌⊎◌, ◌==◌, ℕ, Bool, true, false, nat_lt, List, [], take, drop, refl, ap, ap₂, ◌∙◌, sym, arith, inl, inr, if◌then◌else◌, Result, Ok, Err, Option, None, Some}
+use Rattle.std.proofs.lemmas.Bool.{cases_lt}
+use Rattle.std.proofs.lemmas.List.{take-append-drop}
 use Rattle.std.proofs.lemmas.Bool.Decides.{nat_tests}
-use Rattle.std.specs.Prelude.{Result, Ok, Err}
-use Rattle.std.specs.declared.option.Option.{Option}
-use Rattle.std.specs.declared.option.Option.TheVariants.{Some}
+use Rattle.af_sound.specs.declared.head.HeadStep.{HeadStep}
 use Rattle.af_sound.specs.declared.head.HeadStep.TheVariants as step
 use Rattle.af_sound.specs.declared.head.SoundForm.{SoundForm}
 use Rattle.af_sound.specs.declared.head.SoundHead.{SoundHead}
 use Rattle.af_sound.specs.Fronts.{front_of, Front}
-use Rattle.af_sound.proofs.FrontLemmas.{front}
+use Rattle.af_sound.proofs.FrontLemmas.{front, front_is_head}
 use Rattle.af_request.specs.declared.reply.DeviceInfo.{DeviceInfo}
 use Rattle.af_cli.specs.declared.job.PlayJob.{PlayJob}
 use Rattle.af_toolkit.specs.declared.end.ToolEnd.{ToolEnd}
-use Rattle.af_toolkit.specs.Trace.{Trace, Finish, channel_mismatch, ends, mismatch, tool_end, too_long}
+use Rattle.af_toolkit.specs.Trace.{Trace, Finish, bad_sound, channel_mismatch, done, ends, mismatch, sound_cut, tool_end, too_long}
 use Rattle.af_toolkit.specs.Ends.{ObservedTrace}
 use Rattle.af_io.proofs.AppendedLemmas.{appended_none}
 use Rattle.af_toolkit.proofs.TracePartLemmas.{ended_at_once}
@@ -20,7 +20,7 @@ use Rattle.af_tools.specs.declared.sound.SourceSound.{SourceSound}
 use Rattle.af_toolkit.proofs.FollowedLemmas.{followed_early}
 use Rattle.af_tools.proofs.DeviceChoiceLemmas.{followed_same}
 use Rattle.af_tools.specs.Limits.{most_bytes}
-use Rattle.af_tools.specs.Sounds.{at_one_shape, file_sound, reads_front, reads_sound}
+use Rattle.af_tools.specs.Sounds.{after_header, as_served, at_one_shape, file_sound, raw_sound, reads_front, reads_sound, stated_part, GivesSamples, IsServedAs}
 use Rattle.af_tools.specs.Reading.{ends_shape, SoundCame}
 
 unfit : (b c : Bool) (how : ToolEnd) (x y : Finish) → (let r : Result (Unit {0}) ToolEnd = Err how in r ≡ (if b then (if c then Ok tt else Err (tool_end x)) else Err (tool_end y))) →
@@ -58,6 +58,65 @@ module _ (form : SoundForm) (job : PlayJob) (device : DeviceInfo) (bytes : List 
         after_head next
         ∙ fit (head.rate == device.rate) (head.channels == device.channels) (channel_mismatch head.channels device.channels) (mismatch head.rate device.rate) is (next (file_sound device head size) (drop size bytes)),
   )
+
+-- what a tool makes of its source, whatever follows: a sound that the device plays
+pub record SoundRead (form : Option SoundForm) (job : PlayJob) (device : DeviceInfo) (bytes : List ℕ) : Type 0 where
+  pub sound : SourceSound
+  pub rest : List ℕ
+  pub gives : GivesSamples form job device bytes sound.ty (as_served sound.coding (stated_part sound.length rest))
+  pub served : IsServedAs sound.coding sound.ty
+  pub channels : sound.channels ≡ device.channels
+  pub goes : (next : SourceSound → List ℕ → Trace) → reads_sound form job device bytes next ≡ next sound rest
+
+-- or an end for the source or the device
+pub record SoundRefused (form : Option SoundForm) (job : PlayJob) (device : DeviceInfo) (bytes : List ℕ) : Type 0 where
+  pub finish : Finish
+  pub undone : finish ≢ done
+  pub goes : (next : SourceSound → List ℕ → Trace) → reads_sound form job device bytes next ≡ ends finish
+
+-- what follows the header of a file
+abbrev after_front : DeviceInfo → List ℕ → (SourceSound → List ℕ → Trace) → (size : ℕ) → SoundHead → Trace
+after_front device bytes next size head = at_one_shape head device (next (file_sound device head size) (drop size bytes))
+
+pub sound_cases : (form : Option SoundForm) (job : PlayJob) (device : DeviceInfo) (bytes : List ℕ) → SoundRead form job device bytes ⊎ SoundRefused form job device bytes
+sound_cases None job device bytes = inl (record { sound = raw_sound job device; rest = bytes; gives = (refl, refl); served = tt; channels = refl; goes = λ next. refl })
+sound_cases (Some form) job device bytes = by (front_of form bytes).says (front_of form bytes).size refl where
+  goes_by : (says : HeadStep) (size : ℕ) → front_of form bytes ≡ front says size → {long : Bool} → nat_lt most_bytes size ≡ long → (next : SourceSound → List ℕ → Trace) →
+      reads_sound (Some form) job device bytes next ≡ (if long then ends too_long else after_header says (after_front device bytes next size))
+  goes_by says size said test next =
+      ap (λ (f : Front). reads_front f (after_front device bytes next f.size)) said ∙ ap (λ (t : Bool). if t then ends too_long else after_header says (after_front device bytes next size)) test
+
+  fits : (head : SoundHead) {b c : Bool} → (head.rate == device.rate) ≡ b → (head.channels == device.channels) ≡ c → (next : Trace) →
+      at_one_shape head device next ≡ (if b then (if c then next else ends (channel_mismatch head.channels device.channels)) else ends (mismatch head.rate device.rate))
+  fits head rate channels next = ap₂ (λ (b c : Bool). if b then (if c then next else ends (channel_mismatch head.channels device.channels)) else ends (mismatch head.rate device.rate)) rate channels
+
+  by_shape : (head : SoundHead) (size : ℕ) → front_of form bytes ≡ front (step.Head head) size → nat_lt most_bytes size ≡ false → (b c : Bool) → (head.rate == device.rate) ≡ b → (head.channels == device.channels) ≡ c →
+      SoundRead (Some form) job device bytes ⊎ SoundRefused (Some form) job device bytes
+  by_shape head size said few true true rate channels =
+      let h = front_is_head form bytes size head said in
+      inl (record {
+        sound = file_sound device head size;
+        rest = drop size bytes;
+        gives = record { front = take size bytes; rest = drop size bytes; head = head; is = sym (take-append-drop size bytes); is_head = h.1; one_rate = grind (arith, nat_tests); one_shape = grind (arith, nat_tests); is_type = refl; is_samples = refl };
+        served = refl;
+        channels = refl;
+        goes = λ next. goes_by (step.Head head) size said few next ∙ fits head rate channels _;
+      })
+  by_shape head size said few true false rate channels =
+      inr (record { finish = channel_mismatch head.channels device.channels; undone = λ e. cc; goes = λ next. goes_by (step.Head head) size said few next ∙ fits head rate channels _ })
+  by_shape head size said few false c rate channels =
+      inr (record { finish = mismatch head.rate device.rate; undone = λ e. cc; goes = λ next. goes_by (step.Head head) size said few next ∙ fits head rate channels _ })
+
+  by_step : (says : HeadStep) (size : ℕ) → front_of form bytes ≡ front says size → nat_lt most_bytes size ≡ false → SoundRead (Some form) job device bytes ⊎ SoundRefused (Some form) job device bytes
+  by_step (step.Head head) size said few = by_shape head size said few (head.rate == device.rate) (head.channels == device.channels) refl refl
+  by_step (step.Bad f) size said few = inr (record { finish = bad_sound f; undone = λ e. cc; goes = λ next. goes_by (step.Bad f) size said few next })
+  by_step step.More size said few = inr (record { finish = sound_cut; undone = λ e. cc; goes = λ next. goes_by step.More size said few next })
+
+  by : (says : HeadStep) (size : ℕ) → front_of form bytes ≡ front says size → SoundRead (Some form) job device bytes ⊎ SoundRefused (Some form) job device bytes
+  by says size said = elim (cases_lt most_bytes size) [
+    | inl long ↦ inr (record { finish = too_long; undone = λ e. cc; goes = λ next. goes_by says size said {long = true} (grind (arith, nat_tests)) next })
+    | inr fits ↦ by_step says size said (grind (arith, nat_tests))
+  ]
 
 -- a tool that ends for its source, before anything was sent
 pub followed_unsound : (job : PlayJob) (device : DeviceInfo) (bytes : List ℕ) (next : SourceSound → List ℕ → Trace) (how : ToolEnd) (s h : Option (List ℕ)) (left : Option (List ℕ)) → SoundCame job device bytes (Err how) left →

@@ -1,18 +1,15 @@
 -- How much of a source was given, how much of a sound is left, and what aplay made of its source.
-use Rattle.std.proofs.Common.{arith, inl, inr, ◌⊎◌, ◌≡◌, ◌≤◌, ◌<◌, ◌+◌, ◌-◌, ◌/◌, ◌*◌, ℕ, List, [], ◌++◌, length, take, refl, sym, ap, ◌∙◌, subst, IsErrOf, length-append, length-take-le, true}
+use Rattle.std.proofs.Common.{arith, inl, inr, ◌⊎◌, ◌≡◌, ◌≤◌, ◌<◌, ◌+◌, ◌-◌, ◌/◌, ◌*◌, ℕ, List, [], ◌++◌, length, take, refl, sym, ap, ◌∙◌, subst, IsErrOf, length-append, length-take-le, true, Result, Ok, Err, Option, None, Some}
 use Rattle.std.proofs.Math.Nat.{div-lt_iff_lt-mul, div-mul-le_self}
-use Rattle.std.specs.Prelude.{Result, Ok, Err}
-use Rattle.std.specs.declared.option.Option.{Option}
-use Rattle.std.specs.declared.option.Option.TheVariants.{None, Some}
 use Rattle.af_io.specs.Observed.{Consumed, CountsFault, FaultCounted}
 use Rattle.af_toolkit.specs.declared.end.ToolEnd.{ToolEnd}
 use Rattle.af_toolkit.specs.declared.end.ToolEnd.TheVariants as end
 use Rattle.af_tools.specs.declared.fill.FillFault.{FillFault}
 use Rattle.af_tools.specs.declared.fill.FillFault.TheVariants as fill
 use Rattle.af_sound.specs.declared.head.SoundForm.{SoundForm}
-use Rattle.af_io.specs.Flow.{IsSpent}
+use Rattle.af_io.specs.Flow.{ConsumedTooMuch, ConsumedWithin, IsSpent}
 use Rattle.af_tools.specs.Limits.{most_bytes}
-use Rattle.af_tools.specs.Fill.{fill_end, left_before, ConsumedBeyondMost, ConsumedHead, ConsumedSound, ConsumedUpTo, ConsumedWithinMost, FillsBlock, HeadIs, IsFirstBlock, TakesSound}
+use Rattle.af_tools.specs.Fill.{fill_end, left_before, ConsumedHead, ConsumedSound, FillsBlock, HeadIs, IsFirstBlock, TakesSound}
 use Rattle.af_tools.specs.Sounds.{stated_after, FitsStated}
 use Rattle.af_io.proofs.ConsumedLemmas.{consumed_none, consumed_on}
 use Rattle.af_tools.proofs.EndLemmas.{err_of, of_err, never}
@@ -56,8 +53,8 @@ module _ {X : Type 0} {len : Option ℕ} {most : ℕ} where
     within = λ _. subst (λ (k : ℕ). k ≤ most) (sym given.all) few;
   }
 
-  pub takes_some : {how : ToolEnd} {a b : Option (List ℕ)} → ConsumedUpTo most a b → (how ≡ end.TooLong → ⊥) → TakesSound {X = X} len most (Err how) a b
-  takes_some given other = record { bytes = given.bytes; consumed = given.consumed; spent = tt; long = λ bad. absurd (other (cc bad)); within = λ _. given.within }
+  pub takes_some : {how : ToolEnd} {a b : Option (List ℕ)} → ConsumedWithin most a b → (how ≡ end.TooLong → ⊥) → TakesSound {X = X} len most (Err how) a b
+  takes_some given other = record { bytes = given.text; consumed = given.consumed; spent = tt; long = λ bad. absurd (other (cc bad)); within = λ _. given.within }
 
   -- one that ends as reading a block does, after so many bytes
   pub takes_fault : {n room allowed : ℕ} {left : Option ℕ} {bytes : List ℕ} {a b c : Option (List ℕ)} (fault : FillFault) → ConsumedAll n a b → FillsBlock room allowed left (Err fault) bytes b c → n + allowed ≡ most → TakesSound {X = X} len most (Err (fill_end fault)) a c
@@ -65,7 +62,7 @@ module _ {X : Type 0} {len : Option ℕ} {most : ℕ} where
       let more = block.cut refl in
       let all = given.all in
       let within = more.within in
-      takes_some (record { bytes = given.bytes ++ more.bytes; consumed = consumed_on a b c given.bytes more.bytes given.consumed more.consumed; within = omega (arith, length-append given.bytes more.bytes) }) (λ e. cc e)
+      takes_some (record { text = given.bytes ++ more.text; consumed = consumed_on a b c given.bytes more.text given.consumed more.consumed; within = omega (arith, length-append given.bytes more.text) }) (λ e. cc e)
   takes_fault {a} {b} {c} fill.TooLong given block limit =
       let more = block.long refl in
       let all = given.all in
@@ -85,14 +82,19 @@ module _ {X : Type 0} {len : Option ℕ} {most : ℕ} where
   pub takes_value : {Y : Type 0} {y : Y} {x : X} {a b : Option (List ℕ)} → TakesSound len most (Ok y) a b → TakesSound len most (Ok x) a b
   takes_value t = record { bytes = t.bytes; consumed = t.consumed; spent = t.spent; long = λ bad. cc bad; within = λ _. t.within (λ bad. cc bad) }
 
-  pub takes_within : {x : X} {a b : Option (List ℕ)} → TakesSound len most (Ok x) a b → ConsumedUpTo most a b
-  takes_within t = record { bytes = t.bytes; consumed = t.consumed; within = t.within (λ bad. cc bad) }
+  pub takes_within : {x : X} {a b : Option (List ℕ)} → TakesSound len most (Ok x) a b → ConsumedWithin most a b
+  takes_within t = record { text = t.bytes; consumed = t.consumed; within = t.within (λ bad. cc bad) }
+
+-- nothing is left of a source that is spent
+pub spent_none : (left : Option (List ℕ)) (rest : List ℕ) → left ≡ Some rest → IsSpent left → rest ≡ []
+spent_none None rest is spent = cc is
+spent_none (Some x) rest is spent = let same : x ≡ rest = cc in sym same ∙ spent
 
 pub given_none : (a : Option (List ℕ)) → ConsumedAll 0 a a
 given_none a = record { bytes = []; consumed = consumed_none a; all = refl }
 
-pub given_within : {most n : ℕ} {a b : Option (List ℕ)} → ConsumedAll n a b → n ≤ most → ConsumedUpTo most a b
-given_within all within = record { bytes = all.bytes; consumed = all.consumed; within = (let count = all.all in omega arith) }
+pub given_within : {most n : ℕ} {a b : Option (List ℕ)} → ConsumedAll n a b → n ≤ most → ConsumedWithin most a b
+given_within all within = record { text = all.bytes; consumed = all.consumed; within = (let count = all.all in omega arith) }
 
 -- fewer bytes than a frame has
 pub short_of : (n width : ℕ) → 0 < width → n / width ≡ 0 → n < width
@@ -135,16 +137,16 @@ stated_all (Some m) left given {n} c is fits (inr all) =
 
 -- what was read of a source with the bytes before its sound
 module _ {form : Option SoundForm} {n : ℕ} {len : Option ℕ} {X : Type 0} {r : Result X ToolEnd} {a b c : Option (List ℕ)} (h : ConsumedHead form n len a b) (t : TakesSound len (most_bytes - n) r b c) where
-  pub head_within : (IsErrOf r end.TooLong → ⊥) → ConsumedWithinMost a c
+  pub head_within : (IsErrOf r end.TooLong → ⊥) → ConsumedWithin most_bytes a c
   head_within other = record {
-    bytes = h.bytes ++ t.bytes;
+    text = h.bytes ++ t.bytes;
     consumed = consumed_on a b c h.bytes t.bytes h.consumed t.consumed;
     within = (let all = h.all in let few = t.within other in let most = h.within in omega (arith, length-append h.bytes t.bytes));
   }
 
-  pub head_beyond : IsErrOf r end.TooLong → ConsumedBeyondMost a c
+  pub head_beyond : IsErrOf r end.TooLong → ConsumedTooMuch most_bytes a c
   head_beyond bad = record {
-    bytes = h.bytes ++ t.bytes;
+    text = h.bytes ++ t.bytes;
     consumed = consumed_on a b c h.bytes t.bytes h.consumed t.consumed;
     beyond = (let all = h.all in let many = t.long bad in let most = h.within in omega (arith, length-append h.bytes t.bytes));
   }

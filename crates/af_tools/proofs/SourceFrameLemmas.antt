@@ -1,8 +1,6 @@
 -- Blocks of a source's frames, and of the frames as a server takes them, have room.
-use Rattle.std.proofs.Common.{◌≡◌, ℕ, ◌+◌, ◌-◌, ◌*◌, ◌/◌, ◌<◌, ◌≤◌, sym, subst, arith}
+use Rattle.std.proofs.Common.{◌≡◌, ℕ, ◌+◌, ◌-◌, ◌*◌, ◌/◌, ◌<◌, ◌≤◌, sym, subst, arith, Option, None, Some}
 use Rattle.std.proofs.lemmas.Nat.{mul-le}
-use Rattle.std.specs.declared.option.Option.{Option}
-use Rattle.std.specs.declared.option.Option.TheVariants.{None, Some}
 use Rattle.af_sample.specs.declared.sample_type.SampleType.{SampleType}
 use Rattle.af_sample.specs.Channels.{IsChannelCount}
 use Rattle.af_sample.specs.SampleTypes.{width_of}
@@ -27,9 +25,6 @@ source_least None to is = omega arith
 source_least (Some c) to is = subst (λ (t : SampleType). sample_size c ≤ width_of t) (sym is) (least_sample c)
 
 -- a block of the source has a frame, and room
-pub wide_of : (frames width : ℕ) → 1 ≤ frames → width ≤ frames * width
-wide_of frames width some = let one : 1 * width ≤ frames * width = mul-le 1 width frames width some (omega arith) in omega arith
-
 pub some_size_of : (c : Option Coding) (to : SampleType) (channels frames width : ℕ) → IsChannelCount channels → 1 ≤ frames → width ≡ source_width c to channels → 0 < frames * width
 some_size_of c to channels frames width count some is =
     subst (λ (n : ℕ). 0 < frames * n) (sym is) (some_size (source_width c to channels) (source_size c to channels count) frames (omega arith))
@@ -46,8 +41,8 @@ pub block_fits : (c : Option Coding) {to : SampleType} {channels frames width he
     n ≤ frames * width → given + n ≤ most_bytes - head → BlockFits n (frames * width) width (head + given)
 block_fits c {to} {channels} {frames} {width} given b same low within permitted =
     let frame : 0 < width = subst (λ (k : ℕ). 0 < k) (sym same) (some_bytes (source_width c to channels) (source_size c to channels b.count)) in
-    let wide : width ≤ frames * width = wide_of frames width b.some in
-    record { some = omega arith; frame = frame; wide = wide; within = within; most = omega arith }
+    let wide : 1 * width ≤ frames * width = mul-le 1 width frames width b.some (omega arith) in
+    record { some = omega arith; frame = frame; wide = omega arith; within = within; most = omega arith }
 
 -- one without a whole frame is short
 pub block_short : {n size width given : ℕ} → BlockFits n size width given → n / width ≡ 0 → n < size

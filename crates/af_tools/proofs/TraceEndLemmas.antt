@@ -1,8 +1,6 @@
 -- The trace of each tool ends in being done or refused, if its device exists and its source does not give too much.
-use Rattle.std.proofs.Common.{◌≡◌, ℕ, zero, suc, ◌+◌, ◌*◌, ◌/◌, ◌%◌, ◌^◌, ◌≤◌, nat_lt, Bool, true, false, List, [], ◌∷◌, length, take, drop, arith, if◌then◌else◌, length-take, length-drop}
+use Rattle.std.proofs.Common.{◌≡◌, ℕ, zero, suc, ◌+◌, ◌*◌, ◌/◌, ◌%◌, ◌^◌, ◌≤◌, nat_lt, Bool, true, false, List, [], ◌∷◌, length, take, drop, arith, if◌then◌else◌, length-take, length-drop, Option, None, Some}
 use Rattle.std.proofs.lemmas.Bool.Decides.{nat_tests}
-use Rattle.std.specs.declared.option.Option.{Option}
-use Rattle.std.specs.declared.option.Option.TheVariants.{None, Some}
 use Rattle.af_request.specs.declared.reply.DeviceInfo.{DeviceInfo}
 use Rattle.af_request.specs.Asked.{Asked, free_ac, get_time, play_run}
 use Rattle.af_lib.specs.Calls.{as_done, as_time}
@@ -21,7 +19,7 @@ use Rattle.af_tools.specs.Play.{block_time, blocks, cut_blocks, play_context, pl
 use Rattle.af_tools.specs.declared.record.RecordedSound.{RecordedSound}
 use Rattle.af_tools.specs.Files.{recorded_sound}
 use Rattle.af_tools.specs.Record.{ends_row, peak, record_context, records_on, records, writes_recording}
-use Rattle.af_tools.specs.Set.{asks_where, control_request, hooks, sets_on, states_controls}
+use Rattle.af_tools.specs.Set.{asks_if, control_request, hook_request, sets_on}
 
 if_finish : (b : Bool) (c d : Trace) → IsDoneOrRefused c.finish → IsDoneOrRefused d.finish → IsDoneOrRefused (if b then c else d).finish
 if_finish true c d p q = p
@@ -63,25 +61,21 @@ records_finish job sound at before peaks (n ∷ lengths) w next more =
     asked_finish _ _ w _ (λ r v. if_finish (ends_row job (peak sound.ty r.samples ∷ peaks)) (next (before + n) v) _ (more (before + n) v)
     (records_finish job sound ((at + n) % 2 ^ 32) (before + n) (peak sound.ty r.samples ∷ peaks) lengths v next more))
 
-pub recorded_finish : (job : RecordJob) (device : DeviceInfo) (w : ClientState) (next : ClientState → Trace) → ((v : ClientState) → IsDoneOrRefused (next v).finish) → IsDoneOrRefused (records_on job device w next).finish
+pub recorded_finish : (job : RecordJob) (device : DeviceInfo) (w : ClientState) (next : Unit {0} → ClientState → Trace) → ((x : Unit {0}) (v : ClientState) → IsDoneOrRefused (next x v).finish) → IsDoneOrRefused (records_on job device w next).finish
 unfolding records_on writes_recording
 recorded_finish job device w next more =
     asked_finish (record_context job device) as_done w _ (λ _ v.
     asked_finish (get_time job.device) as_time v _ (λ now v.
     records_finish job (recorded_sound job device) _ 0 [] _ v _ (λ frames v.
-    asked_finish (free_ac 1) as_done v _ (λ _ v. more v))))
+    asked_finish (free_ac 1) as_done v next more)))
 
-where_finish : (b : Bool) (asked : Asked) (w : ClientState) (next : Unit {0} → ClientState → Trace) → ((x : Unit {0}) (v : ClientState) → IsDoneOrRefused (next x v).finish) → IsDoneOrRefused (asks_where b asked w next).finish
-where_finish true asked w next more = asked_finish asked as_done w next more
-where_finish false asked w next more = more tt w
-
-hook_finish : (device : ℕ) (off : Option Bool) (w : ClientState) (next : Unit {0} → ClientState → Trace) → ((x : Unit {0}) (v : ClientState) → IsDoneOrRefused (next x v).finish) → IsDoneOrRefused (hooks device off w next).finish
-hook_finish device (Some off) w next more = asked_finish _ as_done w next more
-hook_finish device None w next more = more tt w
+needed_finish : (asked : Option Asked) (w : ClientState) (next : Unit {0} → ClientState → Trace) → ((x : Unit {0}) (v : ClientState) → IsDoneOrRefused (next x v).finish) → IsDoneOrRefused (asks_if asked w next).finish
+needed_finish (Some asked) w next more = asked_finish asked as_done w next more
+needed_finish None w next more = more tt w
 
 pub set_finish : (job : SetJob) (device : DeviceInfo) (w : ClientState) (next : ControlsReport → ClientState → Trace) → ((s : ControlsReport) (v : ClientState) → IsDoneOrRefused (next s v).finish) → IsDoneOrRefused (sets_on job device w next).finish
 unfolding sets_on
 set_finish job device w next more =
-    where_finish (states_controls job) (control_request job) w _ (λ _ v.
-    hook_finish job.device job.hook_off v _ (λ _ v.
+    needed_finish (control_request job) w _ (λ _ v.
+    needed_finish (hook_request job) v _ (λ _ v.
     controls_report_finish device.line job.device v next more))

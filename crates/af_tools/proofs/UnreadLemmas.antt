@@ -1,39 +1,24 @@
 -- When aplay reads its source.
-use Rattle.std.proofs.Common.{◌≡◌, slice_get, unwrap_or, ◌⊎◌, inl, inr, ℕ, List, [], ◌∷◌, refl, sym, ap, ap₂, ◌∙◌, subst}
-use Rattle.std.specs.Prelude.{Result, Ok, Err, IfOk}
-use Rattle.std.specs.declared.option.Option.{Option}
-use Rattle.std.specs.declared.option.Option.TheVariants.{None, Some}
+use Rattle.std.proofs.Common.{◌≡◌, slice_get, unwrap_or, ◌⊎◌, inl, inr, ℕ, List, [], ◌∷◌, refl, sym, ap, ap₂, ◌∙◌, subst, Result, Ok, Err, IfOk, Option, None, Some}
 use Rattle.af_io.specs.Dial.{IsFirstOf, ToldLink}
 use Rattle.af_wire.specs.declared.order.Order.{Order}
 use Rattle.af_request.specs.Asked.{Asked}
-use Rattle.af_request.specs.Requests.{request_bytes}
 use Rattle.af_request.specs.declared.reply.DeviceInfo.{DeviceInfo}
 use Rattle.af_sample.specs.declared.sample_type.SampleType.{SampleType}
 use Rattle.af_tools.specs.Play.{play_context}
-use Rattle.af_lib.specs.declared.fault.ConnFault.{ConnFault}
 use Rattle.af_lib.specs.Calls.{ConnState, IsSetUp, as_done}
-use Rattle.af_toolkit.specs.Trace.{Trace, ClientState, after_reply, answer_on, after_answer, asks, done, ends, sends_first}
+use Rattle.af_toolkit.specs.Trace.{Trace, ClientState, asks, done, ends}
 use Rattle.af_toolkit.specs.declared.end.ToolEnd.{ToolEnd}
 use Rattle.af_toolkit.specs.Ends.{PartCompletes, client_of, ObservedPartOver}
 use Rattle.af_toolkit.proofs.TracePartLemmas.{client_begun}
 use Rattle.af_cli.specs.declared.job.PlayJob.{PlayJob}
 use Rattle.af_tools.specs.Unread.{DialGivesContext, GivesContext, GivesReply, LinkGivesContext}
+use Rattle.af_tools.proofs.PlayedBlockLemmas.{asks_done}
 use Rattle.af_tools.proofs.SetupTraceLemmas.{setup_known}
-
--- a trace that goes on after a request has its reply
-replied_at : (bytes : List ℕ) (r : Result (Unit {0}) ConnFault) (v : ClientState) (next : Unit {0} → ClientState → Trace) → (sends_first bytes (after_answer r v next)).finish ≡ done → r ≡ Ok tt
-replied_at bytes (Ok u) v next is = refl
-replied_at bytes (Err f) v next is = cc is
-
-asks_is : (context : Asked) (w : ClientState) (next : Unit {0} → ClientState → Trace) → asks context as_done w next ≡ sends_first (request_bytes w.order context) (after_answer (answer_on context as_done w) (after_reply w) next)
-unfolding asks
-asks_is context w next = refl
 
 -- if the request for a context came to its value, the context was made
 asks_replied : (context : Asked) (w w' : ClientState) (u : Unit {0}) (s o : List ℕ) → PartCompletes (asks context as_done w) u w' s o → GivesReply context w
-asks_replied context w w' u s o passed =
-    let more : Unit {0} → ClientState → Trace = λ _ _. ends done in
-    replied_at (request_bytes w.order context) (answer_on context as_done w) (after_reply w) more (ap (λ (t : Trace). t.finish) (sym (asks_is context w more) ∙ passed more))
+asks_replied context w w' u s o passed = (asks_done context as_done w (λ _ _. ends done) (ap (λ (t : Trace). t.finish) (passed (λ _ _. ends done)))).1
 
 -- a context that was made, by its name in a job
 pub context_made : {L : Type 0} (left sent : L → Option (List ℕ)) (old new : ConnState L) {asked context : Asked} → asked ≡ context → (r : Result (Unit {0}) ToolEnd) → ObservedPartOver left sent old new (λ w. asks asked as_done w) r →

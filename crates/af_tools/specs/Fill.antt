@@ -1,9 +1,7 @@
 -- Reading a source in blocks.
-use Rattle.std.specs.Prelude.{◌≡◌, ◌<◌, ◌≤◌, ◌⊎◌, ℕ, List, [], ◌++◌, length, take, Result, IfOk, IsErrOf}
-use Rattle.std.specs.declared.option.Option.{Option}
-use Rattle.std.specs.declared.option.Option.TheVariants.{None, Some}
+use Rattle.std.specs.Prelude.{◌≡◌, ◌<◌, ◌≤◌, ◌⊎◌, ℕ, List, [], ◌++◌, length, take, Result, IfOk, IsErrOf, Option, None, Some}
 use Rattle.af_io.specs.Observed.{Consumed}
-use Rattle.af_io.specs.Flow.{IsSpent}
+use Rattle.af_io.specs.Flow.{ConsumedWithin, IsSpent}
 use Rattle.af_sound.specs.declared.head.SoundFault.{SoundFault}
 use Rattle.af_sound.specs.declared.head.SoundForm.{SoundForm}
 use Rattle.af_sound.specs.declared.head.SoundHead.{SoundHead}
@@ -19,12 +17,6 @@ use Rattle.af_tools.specs.Sounds.{stated_room, FitsStated}
 abbrev pub fill_end : FillFault → ToolEnd
 fill_end fill.ReadFault = end.ReadFault
 fill_end fill.TooLong = end.TooLong
-
--- a source gave at most n bytes
-pub record ConsumedUpTo (most : ℕ) (before after : Option (List ℕ)) : Type 0 where
-  pub bytes : List ℕ
-  pub consumed : Consumed before bytes after
-  pub within : length bytes ≤ most
 
 -- a source gave more than n bytes, and at most as many as there was room for
 pub record ConsumedAbove (most room : ℕ) (before after : Option (List ℕ)) : Type 0 where
@@ -62,17 +54,7 @@ pub record FillsBlock (room allowed : ℕ) (len : Option ℕ) (result : Result �
     (before after : Option (List ℕ)) : Type 0 where
   pub had : IfOk result (λ count. IsFirstBlock room allowed len count bytes before after)
   pub long : IsErrOf result fill.TooLong → ConsumedAbove allowed (stated_room len room) before after
-  pub cut : IsErrOf result fill.ReadFault → ConsumedUpTo allowed before after
-
--- the source gave no more than aplay takes
-abbrev pub ConsumedWithinMost : Option (List ℕ) → Option (List ℕ) → Type 0
-ConsumedWithinMost before after = ConsumedUpTo most_bytes before after
-
--- the source gave more than aplay takes
-pub record ConsumedBeyondMost (before after : Option (List ℕ)) : Type 0 where
-  pub bytes : List ℕ
-  pub consumed : Consumed before bytes after
-  pub beyond : most_bytes < length bytes
+  pub cut : IsErrOf result fill.ReadFault → ConsumedWithin allowed before after
 
 -- bytes that are read before a sound: none, or a header that states this length
 abbrev pub HeadIs : Option SoundForm → List ℕ → Option ℕ → Type 0

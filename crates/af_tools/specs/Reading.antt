@@ -1,9 +1,7 @@
 -- What a tool makes of its source, and what reading the front of it came to.
-use Rattle.std.specs.Prelude.{◌≡◌, ◌≢◌, ◌⊎◌, ℕ, Bool, true, false, List, Result, IsSome, ◌==◌, if◌then◌else◌, drop, Ok, Err, IsErrOf}
-use Rattle.std.specs.declared.option.Option.{Option}
-use Rattle.std.specs.declared.option.Option.TheVariants.{Some}
+use Rattle.std.specs.Prelude.{◌≡◌, ◌≢◌, ◌⊎◌, ℕ, Bool, true, false, List, Result, IsSome, ◌==◌, if◌then◌else◌, drop, Ok, Err, IsErrOf, Option, Some}
 use Rattle.af_io.specs.Observed.{CountsFault}
-use Rattle.af_io.specs.Flow.{IsSpent}
+use Rattle.af_io.specs.Flow.{ConsumedTooMuch, ConsumedWithin, IsSpent}
 use Rattle.af_sound.specs.declared.head.SoundFault.{SoundFault}
 use Rattle.af_sound.specs.declared.head.SoundForm.{SoundForm}
 use Rattle.af_lib.specs.Calls.{ConnState}
@@ -11,7 +9,8 @@ use Rattle.af_toolkit.specs.declared.end.ToolEnd.{ToolEnd}
 use Rattle.af_toolkit.specs.declared.end.ToolEnd.TheVariants as end
 use Rattle.af_toolkit.specs.Trace.{Trace, ClientState, Finish, ends, tool_end}
 use Rattle.af_toolkit.specs.Ends.{client_of, ObservedTrace, ObservedPart, TracePart, is_outer}
-use Rattle.af_tools.specs.Fill.{ConsumedBeyondMost, ConsumedCut, ConsumedFault, ConsumedSound, ConsumedWithinMost}
+use Rattle.af_tools.specs.Fill.{ConsumedCut, ConsumedFault, ConsumedSound}
+use Rattle.af_tools.specs.Limits.{most_bytes}
 use Rattle.af_sound.specs.declared.head.HeadStep.TheVariants as step
 use Rattle.af_sound.specs.declared.head.SoundHead.{SoundHead}
 use Rattle.af_sound.specs.Fronts.{front_of}
@@ -31,8 +30,8 @@ pub record UsesSource {S : Type 0} (left : S → Option (List ℕ)) (faults : S 
   pub memory : how ≡ end.OutOfMemory → source' ≡ source
   pub unfound : (n : ℕ) → how ≡ end.NoDevice n → source' ≡ source
   pub spent : how ≡ end.Done → reads ≡ true → IsSpent (left source') ⊎ ConsumedSound form (left source) (left source')
-  pub long : how ≡ end.TooLong → ConsumedBeyondMost (left source) (left source')
-  pub within : how ≢ end.TooLong → ConsumedWithinMost (left source) (left source')
+  pub long : how ≡ end.TooLong → ConsumedTooMuch most_bytes (left source) (left source')
+  pub within : how ≢ end.TooLong → ConsumedWithin most_bytes (left source) (left source')
   pub bad : (fault : SoundFault) → how ≡ end.BadSound fault → ConsumedFault form fault (left source) (left source')
   pub cut : how ≡ end.SoundCut → ConsumedCut form (left source) (left source')
   pub failed : CountsFault (how ≡ end.ReadFault) (faults source) (faults source')
@@ -88,11 +87,6 @@ HeadCame form bytes (Err how) left =
     ⊎ ((finish : Finish) × (how ≡ tool_end finish)
     × ((next : SoundHead → Trace) → reads_front (front_of form bytes) next ≡ ends finish))
 
-abbrev pub BringsHead : {S : Type 0} → (left : S → Option (List ℕ)) → SoundForm → Result FileHead ToolEnd → (source source' : S) →
-    Type 0
-BringsHead left form result source source' =
-    (bytes : List ℕ) → left source ≡ Some bytes → IsSome (left source') → HeadCame form bytes result (left source')
-
 -- the same of what a source gives to be played on a device
 abbrev pub SoundCame : PlayJob → DeviceInfo → List ℕ → Result SourceSound ToolEnd → Option (List ℕ) → Type 0
 SoundCame job device bytes (Ok sound) left =
@@ -102,16 +96,11 @@ SoundCame job device bytes (Err how) left =
     (is_outer how ≡ true) ⊎ ((finish : Finish) × (how ≡ tool_end finish)
     × ((next : SourceSound → List ℕ → Trace) → reads_sound job.form job device bytes next ≡ ends finish))
 
-abbrev pub BringsSound : {S : Type 0} → (left : S → Option (List ℕ)) → PlayJob → DeviceInfo → Result SourceSound ToolEnd →
-    (source source' : S) → Type 0
-BringsSound left job device result source source' =
-    (bytes : List ℕ) → left source ≡ Some bytes → IsSome (left source') → SoundCame job device bytes result (left source')
-
 -- A part that reads what stands before a sound ended. The source gave more than aplay takes exactly where the part ends as too
 -- long, and for a sound file that is bad or cut the part ends only after bytes that show it.
 pub record TakesFront {X : Type 0} (form : Option SoundForm) (result : Result X ToolEnd) (before after : Option (List ℕ)) :
     Type 0 where
   pub bad : (fault : SoundFault) → IsErrOf result (end.BadSound fault) → ConsumedFault form fault before after
   pub cut : IsErrOf result end.SoundCut → ConsumedCut form before after
-  pub long : IsErrOf result end.TooLong → ConsumedBeyondMost before after
-  pub within : (IsErrOf result end.TooLong → ⊥) → ConsumedWithinMost before after
+  pub long : IsErrOf result end.TooLong → ConsumedTooMuch most_bytes before after
+  pub within : (IsErrOf result end.TooLong → ⊥) → ConsumedWithin most_bytes before after

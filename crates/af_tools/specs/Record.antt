@@ -64,28 +64,21 @@ record_context job device = create_ac job.device 1 (code_of (recorded_sound job 
 
 -- the blocks are recorded from a start on; a file has its header written before them, and after them the byte that makes the
 -- sound of a WAVE file even
-unfoldable pub writes_recording : RecordJob → DeviceInfo → (start : ℕ) → ClientState → (ClientState → Trace) → Trace
+unfoldable pub writes_recording : RecordJob → DeviceInfo → (start : ℕ) → ClientState → (Unit {0} → ClientState → Trace) → Trace
 writes_recording job device start w next =
     let sound = recorded_sound job device in
     writes_first (front_of_recording job device) (
     records_all job sound start w (λ frames w.
-    writes_first (pad_after job.form (frames * recorded_frame sound)) (next w)))
+    writes_first (pad_after job.form (frames * recorded_frame sound)) (next tt w)))
 
 -- a context is made and the device's time asked for, all is recorded and written from the stated start or else from that time on,
 -- and the context is freed
-unfoldable pub records_on : RecordJob → DeviceInfo → ClientState → (ClientState → Trace) → Trace
+unfoldable pub records_on : RecordJob → DeviceInfo → ClientState → (Unit {0} → ClientState → Trace) → Trace
 records_on job device w next =
     begins (record_context job device) job.device w (λ now w.
-    writes_recording job device (unwrap_or job.time now.0) w (λ w.
-    asks (free_ac 1) as_done w (λ _ w. next w)))
+    writes_recording job device (unwrap_or job.time now.0) w (λ _ w.
+    asks (free_ac 1) as_done w next))
 
 -- the trace of arecord, by the devices of the server and what the link gives
 unfoldable pub arecord_trace : RecordJob → List DeviceInfo → ClientState → Trace
-arecord_trace job devices w = with_job_device job.device devices (λ device. records_on job device w (λ _. ends done))
-
--- what arecord sends, and what it writes
-abbrev pub arecord_sends : RecordJob → List DeviceInfo → ClientState → List ℕ
-arecord_sends job devices w = (arecord_trace job devices w).sends
-
-abbrev pub arecord_output : RecordJob → List DeviceInfo → ClientState → List ℕ
-arecord_output job devices w = (arecord_trace job devices w).output
+arecord_trace job devices w = with_job_device job.device devices (λ device. records_on job device w (λ _ _. ends done))

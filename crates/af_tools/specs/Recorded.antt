@@ -1,7 +1,5 @@
 -- What arecord has sent and written when it is done.
-use Rattle.std.specs.Prelude.{◌≡◌, ℕ, List, slice_get}
-use Rattle.std.specs.declared.option.Option.{Option}
-use Rattle.std.specs.declared.option.Option.TheVariants.{Some}
+use Rattle.std.specs.Prelude.{◌≡◌, ℕ, List, slice_get, Option, Some}
 use Rattle.af_io.specs.Observed.{Appended}
 use Rattle.af_request.specs.declared.reply.DeviceInfo.{DeviceInfo}
 use Rattle.af_cli.specs.declared.job.RecordJob.{RecordJob}
@@ -11,7 +9,7 @@ use Rattle.af_toolkit.specs.Trace.{ClientState}
 use Rattle.af_toolkit.specs.Ends.{client_of}
 use Rattle.af_lib.specs.Calls.{ConnState}
 use Rattle.af_tools.specs.Files.{as_raw, recording_of}
-use Rattle.af_tools.specs.Record.{arecord_output, arecord_sends}
+use Rattle.af_tools.specs.Record.{arecord_trace}
 
 -- A job is done on a device. It sent the same requests as a raw recording, and wrote that recording as a sound file, if it writes
 -- one.
@@ -20,8 +18,8 @@ pub record IsRecorded (job : RecordJob) (devices : List DeviceInfo) (w : ClientS
   pub device : DeviceInfo
   pub is_there : slice_get devices job.device ≡ Some device
   pub samples : List ℕ
-  pub are_raw : samples ≡ arecord_output (as_raw job device) devices w
-  pub link : Appended sent (arecord_sends (as_raw job device) devices w) sent'
+  pub are_raw : samples ≡ (arecord_trace (as_raw job device) devices w).output
+  pub link : Appended sent (arecord_trace (as_raw job device) devices w).sends sent'
   pub sink : Appended held (recording_of job device samples) held'
 
 -- arecord, if it is done, over a connection whose link is observable

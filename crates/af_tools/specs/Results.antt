@@ -1,13 +1,11 @@
 -- What a tool on one connection has done.
-use Rattle.std.specs.Prelude.{◌≡◌, ◌<◌, ◌≤◌, ◌↔◌, ◌⊎◌, ℕ, Bool, true, false, List, length, slice_get, IsSome}
-use Rattle.std.specs.declared.option.Option.{Option}
-use Rattle.std.specs.declared.option.Option.TheVariants.{Some}
+use Rattle.std.specs.Prelude.{◌≡◌, ◌<◌, ◌≤◌, ◌↔◌, ◌⊎◌, ℕ, Bool, true, false, List, length, slice_get, IsSome, Option, Some}
 use Rattle.af_request.specs.declared.reply.DeviceInfo.{DeviceInfo}
 use Rattle.af_lib.specs.Calls.{ConnState}
 use Rattle.af_cli.specs.declared.job.PlayJob.{PlayJob}
 use Rattle.af_toolkit.specs.declared.end.ToolEnd.{ToolEnd}
 use Rattle.af_toolkit.specs.declared.end.ToolEnd.TheVariants as end
-use Rattle.af_toolkit.specs.Trace.{Trace, ClientState, Finish, bad_sound, channel_mismatch, mismatch, sound_cut, tool_end}
+use Rattle.af_toolkit.specs.Trace.{Trace, ClientState, Finish, bad_sound, channel_mismatch, mismatch, no_device, sound_cut, tool_end}
 use Rattle.af_toolkit.specs.Ends.{is_outer, client_of, EndsByReply, ObservedTrace, IsAnswered}
 use Rattle.af_tools.specs.Limits.{most_bytes}
 use Rattle.af_tools.specs.Play.{aplay_trace}
@@ -29,19 +27,21 @@ abbrev pub RunsTool : {L K : Type 0} → (left sent : L → Option (List ℕ)) �
 RunsTool left sent held trace device how conn conn' sink sink' = (input : List ℕ) → left conn.link ≡ Some input →
     ToolRan (trace (client_of conn input)) device conn.devices how (sent conn.link) (sent conn'.link) (held sink) (held sink')
 
--- a source that is no sound file, or a file or a device whose rate or channels differ from those of the playing device
-abbrev pub is_of_sound_finish : Finish → Bool
-is_of_sound_finish (mismatch from to) = true
-is_of_sound_finish (channel_mismatch from to) = true
-is_of_sound_finish (bad_sound fault) = true
-is_of_sound_finish sound_cut = true
-is_of_sound_finish _ = false
+-- a device that does not exist, a source that is no sound file, or a file or a device whose rate or channels differ from those of
+-- the playing device
+abbrev pub is_unfit : Finish → Bool
+is_unfit (no_device devices) = true
+is_unfit (mismatch from to) = true
+is_unfit (channel_mismatch from to) = true
+is_unfit (bad_sound fault) = true
+is_unfit sound_cut = true
+is_unfit _ = false
 
--- If a source is no sound that its device plays, or a device has what another does not play, the tool ends with that, unless
--- something from outside has ended it. It ends so in no other case.
-pub record EndsBySound (trace : Trace) (how : ToolEnd) : Type 0 where
-  pub only : (finish : Finish) → is_of_sound_finish finish ≡ true → how ≡ tool_end finish → trace.finish ≡ finish
-  pub always : (finish : Finish) → is_of_sound_finish finish ≡ true → trace.finish ≡ finish →
+-- If a device does not exist, a source is no sound that its device plays, or a device has what another does not play, the tool
+-- ends with that, unless something from outside has ended it. It ends so in no other case.
+pub record EndsIfUnfit (trace : Trace) (how : ToolEnd) : Type 0 where
+  pub only : (finish : Finish) → is_unfit finish ≡ true → how ≡ tool_end finish → trace.finish ≡ finish
+  pub always : (finish : Finish) → is_unfit finish ≡ true → trace.finish ≡ finish →
       (how ≡ tool_end finish) ⊎ (is_outer how ≡ true)
 
 -- aplay ran, by what its link and its source give: as above, if the source gives what the device plays, and at most what aplay
@@ -51,7 +51,7 @@ pub record AplayRan (job : PlayJob) (devices : List DeviceInfo) (bytes : List �
   pub followed : ObservedTrace (aplay_trace job devices bytes w) how sent sent' held held'
   pub heard : how ≡ end.Done → IsPlayed job devices bytes w sent sent' held held'
   pub reply : EndsByReply (aplay_trace job devices bytes w) how
-  pub sound : EndsBySound (aplay_trace job devices bytes w) how
+  pub unfit : EndsIfUnfit (aplay_trace job devices bytes w) how
   pub complete : (device : DeviceInfo) → slice_get devices job.device ≡ Some device → IsPlayable job device bytes →
       length bytes ≤ most_bytes →
       IsAnswered (aplay_trace job devices bytes w) → (how ≡ end.Done) ⊎ (is_outer how ≡ true)

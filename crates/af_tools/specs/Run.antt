@@ -1,7 +1,5 @@
 -- What the tools do, by their arguments, the bytes of the source, and what the dialled links give.
-use Rattle.std.specs.Prelude.{◌≡◌, ◌≢◌, ◌≤◌, ◌⊎◌, ℕ, Bool, true, false, List, [], ◌∷◌, ◌++◌, length, Ok}
-use Rattle.std.specs.declared.option.Option.{Option}
-use Rattle.std.specs.declared.option.Option.TheVariants.{None, Some}
+use Rattle.std.specs.Prelude.{◌≡◌, ◌≤◌, ◌⊎◌, ℕ, Bool, true, false, List, [], ◌∷◌, ◌++◌, length, Ok, Option, None, Some}
 use Rattle.clap.specs.Words.{Text}
 use Rattle.af_io.specs.Observed.{Appended, CountsFault}
 use Rattle.af_io.specs.Dial.{AppendedBack, ToldLink}
@@ -10,7 +8,7 @@ use Rattle.af_toolkit.specs.declared.end.ToolEnd.{ToolEnd}
 use Rattle.af_toolkit.specs.declared.end.ToolEnd.TheVariants as end
 use Rattle.af_cli.specs.declared.job.Task.{Task}
 use Rattle.af_cli.specs.declared.job.Task.TheVariants as task
-use Rattle.af_toolkit.specs.Trace.{Trace, ClientState, bad_sound, channel_mismatch, dials, mismatch, no_device, client_after_setup, setup_answer, sound_cut, not_dialled}
+use Rattle.af_toolkit.specs.Trace.{Trace, ClientState, dials, client_after_setup, setup_answer, not_dialled}
 use Rattle.af_tools.specs.Limits.{most_bytes}
 use Rattle.af_tools.specs.Play.{aplay_trace}
 use Rattle.af_tools.specs.Record.{arecord_trace}
@@ -21,23 +19,21 @@ use Rattle.af_cli.specs.declared.job.PlayJob.{PlayJob}
 use Rattle.af_wire.specs.declared.order.Order.{Order}
 use Rattle.af_cli.specs.declared.job.RecordJob.{RecordJob}
 use Rattle.af_wire.specs.Front.{setup_bytes}
-use Rattle.af_lib.specs.Calls.{ConnState}
 use Rattle.af_relay.specs.Pass.{RelayTrace, apass_trace, on_from, on_to, ends_both, relay_after_answer, sends_first_from, sends_first_to}
 use Rattle.af_relay.specs.Relayed.{IsRelayed}
 use Rattle.af_tools.specs.Intent.{IsPlayed}
 use Rattle.af_tools.specs.Recorded.{IsRecorded}
 use Rattle.af_cli.specs.Words.{Job, one, relay}
 use Rattle.af_relay.specs.Pair.{is_of_pass}
-use Rattle.af_toolkit.specs.Ends.{MatchesTrace, EndsByReply, IsAnswered, is_outer, client_of}
+use Rattle.af_toolkit.specs.Ends.{MatchesTrace, EndsByReply, IsAnswered, is_outer}
 use Rattle.af_tools.specs.Outcomes.{is_of_tool}
-use Rattle.af_sound.specs.declared.head.SoundFault.{SoundFault}
 use Rattle.af_sound.specs.declared.head.SoundForm.{SoundForm}
-use Rattle.af_tools.specs.Results.{EndsBySound}
+use Rattle.af_tools.specs.Results.{is_unfit, EndsIfUnfit}
 use Rattle.af_tools.specs.Reading.{TellsIfRead, UsesSource}
 use Rattle.af_relay.specs.RelayParts.{ObservedRelayTrace}
 
 -- the setup of an order is sent on one of the links, and what follows goes by the devices of its answer
-unfoldable pub connects_by : Order → (List ℕ → RelayTrace → RelayTrace) → List ℕ → (List DeviceInfo → ClientState → RelayTrace) →
+abbrev pub connects_by : Order → (List ℕ → RelayTrace → RelayTrace) → List ℕ → (List DeviceInfo → ClientState → RelayTrace) →
     RelayTrace
 connects_by order sending input next =
     sending (setup_bytes order) (relay_after_answer (setup_answer order input) (client_after_setup order input) next)
@@ -61,15 +57,6 @@ as_relay c = record { from = c.sends; to = []; output = c.output; finish = c.fin
 pub record RelayedOver (relay : RelayTrace) (how : ToolEnd) (from from' to to' held held' : Option (List ℕ)) : Type 0 where
   pub followed : ObservedRelayTrace relay how from from' to to' held held'
   pub early : how ≡ end.OutOfMemory → (followed.sends_from ≡ []) × (followed.sends_to ≡ [])
-
--- the same over a connection and a link that was dialled, which tell what they give
-abbrev pub RelaysOver : {L M K : Type 0} → (left_from sent_from : L → Option (List ℕ)) → (left_to sent_to : M → Option (List ℕ)) →
-    (held : K → Option (List ℕ)) →
-    Order → PassJob → ToolEnd → (conn conn' : ConnState L) → (far far' : M) → (sink sink' : K) → Type 0
-RelaysOver left_from sent_from left_to sent_to held order job how conn conn' far far' sink sink' =
-    (v w : List ℕ) → left_from conn.link ≡ Some v → left_to far ≡ Some w →
-    RelayedOver (connects_by order sends_first_to w (λ to u. apass_trace job conn.devices to (client_of conn v) u)) how
-    (sent_from conn.link) (sent_from conn'.link) (sent_to far) (sent_to far') (held sink) (held sink')
 
 -- the trace of a task on a server that was set up
 abbrev pub task_trace : Task → List DeviceInfo → List ℕ → ClientState → Trace
@@ -113,39 +100,26 @@ abbrev pub reads_of : Option Job → Bool
 reads_of (Some j) = job_reads j
 reads_of None = false
 
--- the ends of a tool with one server over its link, and of one that dials; only one that reads its source ends for it
-abbrev pub is_of_far : (reads : Bool) → ToolEnd → Bool
-is_of_far reads end.OutOfMemory = true
-is_of_far reads how = is_of_tool reads how
+-- the ends of a tool over a link that was dialled, and of one that dials, by those that it has over its connections
+abbrev pub is_of_far : (ToolEnd → Bool) → ToolEnd → Bool
+is_of_far is_own end.OutOfMemory = true
+is_of_far is_own how = is_own how
 
-abbrev pub is_of_one : (reads : Bool) → ToolEnd → Bool
-is_of_one reads end.DialFault = true
-is_of_one reads how = is_of_far reads how
-
--- the ends of a relay over its second link, and of one that dials; only a relay, and a tool that reads its source, ends for two
--- rates
-abbrev pub is_of_over : ToolEnd → Bool
-is_of_over end.OutOfMemory = true
-is_of_over how = is_of_pass how
-
-abbrev pub is_of_relay : ToolEnd → Bool
-is_of_relay end.DialFault = true
-is_of_relay how = is_of_over how
+abbrev pub is_of_dial : (ToolEnd → Bool) → ToolEnd → Bool
+is_of_dial is_own end.DialFault = true
+is_of_dial is_own how = is_of_far is_own how
 
 -- the ends of a job
 abbrev pub is_of_job : Job → ToolEnd → Bool
-is_of_job (one server order task) how = is_of_one (reads_source task) how
-is_of_job (relay from to order job) how = is_of_relay how
+is_of_job (one server order task) how = is_of_dial (is_of_tool (reads_source task)) how
+is_of_job (relay from to order job) how = is_of_dial is_of_pass how
 
 -- the ends of the program: Usage, and those of the job that its words name; if they name none, OutOfMemory
-abbrev pub is_of_named : Option Job → ToolEnd → Bool
-is_of_named (Some j) how = is_of_job j how
-is_of_named None end.OutOfMemory = true
-is_of_named None _ = false
-
 abbrev pub is_of_af : Option Job → ToolEnd → Bool
 is_of_af named end.Usage = true
-is_of_af named how = is_of_named named how
+is_of_af (Some j) how = is_of_job j how
+is_of_af None end.OutOfMemory = true
+is_of_af None _ = false
 
 -- Each link that was dialled was given back: none, and then nothing was sent; or the first, which was sent this after what it had
 -- been sent before.
@@ -218,32 +192,19 @@ pub record RelayRan (order : Order) (job : PassJob) (links : List ToldLink) (lin
   pub to_is_next : from.rest ≡ to ∷ rest
   pub sends_from : List ℕ
   pub sends_to : List ℕ
-  pub relayed : IsRelayed job from.devices (client_after_setup order from.link.gives) (client_after_setup order to.gives) (Some []) (Some sends_from)
+  pub relayed : IsRelayed job from.devices (client_after_setup order from.link.gives) (client_after_setup order to.gives)
+      (Some []) (Some sends_from)
       (Some []) (Some sends_to) held held'
   pub link : ReturnedLinks links links' (setup_bytes order ++ sends_from) (setup_bytes order ++ sends_to) back back'
 
--- What aplay has played on its server: its link was set up and then used, and given back.
-pub record PlayRan (order : Order) (job : PlayJob) (bytes : List ℕ) (links : List ToldLink) (links' : Option (List ToldLink))
-    (held held' : Option (List ℕ)) (back back' : Option (List (List ℕ))) : Type 0 where
+-- What a tool has done on its server, by the devices, what the link gives, and what was sent: the link was set up and then used,
+-- and given back.
+pub record UsedServer (order : Order) (links : List ToldLink) (links' : Option (List ToldLink))
+    (back back' : Option (List (List ℕ))) (use_of : List DeviceInfo → ClientState → List ℕ → Type 0) : Type 0 where
   pub server : SetUpFirst order links
   pub sends : List ℕ
-  pub played : IsPlayed job server.devices bytes (client_after_setup order server.link.gives) (Some []) (Some sends) held held'
+  pub used : use_of server.devices (client_after_setup order server.link.gives) sends
   pub link : ReturnedLinks links links' (setup_bytes order ++ sends) [] back back'
-
--- What arecord has recorded on its server: its link was set up and then used, and given back.
-pub record RecordRan (order : Order) (job : RecordJob) (links : List ToldLink) (links' : Option (List ToldLink))
-    (held held' : Option (List ℕ)) (back back' : Option (List (List ℕ))) : Type 0 where
-  pub server : SetUpFirst order links
-  pub sends : List ℕ
-  pub recorded : IsRecorded job server.devices (client_after_setup order server.link.gives) (Some []) (Some sends) held held'
-  pub link : ReturnedLinks links links' (setup_bytes order ++ sends) [] back back'
-
--- What list has written of its server: its link was set up, and the sink gained a line for each device.
-pub record DevicesListed (order : Order) (links : List ToldLink) (held held' : Option (List ℕ)) : Type 0 where
-  pub server : SetUpFirst order links
-  pub output : List ℕ
-  pub lines : HasLines 0 server.devices output
-  pub sink : Appended held output held'
 
 -- the same by what is observable of the links that a dial gives, a sink, and a source if the job reads it
 abbrev pub RunsJob : {D S K : Type 0} → (links : D → Option (List ToldLink)) → (back : D → Option (List (List ℕ))) →
@@ -252,27 +213,6 @@ abbrev pub RunsJob : {D S K : Type 0} → (links : D → Option (List ToldLink))
 RunsJob links back gives held j how dial dial' source source' sink sink' =
     (told : List ToldLink) (bytes : List ℕ) → links dial ≡ Some told → TellsIfRead gives (job_reads j) bytes source source' →
     JobRan j bytes how told (links dial') (held sink) (held sink') (back dial) (back dial')
-
--- the same for a relay after the setup of its first link
-abbrev pub RunsRelayTo : {F D K : Type 0} → (left sent : F → Option (List ℕ)) → (links : D → Option (List ToldLink)) →
-    (back : D → Option (List (List ℕ))) → (held : K → Option (List ℕ)) →
-    Order → PassJob → ToolEnd → ConnState F → (dial dial' : D) → (sink sink' : K) → Type 0
-RunsRelayTo left sent links back held order job how conn dial dial' sink sink' =
-    (v : List ℕ) (told : List ToldLink) → left conn.link ≡ Some v → links dial ≡ Some told →
-    RelayRanTo order job conn.devices (client_of conn v) how told (links dial') (sent conn.link) (held sink) (held sink')
-    (back dial) (back dial')
-
--- if two devices have different rates, the tool ends with that, unless something from outside has ended it; and it ends so in no
--- other case
-pub record EndsByRates (trace : Trace) (how : ToolEnd) : Type 0 where
-  pub only : (a b : ℕ) → how ≡ end.RateMismatch a b → trace.finish ≡ mismatch a b
-  pub always : (a b : ℕ) → trace.finish ≡ mismatch a b → (how ≡ end.RateMismatch a b) ⊎ (is_outer how ≡ true)
-
--- if the device of a tool does not exist, the tool ends with that, unless something from outside has ended it; and it ends so in
--- no other case
-pub record EndsByDevice (trace : Trace) (how : ToolEnd) : Type 0 where
-  pub only : (n : ℕ) → how ≡ end.NoDevice n → trace.finish ≡ no_device n
-  pub always : (n : ℕ) → trace.finish ≡ no_device n → (how ≡ end.NoDevice n) ⊎ (is_outer how ≡ true)
 
 -- Each end of a tool that dials has its cause. Nothing was written where memory ran out, and nothing was read or written where a
 -- server was not had. A failed dial, a failed link and a failed write end the tool exactly where they are counted.
@@ -300,14 +240,9 @@ pub record AskedFor (servers : List Text) (how : ToolEnd) (asked asked' : Option
   pub none : named ≡ [] → how ≡ end.OutOfMemory
   pub all : how ≡ end.Done → others ≡ []
 
--- the device exists; a source that is to be a sound file is one; two devices, or a file and a device, have one rate and the same
--- channels; and each request gets its reply
+-- each device and the source are fit for the job, and each request gets its reply
 pub record IsServed (trace : Trace) : Type 0 where
-  pub there : (devices : ℕ) → trace.finish ≢ no_device devices
-  pub good : (fault : SoundFault) → trace.finish ≢ bad_sound fault
-  pub whole : trace.finish ≢ sound_cut
-  pub even : (from to : ℕ) → trace.finish ≢ mismatch from to
-  pub one_shape : (from to : ℕ) → trace.finish ≢ channel_mismatch from to
+  pub fits : is_unfit trace.finish ≡ false
   pub answered : IsAnswered trace
 
 -- What the tools did for a job: it ran, and each end for a reply or for devices is that of its trace. If it is done, what aplay
@@ -317,15 +252,17 @@ pub record JobDone (j : Job) (bytes : List ℕ) (how : ToolEnd) (links : List To
     (held held' : Option (List ℕ)) (back back' : Option (List (List ℕ))) : Type 0 where
   pub ran : JobRan j bytes how links links' held held' back back'
   pub reply : EndsByReply (on_from (run_trace j links bytes)) how
-  pub device : EndsByDevice (on_from (run_trace j links bytes)) how
-  pub rates : EndsByRates (on_from (run_trace j links bytes)) how
-  pub sound : EndsBySound (on_from (run_trace j links bytes)) how
+  pub unfit : EndsIfUnfit (on_from (run_trace j links bytes)) how
   pub heard : (server : Text) (order : Order) (play : PlayJob) → j ≡ one server order (task.Play play) → how ≡ end.Done →
-      PlayRan order play bytes links links' held held' back back'
+      UsedServer order links links' back back'
+      (λ devices w sends. IsPlayed play devices bytes w (Some []) (Some sends) held held')
   pub recorded : (server : Text) (order : Order) (recording : RecordJob) → j ≡ one server order (task.Record recording) →
-      how ≡ end.Done → RecordRan order recording links links' held held' back back'
+      how ≡ end.Done →
+      UsedServer order links links' back back'
+      (λ devices w sends. IsRecorded recording devices w (Some []) (Some sends) held held')
   pub listed : (server : Text) (order : Order) → j ≡ one server order task.List → how ≡ end.Done →
-      DevicesListed order links held held'
+      UsedServer order links links' back back'
+      (λ devices w sends. (output : List ℕ) × HasLines 0 devices output × Appended held output held')
   pub relayed : (from to : Text) (order : Order) (pass : PassJob) → j ≡ relay from to order pass → how ≡ end.Done →
       RelayRan order pass links links' held held' back back'
   pub complete : length bytes ≤ most_bytes → IsServed (on_from (run_trace j links bytes)) →

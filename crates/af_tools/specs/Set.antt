@@ -1,7 +1,5 @@
 -- What aset does: it sets what its arguments state, and then writes the controls of the device, and its line.
-use Rattle.std.specs.Prelude.{ℕ, ◌||◌, Bool, true, false, List, is_some}
-use Rattle.std.specs.declared.option.Option.{Option}
-use Rattle.std.specs.declared.option.Option.TheVariants.{None, Some}
+use Rattle.std.specs.Prelude.{◌||◌, Bool, List, is_some, if◌then◌else◌, option_map, Option, None, Some}
 use Rattle.af_request.specs.declared.reply.DeviceInfo.{DeviceInfo}
 use Rattle.af_request.specs.Asked.{Asked, hook_switch}
 use Rattle.af_request.specs.Fields.{flag_byte}
@@ -15,25 +13,26 @@ use Rattle.af_standing.specs.ControlsReport.{asks_controls_report, controls_repo
 abbrev pub states_controls : SetJob → Bool
 states_controls job = is_some job.input_gain || is_some job.output_gain || is_some job.input_on || is_some job.output_on
 
--- the request that sets the stated controls, and leaves the others
-abbrev pub control_request : SetJob → Asked
-control_request job = controls_request job.device job.input_gain job.output_gain job.input_on job.output_on
+-- the request that sets the stated controls, if there are some, and leaves the others
+abbrev pub control_request : SetJob → Option Asked
+control_request job =
+    if states_controls job then Some (controls_request job.device job.input_gain job.output_gain job.input_on job.output_on)
+    else None
+
+-- the request that takes the hook off or puts it on, if that is stated
+abbrev pub hook_request : SetJob → Option Asked
+hook_request job = option_map (λ off. hook_switch job.device (flag_byte off)) job.hook_off
 
 -- a request that is sent only if it is needed
-abbrev pub asks_where : Bool → Asked → ClientState → (Unit {0} → ClientState → Trace) → Trace
-asks_where true asked w next = asks asked as_done w next
-asks_where false asked w next = next tt w
-
--- the hook is taken off or put on, if that is stated
-abbrev pub hooks : ℕ → Option Bool → ClientState → (Unit {0} → ClientState → Trace) → Trace
-hooks device (Some off) w next = asks (hook_switch device (flag_byte off)) as_done w next
-hooks device None w next = next tt w
+abbrev pub asks_if : Option Asked → ClientState → (Unit {0} → ClientState → Trace) → Trace
+asks_if (Some asked) w next = asks asked as_done w next
+asks_if None w next = next tt w
 
 -- the controls and the hook are set, and then the device is asked for its state
 unfoldable pub sets_on : SetJob → DeviceInfo → ClientState → (ControlsReport → ClientState → Trace) → Trace
 sets_on job device w next =
-    asks_where (states_controls job) (control_request job) w (λ _ w.
-    hooks job.device job.hook_off w (λ _ w.
+    asks_if (control_request job) w (λ _ w.
+    asks_if (hook_request job) w (λ _ w.
     asks_controls_report device.line job.device w next))
 
 -- the trace of aset, by the devices of the server and what the link gives

@@ -1,7 +1,5 @@
 -- The sound that a source gives to play: samples, or a sound file.
-use Rattle.std.specs.Prelude.{◌≡◌, ℕ, ◌-◌, ◌*◌, ◌==◌, ◌≤◌, nat_lt, min, ⊤, if◌then◌else◌, List, ◌++◌, take, drop, unwrap_or}
-use Rattle.std.specs.declared.option.Option.{Option}
-use Rattle.std.specs.declared.option.Option.TheVariants.{None, Some}
+use Rattle.std.specs.Prelude.{◌≡◌, ℕ, ◌-◌, ◌*◌, ◌==◌, ◌≤◌, nat_lt, min, ⊤, if◌then◌else◌, List, ◌++◌, take, drop, unwrap_or, Option, None, Some}
 use Rattle.af_sample.specs.declared.sample_type.SampleType.{SampleType}
 use Rattle.af_sample.specs.declared.sample_type.SampleType.TheVariants as ty
 use Rattle.af_sample.specs.SampleTypes.{width_of}

@@ -1,7 +1,5 @@
 -- When aplay reads the first byte of a source without a header.
-use Rattle.std.specs.Prelude.{◌≡◌, ◌⊎◌, ℕ, List, ◌∷◌, slice_get, unwrap_or, Ok}
-use Rattle.std.specs.declared.option.Option.{Option}
-use Rattle.std.specs.declared.option.Option.TheVariants.{None, Some}
+use Rattle.std.specs.Prelude.{◌≡◌, ◌⊎◌, ℕ, List, ◌∷◌, slice_get, unwrap_or, Ok, Option, None, Some}
 use Rattle.clap.specs.Words.{Text}
 use Rattle.af_io.specs.Dial.{ToldLink}
 use Rattle.af_wire.specs.declared.order.Order.{Order}
@@ -28,7 +26,8 @@ GivesContext job devices w = (device : DeviceInfo) × (slice_get devices job.dev
 -- the same for a link that is set up first
 abbrev pub LinkGivesContext : Order → PlayJob → List ℕ → Type 0
 LinkGivesContext order job input =
-    (devices : List DeviceInfo) × (setup_answer order input ≡ Ok devices) × GivesContext job devices (client_after_setup order input)
+    (devices : List DeviceInfo) × (setup_answer order input ≡ Ok devices)
+    × GivesContext job devices (client_after_setup order input)
 
 -- the same for the first link that is dialled
 abbrev pub DialGivesContext : Order → PlayJob → List ToldLink → Type 0
@@ -41,20 +40,12 @@ abbrev pub ReadsAfterContext : {L S : Type 0} → (left : L → Option (List ℕ
 ReadsAfterContext left job conn source source' = job.form ≡ None →
     (source' ≡ source) ⊎ ((input : List ℕ) → left conn.link ≡ Some input → GivesContext job conn.devices (client_of conn input))
 
--- the same for a task, if it is aplay, over a connection, over a link, and over a dial
-abbrev pub TaskReadsLate : {L S : Type 0} → (left : L → Option (List ℕ)) → Task → ConnState L → (source source' : S) → Type 0
-TaskReadsLate left t conn source source' = (job : PlayJob) → t ≡ task.Play job → ReadsAfterContext left job conn source source'
+-- The same for a task, if it is aplay: this says that the context was made.
+abbrev pub ReadsLate : {S : Type 0} → Task → (made : PlayJob → Type 0) → (source source' : S) → Type 0
+ReadsLate t made source source' = (job : PlayJob) → t ≡ task.Play job → job.form ≡ None → (source' ≡ source) ⊎ made job
 
-abbrev pub LinkReadsLate : {L S : Type 0} → (left : L → Option (List ℕ)) → Order → Task → L → (source source' : S) → Type 0
-LinkReadsLate left order t far source source' = (job : PlayJob) → t ≡ task.Play job → job.form ≡ None →
-    (source' ≡ source) ⊎ ((input : List ℕ) → left far ≡ Some input → LinkGivesContext order job input)
-
-abbrev pub DialReadsLate : {D S : Type 0} → (links : D → Option (List ToldLink)) → Order → Task → D → (source source' : S) →
-    Type 0
-DialReadsLate links order t dial source source' = (job : PlayJob) → t ≡ task.Play job → job.form ≡ None →
-    (source' ≡ source) ⊎ ((told : List ToldLink) → links dial ≡ Some told → DialGivesContext order job told)
-
--- the same for a job
+-- the same for a job, over a dial
 abbrev pub JobReadsLate : {D S : Type 0} → (links : D → Option (List ToldLink)) → Job → D → (source source' : S) → Type 0
 JobReadsLate links j dial source source' =
-    (server : Text) (order : Order) (t : Task) → j ≡ one server order t → DialReadsLate links order t dial source source'
+    (server : Text) (order : Order) (t : Task) → j ≡ one server order t →
+    ReadsLate t (λ job. (told : List ToldLink) → links dial ≡ Some told → DialGivesContext order job told) source source'

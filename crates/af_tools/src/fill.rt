@@ -2,8 +2,8 @@
 ghost use Rattle.std.specs.Prelude.{◌≡◌, ◌<◌, ◌≤◌, length, take, Err, IfOk, IsErrOf};
 ghost use Rattle.std.specs.declared.option.Option.TheVariants.{Some};
 ghost use Rattle.af_io.specs.Observed.{CountsFault, Consumed};
-ghost use Rattle.af_io.specs.Flow.{IsSpent};
-ghost use Rattle.af_tools.specs.Fill.{fill_end, ConsumedAbove, ConsumedUpTo, FillsBlock};
+ghost use Rattle.af_io.specs.Flow.{ConsumedWithin, IsSpent};
+ghost use Rattle.af_tools.specs.Fill.{fill_end, ConsumedAbove, FillsBlock};
 ghost use Rattle.af_tools.specs.Sounds.{stated_after, FitsStated};
 
 use af_io::{Got, Source};
@@ -67,7 +67,7 @@ fn fill_block<S: Source>(source: &mut S, block: &mut [u8], allowed: u64) -> Resu
     ensures ended { IfOk result (λ n. n < length block.new → IsSpent (S.left source.new)) }
     ensures long { IsErrOf result FillFault.TooLong →
         ConsumedAbove allowed (length block.new) (S.left source.old) (S.left source.new) }
-    ensures cut { IsErrOf result FillFault.ReadFault → ConsumedUpTo allowed (S.left source.old) (S.left source.new) }
+    ensures cut { IsErrOf result FillFault.ReadFault → ConsumedWithin allowed (S.left source.old) (S.left source.new) }
     ensures fault { CountsFault (IsErrOf result FillFault.ReadFault) (S.faults source.old) (S.faults source.new) }
 {
     let mut filled = 0;

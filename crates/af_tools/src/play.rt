@@ -3,6 +3,7 @@ ghost use Rattle.std.specs.Prelude.{ℕ, List, ◌≡◌, ◌<◌, ◌≤◌, �
 ghost use Rattle.std.specs.declared.option.Option.{Option};
 ghost use Rattle.std.specs.declared.option.Option.TheVariants.{None};
 ghost use Rattle.af_io.specs.Observed.{CountsFault};
+ghost use Rattle.af_io.specs.Flow.{ConsumedWithin};
 ghost use Rattle.af_request.specs.Asked.{play_run};
 ghost use Rattle.af_lib.specs.Calls.{as_time};
 ghost use Rattle.af_toolkit.specs.Trace.{asks};
@@ -12,7 +13,7 @@ ghost use Rattle.af_tools.specs.Limits.{most_bytes};
 ghost use Rattle.af_tools.specs.Play.{plays_sound, IsBlock};
 ghost use Rattle.af_tools.specs.Sounds.{as_served, block_bytes, served_room, AreWhole, IsServedAs};
 ghost use Rattle.af_tools.specs.Outcomes.{is_of_blocks};
-ghost use Rattle.af_tools.specs.Fill.{left_before, ConsumedUpTo, FillsBlock, IsEarlyBlock, IsNextBlock, TakesSound};
+ghost use Rattle.af_tools.specs.Fill.{left_before, FillsBlock, IsEarlyBlock, IsNextBlock, TakesSound};
 ghost use Rattle.af_tools.specs.Reading.{ObservedPartReading};
 ghost use Rattle.af_cli.specs.Sizes.{greatest_block};
 
@@ -132,7 +133,7 @@ pub fn read_early<S: Source>(
         sound.length early room.new (S.left source.old) (S.left source.new)) }
     ensures only { IsErrOf result FillFault.TooLong → ⊥ }
     ensures cut { IsErrOf result FillFault.ReadFault →
-        ConsumedUpTo (most_bytes - sound.head) (S.left source.old) (S.left source.new) }
+        ConsumedWithin (most_bytes - sound.head) (S.left source.old) (S.left source.new) }
     ensures fault { CountsFault (IsErrOf result FillFault.ReadFault) (S.faults source.old) (S.faults source.new) }
 {
     if sound.head > MOST_BYTES - GREATEST_BLOCK as u64 {

@@ -5,7 +5,10 @@ ghost use Rattle.af_io.specs.Observed.{CountsFault, Appended, FaultCounted};
 ghost use Rattle.af_io.specs.Dial.{ToldLink};
 ghost use Rattle.af_cli.specs.Ranges.{IsAddress, IsPaced};
 ghost use Rattle.af_cli.specs.Words.{relay};
-ghost use Rattle.af_tools.specs.Run.{RelaysOver, is_of_over, is_of_relay, AskedFor, JobRan, RunsRelayTo};
+ghost use Rattle.af_toolkit.specs.Ends.{client_of};
+ghost use Rattle.af_relay.specs.Pair.{is_of_pass};
+ghost use Rattle.af_relay.specs.Pass.{apass_trace, sends_first_to};
+ghost use Rattle.af_tools.specs.Run.{connects_by, is_of_dial, is_of_far, AskedFor, JobRan, RelayRanTo, RelayedOver};
 ghost use Rattle.af_cli.specs.Sizes.{greatest_block};
 
 use crate::memory::Memory;
@@ -28,11 +31,12 @@ fn pass_over<L: Link + Drop, M: Link + Drop, K: Sink>(
     requires usable { conn.old.cause ≡ None }
     requires pace { IsPaced job.now }
     requires room { greatest_block ≤ length memory.old.room.items }
-    ensures followed { RelaysOver L.left L.sent M.left M.sent K.held order job.now result.0
-        conn.old conn.new far result.1 sink.old sink.new }
+    ensures followed { (v w : List ℕ) → L.left conn.old.link ≡ Some v → M.left far ≡ Some w → RelayedOver
+        (connects_by order sends_first_to w (λ to u. apass_trace job.now conn.old.devices to (client_of conn.old v) u)) result.0
+        (L.sent conn.old.link) (L.sent conn.new.link) (M.sent far) (M.sent result.1) (K.held sink.old) (K.held sink.new) }
     ensures memory { result.0 ≡ ToolEnd.OutOfMemory → (L.sent conn.new.link ≡ L.sent conn.old.link)
         × (M.sent result.1 ≡ M.sent far) × (sink.new ≡ sink.old) }
-    ensures end { is_of_over result.0 ≡ true }
+    ensures end { is_of_far is_of_pass result.0 ≡ true }
     ensures link { result.0 ≡ ToolEnd.LinkFault →
         FaultCounted (L.faults conn.old.link) (L.faults conn.new.link) ⊎ FaultCounted (M.faults far) (M.faults result.1) }
     ensures from_count { L.faults conn.old.link ≤ L.faults conn.new.link }
@@ -59,11 +63,12 @@ fn run_to<K: Sink, D: Dial>(
     requires to { IsAddress call.now.to.now }
     requires pace { IsPaced call.now.job }
     requires room { greatest_block ≤ length memory.old.room.items }
-    ensures ran { RunsRelayTo D.Far.Link.left D.Far.Link.sent D.links D.back K.held call.now.order call.now.job result
-        conn dial.old dial.new sink.old sink.new }
+    ensures ran { (v : List ℕ) (links : List ToldLink) → D.Far.Link.left conn.link ≡ Some v → D.links dial.old ≡ Some links →
+        RelayRanTo call.now.order call.now.job conn.devices (client_of conn v) result links (D.links dial.new)
+        (D.Far.Link.sent conn.link) (K.held sink.old) (K.held sink.new) (D.back dial.old) (D.back dial.new) }
     ensures asked { Appended (D.asked dial.old) (call.now.to.now ∷ []) (D.asked dial.new) }
     ensures memory { result ≡ ToolEnd.OutOfMemory → sink.new ≡ sink.old }
-    ensures end { is_of_relay result ≡ true }
+    ensures end { is_of_dial is_of_pass result ≡ true }
     ensures dialled { CountsFault (result ≡ ToolEnd.DialFault) (D.faults dial.old) (D.faults dial.new) }
     ensures undialled { result ≡ ToolEnd.DialFault → sink.new ≡ sink.old }
     ensures link { CountsFault (result ≡ ToolEnd.LinkFault) (D.hurt dial.old) (D.hurt dial.new) }
@@ -102,7 +107,7 @@ pub fn run_relay<K: Sink, D: Dial>(
         (K.held sink.old) (K.held sink.new) (D.back dial.old) (D.back dial.new) }
     ensures asked { AskedFor (call.now.from.now ∷ call.now.to.now ∷ []) result (D.asked dial.old) (D.asked dial.new) }
     ensures memory { result ≡ ToolEnd.OutOfMemory → sink.new ≡ sink.old }
-    ensures end { is_of_relay result ≡ true }
+    ensures end { is_of_dial is_of_pass result ≡ true }
     ensures dialled { CountsFault (result ≡ ToolEnd.DialFault) (D.faults dial.old) (D.faults dial.new) }
     ensures undialled { result ≡ ToolEnd.DialFault → sink.new ≡ sink.old }
     ensures link { CountsFault (result ≡ ToolEnd.LinkFault) (D.hurt dial.old) (D.hurt dial.new) }

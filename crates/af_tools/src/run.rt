@@ -1,7 +1,8 @@
 // The tools, by their arguments: a server is dialled, and the job is done.
-ghost use Rattle.std.specs.Prelude.{◌≡◌, ◌≢◌, ◌≤◌, ◌⊎◌, ◌∷◌, [], true, length};
+ghost use Rattle.std.specs.Prelude.{◌≡◌, ◌≢◌, ◌≤◌, ◌⊎◌, ◌∷◌, [], ℕ, List, true, length};
 ghost use Rattle.std.specs.declared.option.Option.TheVariants.{None, Some};
 ghost use Rattle.af_io.specs.Observed.{CountsFault, Appended, FaultCounted};
+ghost use Rattle.af_io.specs.Dial.{ToldLink};
 ghost use Rattle.af_toolkit.specs.Trace.{connects};
 ghost use Rattle.af_toolkit.specs.Ends.{client_of};
 ghost use Rattle.af_cli.specs.Words.{is_spelled, job, one, Job};
@@ -9,8 +10,8 @@ ghost use Rattle.af_cli.specs.Call.{job_of_call, IsCall};
 ghost use Rattle.af_cli.specs.Ranges.{IsAddress, IsRanged};
 ghost use Rattle.af_tools.specs.Outcomes.{is_of_tool};
 ghost use Rattle.af_tools.specs.Reading.{FollowsTrace, UsesSource};
-ghost use Rattle.af_tools.specs.Unread.{DialReadsLate, JobReadsLate, LinkReadsLate, TaskReadsLate};
-ghost use Rattle.af_tools.specs.Run.{form_of, is_of_af, is_of_far, is_of_job, is_of_one, job_form, job_reads, reads_of, reads_source, servers_of, source_form, task_trace, AskedFor, DoesJob, EndsForCause, RunsJob};
+ghost use Rattle.af_tools.specs.Unread.{DialGivesContext, GivesContext, JobReadsLate, LinkGivesContext, ReadsLate};
+ghost use Rattle.af_tools.specs.Run.{form_of, is_of_af, is_of_dial, is_of_far, is_of_job, job_form, job_reads, reads_of, reads_source, servers_of, source_form, task_trace, AskedFor, DoesJob, EndsForCause, RunsJob};
 ghost use Rattle.af_cli.specs.Sizes.{greatest_block};
 
 use crate::memory::Memory;
@@ -42,7 +43,8 @@ fn perform<L: Link + Drop, S: Source, K: Sink>(
         (λ input bytes. task_trace task.now conn.old.devices bytes (client_of conn.old input)) }
     ensures end { is_of_tool (reads_source task.now) result ≡ true }
     ensures source { UsesSource S.left S.faults (reads_source task.now) (source_form task.now) result source.old source.new }
-    ensures unread { TaskReadsLate L.left task.now conn.old source.old source.new }
+    ensures unread { ReadsLate task.now (λ play. (input : List ℕ) → L.left conn.old.link ≡ Some input →
+        GivesContext play conn.old.devices (client_of conn.old input)) source.old source.new }
     ensures link { CountsFault (result ≡ ToolEnd.LinkFault) (L.faults conn.old.link) (L.faults conn.new.link) }
     ensures sink { CountsFault (result ≡ ToolEnd.SinkFault) (K.faults sink.old) (K.faults sink.new) }
 {
@@ -69,9 +71,10 @@ fn perform_over<L: Link + Drop, S: Source, K: Sink>(
         source.old source.new sink.old sink.new
         (λ input bytes. connects order input (λ devices w. task_trace task.now devices bytes w)) }
     ensures memory { result.0 ≡ ToolEnd.OutOfMemory → (L.sent result.1 ≡ L.sent far) × (sink.new ≡ sink.old) }
-    ensures end { is_of_far (reads_source task.now) result.0 ≡ true }
+    ensures end { is_of_far (is_of_tool (reads_source task.now)) result.0 ≡ true }
     ensures source { UsesSource S.left S.faults (reads_source task.now) (source_form task.now) result.0 source.old source.new }
-    ensures unread { LinkReadsLate L.left order task.now far source.old source.new }
+    ensures unread { ReadsLate task.now (λ play. (input : List ℕ) → L.left far ≡ Some input → LinkGivesContext order play input)
+        source.old source.new }
     ensures link { result.0 ≡ ToolEnd.LinkFault → FaultCounted (L.faults far) (L.faults result.1) }
     ensures sink { CountsFault (result.0 ≡ ToolEnd.SinkFault) (K.faults sink.old) (K.faults sink.new) }
 {
@@ -98,10 +101,11 @@ fn run_one<S: Source, K: Sink, D: Dial>(
     ensures ran { RunsJob D.links D.back S.left K.held (one call.now.server.now call.now.order call.now.task) result
         dial.old dial.new source.old source.new sink.old sink.new }
     ensures asked { Appended (D.asked dial.old) (call.now.server.now ∷ []) (D.asked dial.new) }
-    ensures end { is_of_one (reads_source call.now.task) result ≡ true }
+    ensures end { is_of_dial (is_of_tool (reads_source call.now.task)) result ≡ true }
     ensures causes { EndsForCause S.left S.faults K.faults D.faults D.hurt
         (reads_source call.now.task) (source_form call.now.task) result source.old source.new sink.old sink.new dial.old dial.new }
-    ensures unread { DialReadsLate D.links call.now.order call.now.task dial.old source.old source.new }
+    ensures unread { ReadsLate call.now.task (λ play. (told : List ToldLink) → D.links dial.old ≡ Some told →
+        DialGivesContext call.now.order play told) source.old source.new }
 {
     match dial.dial(call.server) {
         Dialed::Far(far) => {

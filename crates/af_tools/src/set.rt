@@ -2,7 +2,7 @@
 ghost use Rattle.std.specs.Prelude.{◌≡◌, true, IfErr};
 ghost use Rattle.std.specs.declared.option.Option.TheVariants.{None};
 ghost use Rattle.af_toolkit.specs.Ends.{is_of_link, ObservedPartOver, KeepsConnection};
-ghost use Rattle.af_tools.specs.Set.{asks_where, control_request, hooks, sets_on, states_controls};
+ghost use Rattle.af_tools.specs.Set.{asks_if, control_request, hook_request, sets_on, states_controls};
 
 use af_cli::SetJob;
 use af_io::Link;
@@ -25,7 +25,7 @@ fn states_controls(job: &SetJob) -> bool
 fn set_controls<L: Link + Drop>(job: &SetJob, conn: &mut Conn<L>) -> Result<(), ToolEnd>
     requires { conn.old.cause ≡ None }
     ensures goes { ObservedPartOver L.left L.sent conn.old conn.new
-        (λ w. asks_where (states_controls job.now) (control_request job.now) w) result }
+        (λ w. asks_if (control_request job.now) w) result }
     ensures holds { KeepsConnection L.left L.faults conn.old conn.new result }
     ensures end { IfErr result (λ how. is_of_link how ≡ true) }
 {
@@ -44,7 +44,7 @@ fn set_controls<L: Link + Drop>(job: &SetJob, conn: &mut Conn<L>) -> Result<(), 
 // Takes the hook off or puts it on, if a job states that.
 fn set_hook<L: Link + Drop>(job: &SetJob, conn: &mut Conn<L>) -> Result<(), ToolEnd>
     requires { conn.old.cause ≡ None }
-    ensures goes { ObservedPartOver L.left L.sent conn.old conn.new (λ w. hooks job.now.device job.now.hook_off w) result }
+    ensures goes { ObservedPartOver L.left L.sent conn.old conn.new (λ w. asks_if (hook_request job.now) w) result }
     ensures holds { KeepsConnection L.left L.faults conn.old conn.new result }
     ensures end { IfErr result (λ how. is_of_link how ≡ true) }
 {

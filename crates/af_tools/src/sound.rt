@@ -1,9 +1,9 @@
 // The sound that a source gives to play: samples, or a sound file.
-ghost use Rattle.std.specs.Prelude.{◌≡◌, ◌≤◌, ◌*◌, ◌==◌, ◌&&◌, ℕ, List, [], length, take, true, IfErr, IfOk, IsErrOf, unwrap_or};
+ghost use Rattle.std.specs.Prelude.{◌≡◌, ◌≤◌, ◌*◌, ◌==◌, ◌&&◌, ℕ, List, [], length, take, true, IfErr, IfOk, IsErrOf, IsSome, unwrap_or};
 ghost use Rattle.std.specs.declared.option.Option.TheVariants.{None, Some};
 ghost use Rattle.af_io.specs.Observed.{CountsFault};
 ghost use Rattle.af_tools.specs.Sounds.{at_one_shape, file_sound, raw_sound, served_type, source_width, IsServedAs};
-ghost use Rattle.af_tools.specs.Reading.{ends_shape, is_of_front, is_of_sound, BringsHead, BringsSound, TakesFront};
+ghost use Rattle.af_tools.specs.Reading.{ends_shape, is_of_front, is_of_sound, HeadCame, SoundCame, TakesFront};
 ghost use Rattle.af_tools.specs.Fill.{ConsumedHead};
 
 use crate::play::MOST_BYTES;
@@ -63,7 +63,8 @@ fn type_of(coding: Coding) -> SampleType
 
 // Reads the header of a file, byte by byte.
 fn read_head<S: Source>(form: SoundForm, source: &mut S) -> Result<FileHead, ToolEnd>
-    ensures brings { BringsHead S.left form result source.old source.new }
+    ensures brings { (bytes : List ℕ) → S.left source.old ≡ Some bytes → IsSome (S.left source.new) →
+        HeadCame form bytes result (S.left source.new) }
     ensures read { IfOk result (λ file.
         ConsumedHead (Some form) file.size file.head.length (S.left source.old) (S.left source.new)) }
     ensures end { IfErr result (λ how. is_of_front how ≡ true) }
@@ -113,7 +114,8 @@ pub fn sound_of<S: Source>(
     device: DeviceInfo,
     source: &mut S,
 ) -> Result<SourceSound, ToolEnd>
-    ensures brings { BringsSound S.left job.now device result source.old source.new }
+    ensures brings { (bytes : List ℕ) → S.left source.old ≡ Some bytes → IsSome (S.left source.new) →
+        SoundCame job.now device bytes result (S.left source.new) }
     ensures read { IfOk result (λ sound.
         ConsumedHead job.now.form sound.head sound.length (S.left source.old) (S.left source.new)) }
     ensures served { IfOk result (λ sound. IsServedAs sound.coding sound.ty) }

@@ -39,7 +39,7 @@ returns-in-Failed-clause-cut g c _ =
     let i = c.loop-filled.invariant in
     let len = length-take-le c.loop-filled.filled c.loop-filled.block i.within in
     record {
-      bytes = take c.loop-filled.filled c.loop-filled.block ++ [];
+      text = take c.loop-filled.filled c.loop-filled.block ++ [];
       consumed = consumed_on _ _ _ _ _ i.consumed c.in-Failed.ensures.consumed;
       within = simp append-nil (omega arith);
     }

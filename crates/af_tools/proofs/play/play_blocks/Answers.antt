@@ -1,7 +1,6 @@
-use Rattle.std.proofs.Common.{rules, arith, ◌≡◌, ◌≤◌, ◌<◌, ◌+◌, ◌*◌, ◌++◌, ℕ, List, length, length-take-le, take, sym, ap, ◌∙◌, refl, subst}
+use Rattle.std.proofs.Common.{rules, arith, ◌≡◌, ◌≤◌, ◌<◌, ◌+◌, ◌*◌, ◌++◌, ℕ, List, length, length-take-le, take, sym, ap, ◌∙◌, refl, subst, Err}
 use Rattle.std.proofs.Math.Nat.{div-le_self}
 use Rattle.std.proofs.lemmas.List.{take-take}
-use Rattle.std.specs.Prelude.{Err}
 use Rattle.af_io.specs.Observed.{Consumed}
 use Rattle.af_toolkit.specs.declared.end.ToolEnd.TheVariants as end
 use Rattle.af_toolkit.specs.Ends.{client_of, is_of_link}
@@ -9,6 +8,7 @@ use Rattle.af_tools.specs.Fill.{fill_end, left_before}
 use Rattle.af_tools.specs.Sounds.{block_bytes}
 use Rattle.af_io.proofs.ConsumedLemmas.{consumed_told}
 use Rattle.af_tools.proofs.EndLemmas.{never}
+use Rattle.af_tools.proofs.PartStepLemmas.{keeps_all, keeps_on}
 use Rattle.af_tools.proofs.PlayStepLemmas.{play_begin, play_filled, play_last, play_next, play_over, play_refused, play_unfilled, told_unfilled}
 use Rattle.af_tools.proofs.SourceFrameLemmas.{block_fits, block_short, size_fits}
 use Rattle.af_tools.proofs.SourceCountLemmas.{fits_begin, fits_on, given_on, given_within, read_before, rest_begin, rest_on, stated_all, takes_all, takes_fault, takes_some}
@@ -33,10 +33,7 @@ loop-block-init g c =
     let sized = length-take-le size c.args.room.now (omega arith) in
     let all = length-take-le first c.args.room.now (omega arith) in
     record {
-      usable = c.requires.usable;
-      devices = refl;
-      tells = λ told. told;
-      link_count = omega arith;
+      holds = keeps_all c.requires.usable;
       count = omega arith;
       block = sized;
       served = refl;
@@ -121,10 +118,7 @@ loop-block-preserved g c =
     let next_permitted = next.permitted in
     let filled : length c.fill_stated.new.block ≡ c.args.playback.block * c.width-width.result = e.room ∙ i.block in
     record {
-      usable = a.holds.usable refl;
-      devices = a.holds.devices ∙ i.devices;
-      tells = λ t. a.holds.tells (i.tells t);
-      link_count = omega (arith, a.holds.count, i.link_count);
+      holds = keeps_on i.holds a.holds;
       count = omega (arith, i.count, e.fault.0);
       block = filled;
       served = a.room ∙ i.served;

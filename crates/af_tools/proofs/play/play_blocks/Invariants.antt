@@ -1,8 +1,6 @@
-use Rattle.std.proofs.Common.{◌≡◌, ◌<◌, ◌≤◌, ◌⊎◌, ◌+◌, ◌-◌, ◌^◌, ◌++◌, ℕ, List, length, take, IsSome}
-use Rattle.std.specs.declared.option.Option.{Option}
-use Rattle.std.specs.declared.option.Option.TheVariants.{None, Some}
+use Rattle.std.proofs.Common.{Ok, ◌≡◌, ◌<◌, ◌≤◌, ◌⊎◌, ◌+◌, ◌-◌, ◌^◌, ◌++◌, ℕ, List, length, take, IsSome, Option, Some}
 use Rattle.af_io.specs.Flow.{IsSpent}
-use Rattle.af_toolkit.specs.Ends.{client_of}
+use Rattle.af_toolkit.specs.Ends.{client_of, KeepsConnection}
 use Rattle.af_tools.specs.Fill.{left_before}
 use Rattle.af_tools.specs.Play.{plays_sound}
 use Rattle.af_tools.specs.Sounds.{stated_after, FitsStated}
@@ -14,10 +12,7 @@ use Rattle.af_tools.proofs.play.play_blocks.Given as goal
 -- A block was read, and those before it were played.
 abbrev pub invariant-loop-block : goal.invariant-loop-block
 invariant-loop-block g l = record {
-  usable : l.conn.cause ≡ None;
-  devices : l.conn.devices ≡ l.initial.conn.devices;
-  tells : IsSome (g.L.Link.left l.initial.conn.link) → IsSome (g.L.Link.left l.conn.link);
-  link_count : g.L.Link.faults l.initial.conn.link ≤ g.L.Link.faults l.conn.link;
+  holds : KeepsConnection {X = Unit {0}} g.L.Link.left g.L.Link.faults l.initial.conn l.conn (Ok tt);
   count : g.S.Source.faults l.initial.source ≤ g.S.Source.faults l.source;
   block : length l.block ≡ l.size;
   served : length l.served ≡ 16000;

@@ -1,8 +1,8 @@
-use Rattle.std.proofs.Common.{rules, arith, ◌≡◌, ◌≤◌, ◌*◌, ℕ, length, refl, ap, ◌∙◌, length-take-le}
-use Rattle.std.specs.Prelude.{Err}
+use Rattle.std.proofs.Common.{rules, arith, ◌≡◌, ◌≤◌, ◌*◌, ℕ, length, refl, ap, ◌∙◌, length-take-le, Err}
 use Rattle.af_toolkit.specs.Ends.{client_of}
 use Rattle.af_cli.specs.Sizes.{block_frames}
 use Rattle.af_tools.specs.Record.{recorded_frame}
+use Rattle.af_tools.proofs.PartStepLemmas.{keeps_all, keeps_on}
 use Rattle.af_tools.proofs.RecordBlockLemmas.{record_begin, record_done, record_on, record_quiet, record_stopped, some_recorded}
 use Rattle.af_tools.proofs.record.record_blocks.Goals as goal
 
@@ -12,10 +12,7 @@ loop-left-init g c =
     let sound = c.args.sound in
     let is_block : c.block_frames-block.result ≡ block_frames job.block (recorded_frame sound) = c.block_frames-block.ensures.value ∙ ap (block_frames job.block) c.frame_bytes-frame.ensures in
     record {
-      usable = c.requires.usable;
-      devices = refl;
-      tells = λ told. told;
-      link_count = omega arith;
+      holds = keeps_all c.requires.usable;
       count = omega arith;
       some = omega (arith, is_block, some_recorded sound job.block c.requires.channels c.requires.block.0);
       going = omega arith;
@@ -45,10 +42,7 @@ loop-left-preserved g c =
     let fits : c.min-count.result * c.frame_bytes-frame.result ≤ length c.loop-left.room = search rules in
     let size = length-take-le _ c.loop-left.room fits ∙ ap (λ (w : ℕ). c.min-count.result * w) c.frame_bytes-frame.ensures in
     record {
-      usable = e.holds.usable refl;
-      devices = e.holds.devices ∙ i.devices;
-      tells = λ t. e.holds.tells (i.tells t);
-      link_count = omega (arith, e.holds.count, i.link_count);
+      holds = keeps_on i.holds e.holds;
       count = omega (arith, e.fault.0, i.count);
       some = i.some;
       going = c.if-row-job.false;

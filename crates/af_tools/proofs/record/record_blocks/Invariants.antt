@@ -1,16 +1,12 @@
-use Rattle.std.proofs.Common.{◌≡◌, ◌≤◌, ◌<◌, ℕ, List, IsSome}
-use Rattle.std.specs.declared.option.Option.TheVariants.{None, Some}
-use Rattle.af_toolkit.specs.Ends.{client_of}
+use Rattle.std.proofs.Common.{Ok, ◌≡◌, ◌≤◌, ◌<◌, ℕ, List, Some}
+use Rattle.af_toolkit.specs.Ends.{client_of, KeepsConnection}
 use Rattle.af_tools.specs.Record.{records_all}
 use Rattle.af_tools.proofs.RecordBlockLemmas.{IsRecording}
 use Rattle.af_tools.proofs.record.record_blocks.Given as goal
 
 abbrev pub invariant-loop-left : goal.invariant-loop-left
 invariant-loop-left g l = record {
-  usable : l.conn.cause ≡ None;
-  devices : l.conn.devices ≡ l.initial.conn.devices;
-  tells : IsSome (g.L.Link.left l.initial.conn.link) → IsSome (g.L.Link.left l.conn.link);
-  link_count : g.L.Link.faults l.initial.conn.link ≤ g.L.Link.faults l.conn.link;
+  holds : KeepsConnection {X = Unit {0}} g.L.Link.left g.L.Link.faults l.initial.conn l.conn (Ok tt);
   count : g.K.Sink.faults l.initial.sink ≤ g.K.Sink.faults l.sink;
   some : 1 ≤ l.block;
   going : l.row < l.job.stop_blocks;

@@ -3,13 +3,13 @@ use Rattle.af_toolkit.specs.declared.end.ToolEnd.TheVariants as end
 use Rattle.af_lib.specs.Calls.{channels_or_one}
 use Rattle.af_toolkit.specs.Trace.{done, ends}
 use Rattle.af_toolkit.specs.Ends.{client_of}
-use Rattle.af_tools.specs.Record.{records_on}
 use Rattle.af_tools.specs.Outcomes.{is_of_records}
 use Rattle.af_tools.proofs.FiledLemmas.{is_recorded}
-use Rattle.af_toolkit.proofs.FollowedLemmas.{followed_done, followed_on, followed_stop}
+use Rattle.af_toolkit.proofs.FollowedLemmas.{followed_done}
 use Rattle.af_tools.proofs.HavingRun.{arecord_on, missing_ran, there_ran}
 use Rattle.af_tools.proofs.DeviceChoiceLemmas.{is_missing, is_there, missing_iff, there_iff}
 use Rattle.af_tools.proofs.EndLemmas.{never}
+use Rattle.af_tools.proofs.PartStepLemmas.{trace_goes_on, trace_stops}
 use Rattle.af_tools.proofs.recorder.arecord.Goals as goal
 
 pub returns-in-Err-clause-ran : goal.returns-in-Err-clause-ran
@@ -23,7 +23,7 @@ pub returns-in-Ok-record_on-clause-ran : goal.returns-in-Ok-record_on-clause-ran
 returns-in-Ok-record_on-clause-ran g c input told =
     let w = client_of c.args.conn.now input in
     there_ran _ _ _ _ (arecord_on c.args.job.now c.args.conn.now.devices w) c.in-Ok.device _ _ _ _ _ (is_there _ _ _ c.in-Ok.ensures.value)
-    (followed_on (λ next. records_on c.args.job.now c.in-Ok.device w (next tt)) (λ _ _. ends done) tt _ _ (client_of c.record_on.new.conn) _ _ _ _ _ _ (c.in-Ok-record_on.ensures.goes input told) (λ i t. followed_done _ _ _ refl))
+    (trace_goes_on (λ _ _. ends done) (c.in-Ok-record_on.ensures.goes input told) (λ i t. followed_done _ _ _ refl))
 
 pub returns-in-Ok-record_on-clause-no_device : goal.returns-in-Ok-record_on-clause-no_device
 returns-in-Ok-record_on-clause-no_device g c n = there_iff _ _ _ _ (is_there _ _ c.in-Ok.device c.in-Ok.ensures.value) (λ n e. cc) n
@@ -32,7 +32,7 @@ pub returns-in-Err-record_on-clause-ran : goal.returns-in-Err-record_on-clause-r
 returns-in-Err-record_on-clause-ran g c input told =
     let w = client_of c.args.conn.now input in
     there_ran _ _ _ _ (arecord_on c.args.job.now c.args.conn.now.devices w) c.in-Ok.device _ _ _ _ _ (is_there _ _ _ c.in-Ok.ensures.value)
-    (followed_stop (λ next. records_on c.args.job.now c.in-Ok.device w (next tt)) (λ _ _. ends done) _ _ (client_of c.record_on.new.conn) _ _ _ _ (c.in-Err-record_on.ensures.goes input told))
+    (trace_stops (λ _ _. ends done) (c.in-Err-record_on.ensures.goes input told))
 
 pub returns-in-Err-record_on-clause-no_device : goal.returns-in-Err-record_on-clause-no_device
 returns-in-Err-record_on-clause-no_device g c n = there_iff _ _ _ _ (is_there _ _ c.in-Ok.device c.in-Ok.ensures.value) (λ k. never is_of_records _ (end.NoDevice k) c.in-Err-record_on.ensures.end refl) n

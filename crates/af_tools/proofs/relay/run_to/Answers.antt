@@ -1,5 +1,4 @@
-use Rattle.std.proofs.Common.{List, ℕ, refl, ap, ◌∙◌, subst}
-use Rattle.std.specs.declared.option.Option.{Option}
+use Rattle.std.proofs.Common.{List, ℕ, refl, ap, ◌∙◌, subst, Option}
 use Rattle.af_io.specs.Dial.{AppendedBack, IsFirstOf, ToldLink}
 use Rattle.af_toolkit.specs.declared.end.ToolEnd.TheVariants as end
 use Rattle.af_toolkit.specs.Ends.{client_of}

@@ -1,27 +1,31 @@
-use Rattle.std.proofs.Common.{refl, subst, sym, ap, ◌∙◌}
-use Rattle.std.specs.declared.option.Option.{Option}
+use Rattle.std.proofs.Common.{refl, subst, sym, ap, ◌∙◌, Option}
+use Rattle.std.proofs.lemmas.Option.{same_Some}
 use Rattle.af_toolkit.specs.declared.end.ToolEnd.TheVariants as end
 use Rattle.af_cli.specs.Words.{Job}
 use Rattle.af_cli.specs.Call.{job_of_call}
+use Rattle.af_tools.specs.Reading.{TellsIfRead}
 use Rattle.af_tools.specs.Run.{EndsForCause, JobDone, form_of, job_reads, reads_of}
 use Rattle.af_tools.proofs.OutcomeLemmas.{did, ranged_call}
-use Rattle.af_tools.proofs.DialLemmas.{ran_none, same_job}
+use Rattle.af_tools.proofs.DialLemmas.{not_too_long, ran_none}
 use Rattle.af_tools.proofs.run.af_run.Goals as goal
 
 pub returns-in-Err-OutOfMemory-clause-told : goal.returns-in-Err-OutOfMemory-clause-told
 returns-in-Err-OutOfMemory-clause-told g c j called used links bytes told tells =
-    did j bytes end.OutOfMemory links _ _ _ _ _ (ran_none j bytes end.OutOfMemory links _ _ _ _ refl told refl) (λ e. cc)
+    did j bytes end.OutOfMemory links _ _ _ _ _ (ran_none j bytes end.OutOfMemory links _ _ _ _ refl told refl) (λ e. cc) (λ few e. cc)
 
 pub returns-in-Ok-clause-told : goal.returns-in-Ok-clause-told
 returns-in-Ok-clause-told g c j called used links bytes told tells =
-    let same = same_job _ _ _ c.in-Ok.ensures.ok called in
+    let j' = job_of_call c.in-Ok.call in
+    let same = same_Some (job_of_call c.in-Ok.call) j (sym c.in-Ok.ensures.ok ∙ called) in
+    let read : TellsIfRead g.S.Source.left (job_reads j') bytes c.args.source.now c.run_call.new.source = λ reads. tells (ap job_reads (sym same) ∙ reads) in
     subst (λ (x : Job). JobDone x bytes c.run_call.result links (g.D.Dial.links c.run_call.new.dial) (g.K.Sink.held c.args.sink.now) (g.K.Sink.held c.run_call.new.sink) (g.D.Dial.back c.args.dial.now) (g.D.Dial.back c.run_call.new.dial))
     same
-    (did (job_of_call c.in-Ok.call) bytes c.run_call.result links _ _ _ _ _ (c.run_call.ensures.ran links bytes told (λ reads. tells (ap job_reads (sym same) ∙ reads))) (λ way. ranged_call c.in-Ok.call c.in-Ok.ensures.call))
+    (did j' bytes c.run_call.result links _ _ _ _ _ (c.run_call.ensures.ran links bytes told read) (λ way. ranged_call c.in-Ok.call c.in-Ok.ensures.call)
+    (not_too_long j' c.run_call.ensures.end c.run_call.ensures.causes.source read))
 
 pub returns-in-Ok-clause-causes : goal.returns-in-Ok-clause-causes
 returns-in-Ok-clause-causes g c =
     subst (λ (o : Option Job). EndsForCause g.S.Source.left g.S.Source.faults g.K.Sink.faults g.D.Dial.faults g.D.Dial.hurt (reads_of o) (form_of o) c.run_call.result c.args.source.now c.run_call.new.source c.args.sink.now c.run_call.new.sink c.args.dial.now c.run_call.new.dial) (sym c.in-Ok.ensures.ok) c.run_call.ensures.causes
 
 pub returns-in-Ok-clause-unread : goal.returns-in-Ok-clause-unread
-returns-in-Ok-clause-unread g c j called server order t is = c.run_call.ensures.unread server order t (same_job _ _ _ c.in-Ok.ensures.ok called ∙ is)
+returns-in-Ok-clause-unread g c j called server order t is = c.run_call.ensures.unread server order t (same_Some (job_of_call c.in-Ok.call) j (sym c.in-Ok.ensures.ok ∙ called) ∙ is)

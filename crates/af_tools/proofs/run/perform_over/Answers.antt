@@ -1,11 +1,10 @@
-use Rattle.std.proofs.Common.{◌≡◌, ap, ◌∙◌, subst, refl, inl, inr}
+use Rattle.std.proofs.Common.{◌≡◌, ap, ◌∙◌, refl, inl, inr, Ok, Err}
 use Rattle.af_toolkit.specs.declared.end.ToolEnd.TheVariants as end
-use Rattle.std.specs.Prelude.{Ok, Err}
-use Rattle.af_toolkit.specs.Trace.{ClientState, new_client, connects, fault_end}
-use Rattle.af_toolkit.specs.Ends.{ObservedTrace}
+use Rattle.af_toolkit.specs.Trace.{connects, fault_end}
 use Rattle.af_tools.specs.Run.{task_trace}
 use Rattle.af_toolkit.proofs.TracePartLemmas.{client_begun}
-use Rattle.af_toolkit.proofs.FollowedLemmas.{followed_early, followed_on, followed_stop}
+use Rattle.af_toolkit.proofs.FollowedLemmas.{followed_early}
+use Rattle.af_tools.proofs.PartStepLemmas.{trace_goes_on, trace_stops}
 use Rattle.af_tools.proofs.SetupTraceLemmas.{setup_goes}
 use Rattle.af_tools.proofs.UnreadLemmas.{link_gives}
 use Rattle.af_tools.proofs.run.perform_over.Goals as goal
@@ -16,9 +15,8 @@ returns-in-Ok-clause-followed g c input bytes told tells =
     let conn = c.in-Ok.conn in
     let g0 = setup_goes c.args.order g.L.Link.left g.L.Link.sent g.L.Link.faults c.args.far conn.link conn.ring input (g.K.Sink.held c.args.sink.now) (Ok conn.devices) e.3 told in
     let same : c.into_link.result ≡ c.perform-end.new.conn.link = c.into_link.ensures in
-    rw same (followed_on (connects c.args.order input) (λ devices w. task_trace c.args.task.now devices bytes w) conn.devices c.perform-end.result (g.L.Link.left conn.link) (new_client c.args.order conn.ring) _ _ _ _ _ _ g0
-    (λ i t. subst (λ (w : ClientState). ObservedTrace (task_trace c.args.task.now conn.devices bytes w) c.perform-end.result (g.L.Link.sent conn.link) (g.L.Link.sent c.perform-end.new.conn.link) (g.K.Sink.held c.args.sink.now) (g.K.Sink.held c.perform-end.new.sink)) (client_begun c.args.order conn i e.0 e.1)
-    (c.perform-end.ensures.followed i bytes t tells)))
+    rw same (trace_goes_on (λ devices w. task_trace c.args.task.now devices bytes w) g0 (λ i t.
+    rw (client_begun c.args.order conn i e.0 e.1) at (c.perform-end.ensures.followed i bytes t tells)))
 
 pub returns-in-Err-clause-followed : goal.returns-in-Err-clause-followed
 returns-in-Err-clause-followed g c input bytes told tells =
@@ -29,7 +27,7 @@ returns-in-Err-clause-followed g c input bytes told tells =
       | inr setup ↦
           let g0 = setup_goes c.args.order g.L.Link.left g.L.Link.sent g.L.Link.faults c.args.far c.in-Err.far setup.0 input (g.K.Sink.held c.args.sink.now) (Err c.in-Err.fault) setup.1 told in
           let way : c.from.result ≡ fault_end c.in-Err.fault = c.from.ensures in
-          rw way (followed_stop (connects c.args.order input) (λ devices w. task_trace c.args.task.now devices bytes w) _ _ _ _ _ _ _ g0)
+          rw way (trace_stops (λ devices w. task_trace c.args.task.now devices bytes w) g0)
     ]
 
 pub returns-in-Ok-clause-unread : goal.returns-in-Ok-clause-unread

@@ -1,5 +1,4 @@
-use Rattle.std.proofs.Common.{List, inl, inr, refl, ◌∙◌, subst}
-use Rattle.std.specs.declared.option.Option.{Option}
+use Rattle.std.proofs.Common.{List, inl, inr, refl, ◌∙◌, subst, Option}
 use Rattle.af_io.specs.Dial.{IsFirstOf, ToldLink}
 use Rattle.af_toolkit.specs.declared.end.ToolEnd.TheVariants as end
 use Rattle.af_cli.specs.Words.{one}

@@ -1,6 +1,4 @@
-use Rattle.std.proofs.Common.{rules, ◌≡◌}
-use Rattle.std.specs.Prelude.{Err}
-use Rattle.std.specs.declared.option.Option.TheVariants.{Some}
+use Rattle.std.proofs.Common.{rules, ◌≡◌, Err, Some}
 use Rattle.af_tools.proofs.SoundFitLemmas.{sound_fits, sound_unfit}
 use Rattle.af_tools.proofs.sound.sound_of.Goals as goal
 

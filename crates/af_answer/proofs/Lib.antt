@@ -4,4 +4,3 @@ pub mod CallLemmas
 pub mod KeptActLemmas
 pub mod MachineLemmas
 pub mod RunLemmas
-pub mod AnswerWordLemmas

@@ -1,5 +1,5 @@
 -- What an answering machine does, by the events that it gets and the ends of its children.
-use Rattle.std.specs.Prelude.{ℕ, ◌+◌, ◌==◌, if◌then◌else◌, Bool, true, false, List, [], ◌∷◌, ◌++◌, drop}
+use Rattle.std.specs.Prelude.{ℕ, ◌+◌, ◌==◌, if◌then◌else◌, Bool, true, false, List, [], ◌∷◌, drop, get_or}
 use Rattle.std.specs.List.{fold}
 use Rattle.af_wire.specs.declared.event.Event.{Event}
 use Rattle.af_wire.specs.declared.event.EventKind.{EventKind}
@@ -29,27 +29,16 @@ ring_count_after kind.Digit value rings = rings
 abbrev pub rings_after : AnswerJob → ℕ → Event → ℕ
 rings_after job rings e = if e.device == job.device then ring_count_after e.kind e.value rings else rings
 
--- the acts of a call, by the ends of the children to come: the message is recorded after a good greeting
-abbrev pub call_acts : List ChildEnd → List MachineAct
-call_acts (end.Good ∷ ends) = off_hook ∷ greet ∷ record_message ∷ on_hook ∷ []
-call_acts _ = off_hook ∷ greet ∷ on_hook ∷ []
+-- The acts after a greeting, by its end: after a good one the message is recorded, and then the hook is put on. What follows goes
+-- by how the call ended, which is as its last child did, and by the ends of the children to come. A child whose end is not stated
+-- ends badly.
+abbrev pub acts_after_greeting : ChildEnd → List ChildEnd → (ChildEnd → List ChildEnd → List MachineAct) → List MachineAct
+acts_after_greeting end.Good ends next = record_message ∷ on_hook ∷ next (get_or ends 0 end.Bad) (drop 1 ends)
+acts_after_greeting greeting ends next = on_hook ∷ next greeting ends
 
--- a child whose end is not stated ends badly
-abbrev pub first_end : List ChildEnd → ChildEnd
-first_end [] = end.Bad
-first_end (e ∷ ends) = e
-
--- a call ends as its last child does
-abbrev pub call_end : List ChildEnd → ChildEnd
-call_end [] = end.Bad
-call_end (end.Good ∷ ends) = first_end ends
-call_end (e ∷ ends) = e
-
--- the ends of the children of later calls
-abbrev pub later_ends : List ChildEnd → List ChildEnd
-later_ends [] = []
-later_ends (end.Good ∷ ends) = drop 1 ends
-later_ends (e ∷ ends) = ends
+-- the acts of a call, by the ends of the children to come
+abbrev pub acts_of_call : List ChildEnd → (ChildEnd → List ChildEnd → List MachineAct) → List MachineAct
+acts_of_call ends next = off_hook ∷ greet ∷ acts_after_greeting (get_or ends 0 end.Bad) (drop 1 ends) next
 
 -- no call was answered yet
 abbrev pub no_calls : Tally
@@ -71,9 +60,8 @@ unfoldable pub acts_from : AnswerJob → (rings : ℕ) → Tally → List Event 
 acts_from job rings t [] ends = []
 acts_from job rings t (e ∷ events) ends =
     if rings_after job rings e == job.rings
-    then call_acts ends
-    ++ acts_after (call_end ends) job.calls (tally_after (call_end ends) t)
-    (acts_from job 0 (tally_after (call_end ends) t) events (later_ends ends))
+    then acts_of_call ends (λ how later.
+    acts_after how job.calls (tally_after how t) (acts_from job 0 (tally_after how t) events later))
     else acts_from job (rings_after job rings e) t events ends
 
 -- all that the machine does, by the events that it gets and the ends of its children, each in order

@@ -1,7 +1,7 @@
 -- The arguments of an answering machine: they are one simple command of clap, and they ask what its matches, which clap defines,
 -- state.
-use Rattle.std.specs.Prelude.{ℕ, ◌-◌, ◌&&◌, Bool, false, nat_le, List, [], ◌∷◌, length, Option, Some}
-use Rattle.std.specs.Prelude.{None, codes, is_some, option_and_then, option_map, if◌then◌else◌}
+use Rattle.std.specs.Prelude.{ℕ, ◌-◌, ◌&&◌, Bool, false, nat_le, List, [], ◌∷◌, length, Option, Some, None, codes, is_some}
+use Rattle.std.specs.Prelude.{option_and_then, option_map, if◌then◌else◌}
 use Rattle.std.specs.Str.{bytes_eq}
 use Rattle.af_limits.specs.Limits.{most_devices}
 use Rattle.clap.specs.Words.{App, Row, Text, first_of, matches_of, new_app, takes}
@@ -46,11 +46,9 @@ answer_app = with_rules (new_app (codes "answer")) (
     rule_at (codes "message") NeededOption ∷ [])
 
 -- a text for a shell: 1 to 200 bytes
-abbrev pub shell_text : Text → Option Text
-shell_text text = if nat_le 1 (length text) && nat_le (length text) 200 then Some text else None
-
 abbrev pub shell_text_at : Text → List Row → Option Text
-shell_text_at id rows = option_and_then shell_text (first_of id rows)
+shell_text_at id rows =
+    option_and_then (λ text. if nat_le 1 (length text) && nat_le (length text) 200 then Some text else None) (first_of id rows)
 
 -- what the matches of the command ask, if each value is in its range
 abbrev pub words_in : List Row → Option AnswerWords

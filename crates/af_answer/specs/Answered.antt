@@ -1,10 +1,7 @@
 -- What an answering machine has done at its end.
-use Rattle.std.specs.Prelude.{◌≡◌, ◌≢◌, ◌<◌, ◌≤◌, ◌↔◌, ◌⊎◌, ⊤, ℕ, Bool, true, false, List, []}
-use Rattle.std.specs.Prelude.{◌∷◌, ◌++◌, map, drop, length, slice_get, Result, Ok, Err}
-use Rattle.std.specs.declared.option.Option.{Option}
-use Rattle.std.specs.declared.option.Option.TheVariants.{None, Some}
+use Rattle.std.specs.Prelude.{◌≡◌, ◌≢◌, ◌<◌, ◌≤◌, ◌↔◌, ◌⊎◌, ⊤, ℕ, Bool, true, false, List, [], ◌∷◌, ◌++◌, map, drop, length}
+use Rattle.std.specs.Prelude.{Result, Ok, Err, Option, None, Some}
 use Rattle.af_limits.specs.Limits.{most_devices}
-use Rattle.af_io.specs.Observed.{Appended}
 use Rattle.af_wire.specs.declared.order.Order.{Order}
 use Rattle.af_process.specs.Acts.{Told}
 use Rattle.af_lib.specs.declared.fault.ConnFault.{ConnFault}
@@ -18,9 +15,10 @@ use Rattle.af_answer.specs.declared.end.AnswerEnd.{AnswerEnd}
 use Rattle.af_answer.specs.declared.end.AnswerEnd.TheVariants as end
 use Rattle.af_answer.specs.declared.job.AnswerJob.{AnswerJob}
 use Rattle.af_answer.specs.Acts.{MachineAct, answer_acts, greet, leaves_off, off_hook, on_hook, record_message, write_tally}
-use Rattle.af_answer.specs.AnswerTrace.{AnswerTrace, Deeds, answer_trace, child_starved, first_run, met_fault}
-use Rattle.af_answer.specs.AnswerTrace.{off_hook_fault, on_hook_fault, rang_too_little, tally_text}
-use Rattle.af_answer.specs.AnswerParts.{MatchesAnswer, is_from_outside}
+use Rattle.af_answer.specs.AnswerTrace.{AnswerFinish, AnswerTrace, Deeds, Work, answer_trace, both_works, child_starved}
+use Rattle.af_answer.specs.AnswerTrace.{first_run, line_at, met_fault, no_work, off_hook_fault, on_hook_fault, rang_too_little}
+use Rattle.af_answer.specs.AnswerTrace.{running, sending, tally_text, writing}
+use Rattle.af_answer.specs.AnswerParts.{Added, MatchesAnswer, Seen, is_from_outside, seen_as}
 use Rattle.af_answer.specs.Children.{ChildRun, run_end, told_of_run, shell_words}
 
 -- the values of a job are in their ranges
@@ -31,145 +29,126 @@ pub record IsAnswerJob (job : AnswerJob) : Type 0 where
   pub greeting : (1 ≤ length job.greeting.bytes) × (length job.greeting.bytes ≤ 200)
   pub message : (1 ≤ length job.message.bytes) × (length job.message.bytes ≤ 200)
 
--- the request of an act
-abbrev pub bytes_of_act : Order → ℕ → MachineAct → List ℕ
-bytes_of_act order device off_hook = request_bytes order (hook_switch device 1)
-bytes_of_act order device on_hook = request_bytes order (hook_switch device 0)
-bytes_of_act order device act = []
+-- what an act does, by how its child runs: it sends a request, runs a child, or writes
+abbrev pub work_of_act : Order → AnswerJob → MachineAct → ChildRun → Work
+work_of_act order job off_hook run = sending (request_bytes order (hook_switch job.device 1))
+work_of_act order job on_hook run = sending (request_bytes order (hook_switch job.device 0))
+work_of_act order job greet run = running (told_of_run (shell_words job.greeting.bytes) run)
+work_of_act order job record_message run = running (told_of_run (shell_words job.message.bytes) run)
+work_of_act order job (write_tally t) run = writing (tally_text t)
 
--- the requests of acts, in order
-abbrev pub requests_of : Order → ℕ → List MachineAct → List ℕ
-requests_of order device [] = []
-requests_of order device (act ∷ acts) = bytes_of_act order device act ++ requests_of order device acts
+-- how the children run that come after an act
+abbrev pub later_runs : MachineAct → List ChildRun → List ChildRun
+later_runs greet runs = drop 1 runs
+later_runs record_message runs = drop 1 runs
+later_runs act runs = runs
 
--- all that the machine is to send after the setup: it asks for rings and hooks, and then come its acts
-abbrev pub sends_of_job : Order → AnswerJob → List MachineAct → List ℕ
-sends_of_job order job acts = request_bytes order (select_events job.device 3) ++ requests_of order job.device acts
+-- the work of acts, in order, by how their children run
+abbrev pub work_of : Order → AnswerJob → List MachineAct → List ChildRun → Work
+work_of order job [] runs = no_work
+work_of order job (act ∷ acts) runs =
+    both_works (work_of_act order job act (first_run runs)) (work_of order job acts (later_runs act runs))
 
--- the acts of the children that the machine runs, by how these run
-abbrev pub children_of : AnswerJob → List MachineAct → List ChildRun → List Told
-children_of job [] runs = []
-children_of job (greet ∷ acts) runs =
-    told_of_run (shell_words job.greeting.bytes) (first_run runs) ++ children_of job acts (drop 1 runs)
-children_of job (record_message ∷ acts) runs =
-    told_of_run (shell_words job.message.bytes) (first_run runs) ++ children_of job acts (drop 1 runs)
-children_of job (act ∷ acts) runs = children_of job acts runs
+-- all that the machine is to do after the setup: it asks for rings and hooks, and then come its acts
+abbrev pub work_of_job : Order → AnswerJob → List MachineAct → List ChildRun → Work
+work_of_job order job acts runs =
+    both_works (sending (request_bytes order (select_events job.device 3))) (work_of order job acts runs)
 
--- the text of an act, and of acts
-abbrev pub text_of_act : MachineAct → List ℕ
-text_of_act (write_tally t) = tally_text t
-text_of_act act = []
-
-abbrev pub text_of_acts : List MachineAct → List ℕ
-text_of_acts [] = []
-text_of_acts (act ∷ acts) = text_of_act act ++ text_of_acts acts
-
--- What was sent and written, and the acts of children, are prefixes of what these acts have, in order. All three are whole at
--- Done.
+-- What was done is the first of what these acts have, in order, and all of it at Done.
 pub record KeepsToActs (order : Order) (job : AnswerJob) (acts : List MachineAct) (runs : List ChildRun) (how : AnswerEnd)
-    (sends : List ℕ) (told : List Told) (output : List ℕ) : Type 0 where
-  pub unsent : List ℕ
-  pub untold : List Told
-  pub unwritten : List ℕ
-  pub sent : sends_of_job order job acts ≡ sends ++ unsent
-  pub children : children_of job acts runs ≡ told ++ untold
-  pub text : text_of_acts acts ≡ output ++ unwritten
-  pub whole : how ≡ end.Done → (unsent ≡ []) × (untold ≡ []) × (unwritten ≡ [])
+    (done : Work) : Type 0 where
+  pub undone : Work
+  pub all : work_of_job order job acts runs ≡ both_works done undone
+  pub whole : how ≡ end.Done → undone ≡ no_work
 
 -- all that these acts have was sent and done, and they leave the hook on
-pub record HangsUp (order : Order) (job : AnswerJob) (acts : List MachineAct) (runs : List ChildRun) (sends : List ℕ)
-    (told : List Told) : Type 0 where
-  pub sent : sends ≡ sends_of_job order job acts
-  pub children : told ≡ children_of job acts runs
+pub record HangsUp (order : Order) (job : AnswerJob) (acts : List MachineAct) (runs : List ChildRun) (done : Work) : Type 0 where
+  pub sent : done.sends ≡ (work_of_job order job acts runs).sends
+  pub children : done.told ≡ (work_of_job order job acts runs).told
   pub on : leaves_off acts ≡ false
 
 -- the device of a job exists, and has a line
 abbrev pub HasLine : AnswerJob → List DeviceInfo → Type 0
-HasLine job devices = (device : DeviceInfo) × (slice_get devices job.device ≡ Some device) × (device.line ≡ true)
+HasLine job devices = line_at job devices ≡ Some true
 
 -- each OnHook gets its reply
-abbrev pub PutsOn : AnswerTrace → Type 0
-PutsOn trace = (f : ConnFault) → trace.finish ≢ on_hook_fault f
+abbrev pub PutsOn : AnswerFinish → Type 0
+PutsOn finish = (f : ConnFault) → finish ≢ on_hook_fault f
 
 -- and so does each OffHook
-abbrev pub SwitchesHook : AnswerTrace → Type 0
-SwitchesHook trace = PutsOn trace × ((f : ConnFault) → trace.finish ≢ off_hook_fault f)
+abbrev pub SwitchesHook : AnswerFinish → Type 0
+SwitchesHook finish = PutsOn finish × ((f : ConnFault) → finish ≢ off_hook_fault f)
 
 -- each request gets its reply, and each wait an event
-abbrev pub IsReplied : AnswerTrace → Type 0
-IsReplied trace = SwitchesHook trace × ((f : ConnFault) → trace.finish ≢ met_fault f)
+abbrev pub IsReplied : AnswerFinish → Type 0
+IsReplied finish = SwitchesHook finish × ((f : ConnFault) → finish ≢ met_fault f)
 
 -- An OffHook was sent last, and the acts before it leave the hook on.
-pub record StopsAtOffHook (order : Order) (job : AnswerJob) (acts : List MachineAct) (sends : List ℕ) : Type 0 where
+pub record StopsAtOffHook (order : Order) (job : AnswerJob) (acts : List MachineAct) (runs : List ChildRun)
+    (sends : List ℕ) : Type 0 where
   pub before : List MachineAct
   pub later : List MachineAct
   pub are : acts ≡ before ++ off_hook ∷ later
-  pub sent : sends ≡ sends_of_job order job (before ++ off_hook ∷ [])
+  pub sent : sends ≡ (work_of_job order job (before ++ off_hook ∷ []) runs).sends
   pub on : leaves_off before ≡ false
 
 -- The hook at each end. It is put on again each time; or it is on unless an OnHook was answered with this fault, where an OffHook
 -- may have been refused last; or it is on unless an OffHook or an OnHook was; or the link failed, and it may be off. At all other
 -- ends it was never taken off: nothing was sent.
-abbrev pub LeavesHook : AnswerEnd → AnswerTrace → (hung_up refused_off : Type 0) → (sends : List ℕ) → Type 0
-LeavesHook end.Done trace hung_up refused_off sends = hung_up
-LeavesHook end.OutOfMemory trace hung_up refused_off sends = hung_up
-LeavesHook end.SinkFault trace hung_up refused_off sends = hung_up
-LeavesHook (end.Refused code value) trace hung_up refused_off sends = PutsOn trace → hung_up ⊎ refused_off
-LeavesHook end.LinkEnded trace hung_up refused_off sends = SwitchesHook trace → hung_up
-LeavesHook (end.BadReply header first) trace hung_up refused_off sends = SwitchesHook trace → hung_up
-LeavesHook end.EventFlood trace hung_up refused_off sends = SwitchesHook trace → hung_up
-LeavesHook end.LinkFault trace hung_up refused_off sends = ⊤
-LeavesHook how trace hung_up refused_off sends = sends ≡ []
+abbrev pub LeavesHook : AnswerEnd → AnswerFinish → (hung_up refused_off : Type 0) → (sends : List ℕ) → Type 0
+LeavesHook end.Done finish hung_up refused_off sends = hung_up
+LeavesHook end.OutOfMemory finish hung_up refused_off sends = hung_up
+LeavesHook end.SinkFault finish hung_up refused_off sends = hung_up
+LeavesHook (end.Refused code value) finish hung_up refused_off sends = PutsOn finish → hung_up ⊎ refused_off
+LeavesHook end.LinkEnded finish hung_up refused_off sends = SwitchesHook finish → hung_up
+LeavesHook (end.BadReply header first) finish hung_up refused_off sends = SwitchesHook finish → hung_up
+LeavesHook end.EventFlood finish hung_up refused_off sends = SwitchesHook finish → hung_up
+LeavesHook end.LinkFault finish hung_up refused_off sends = ⊤
+LeavesHook how finish hung_up refused_off sends = sends ≡ []
+
+-- what the events that a machine got and the ends of its children ask for
+abbrev pub acts_asked : AnswerJob → AnswerTrace → List ChildRun → List MachineAct
+acts_asked job trace runs = answer_acts job trace.deeds.heard (map run_end runs)
 
 -- A machine did what this trace has, in a byte order, with its children running in this way.
 pub record RanAs (order : Order) (job : AnswerJob) (devices : List DeviceInfo) (trace : AnswerTrace) (runs : List ChildRun)
-    (how : AnswerEnd) (sent sent' : Option (List ℕ)) (acts acts' : Option (List Told))
-    (held held' : Option (List ℕ)) : Type 0 where
-  -- what was done and written
+    (how : AnswerEnd) (before after : Seen) : Type 0 where
+  -- what was done
   pub done : Deeds
-  pub output : List ℕ
-  pub link : Appended sent done.sends sent'
-  pub children : Appended acts done.told acts'
-  pub sink : Appended held output held'
+  pub added : Added before done.work after
   -- it is what the trace has, and the machine ended as the trace does, unless something from outside ended it
-  pub followed : MatchesAnswer trace how done output
-  -- it is what the events that it got and the ends of the children ask for
-  pub answered : HasLine job devices →
-      KeepsToActs order job (answer_acts job trace.heard (map run_end runs)) runs how done.sends done.told output
+  pub followed : MatchesAnswer trace how done
+  -- it is what was asked for
+  pub answered : HasLine job devices → KeepsToActs order job (acts_asked job trace runs) runs how done.work
   -- the hook is left as this end has it
-  pub hung_up : LeavesHook how trace
-      (HangsUp order job (answer_acts job trace.heard (map run_end runs)) runs done.sends done.told)
-      (StopsAtOffHook order job (answer_acts job trace.heard (map run_end runs)) done.sends) done.sends
-  -- memory ran out exactly if it did so for a child, and after that the hook was put on
-  pub starved : how ≡ end.OutOfMemory → trace.finish ≡ child_starved
+  pub hung_up : LeavesHook how trace.finish
+      (HangsUp order job (acts_asked job trace runs) runs done.work)
+      (StopsAtOffHook order job (acts_asked job trace runs) runs done.work.sends) done.work.sends
+  -- if memory ran out for a child, the machine ends so, and after that the hook was put on
   pub starves : trace.finish ≡ child_starved → (how ≡ end.OutOfMemory) ⊎ (is_from_outside how ≡ true)
   -- If there is a line, each request gets its reply, and each call rings enough, then it is done, unless memory ran out for a
   -- child or something from outside ended it.
-  pub complete : HasLine job devices → IsReplied trace → trace.finish ≢ rang_too_little →
+  pub complete : HasLine job devices → IsReplied trace.finish → trace.finish ≢ rang_too_little →
       (how ≡ end.Done) ⊎ (trace.finish ≡ child_starved) ⊎ (is_from_outside how ≡ true)
 
 -- An answering machine ran, by what its link gives: its children ran in some way, and it did what its trace has for that.
 pub record AnswerRan (job : AnswerJob) (devices : List DeviceInfo) (w : ClientState) (how : AnswerEnd)
-    (sent sent' : Option (List ℕ)) (acts acts' : Option (List Told)) (held held' : Option (List ℕ)) : Type 0 where
+    (before after : Seen) : Type 0 where
   pub runs : List ChildRun
-  pub ran : RanAs w.order job devices (answer_trace job devices (record { wire = w; runs = runs })) runs how sent sent' acts acts'
-      held held'
+  pub ran : RanAs w.order job devices (answer_trace job devices (record { wire = w; runs = runs })) runs how before after
 
 -- the same over a connection whose link is observable
 abbrev pub RunsAnswer : {L S K : Type 0} → (left sent : L → Option (List ℕ)) → (acts : S → Option (List Told)) →
     (held : K → Option (List ℕ)) →
     AnswerJob → AnswerEnd → (conn conn' : ConnState L) → (spawner spawner' : S) → (sink sink' : K) → Type 0
 RunsAnswer left sent acts held job how conn conn' spawner spawner' sink sink' = (input : List ℕ) → left conn.link ≡ Some input →
-    AnswerRan job conn.devices (client_of conn input) how (sent conn.link) (sent conn'.link) (acts spawner) (acts spawner')
-    (held sink) (held sink')
+    AnswerRan job conn.devices (client_of conn input) how (seen_as (sent conn.link) (acts spawner) (held sink))
+    (seen_as (sent conn'.link) (acts spawner') (held sink'))
 
--- the device exists and has a line, or else the end that says which is missing
-abbrev pub line_if : AnswerJob → Bool → Result (Unit {0}) AnswerEnd
-line_if job true = Ok tt
-line_if job false = Err (end.NoLine job.device)
-
-abbrev pub line_or_end : AnswerJob → Option DeviceInfo → ℕ → Result (Unit {0}) AnswerEnd
-line_or_end job (Some device) devices = line_if job device.line
+-- that there is a line, or else the end that says what is missing
+abbrev pub line_or_end : AnswerJob → Option Bool → ℕ → Result (Unit {0}) AnswerEnd
+line_or_end job (Some true) devices = Ok tt
+line_or_end job (Some false) devices = Err (end.NoLine job.device)
 line_or_end job None devices = Err (end.NoDevice devices)
 
 -- a machine ends with NoDevice exactly if its device number is not below the number of devices, which the end carries
@@ -178,6 +157,4 @@ LacksItsDevice job devices how = (n : ℕ) → (how ≡ end.NoDevice n) ↔ ((n 
 
 -- it ends with NoLine exactly if its device exists and has no line, and the end carries the number of the device
 abbrev pub LacksItsLine : AnswerJob → List DeviceInfo → AnswerEnd → Type 0
-LacksItsLine job devices how =
-    (n : ℕ) → (how ≡ end.NoLine n)
-    ↔ ((n ≡ job.device) × (device : DeviceInfo) × (slice_get devices job.device ≡ Some device) × (device.line ≡ false))
+LacksItsLine job devices how = (n : ℕ) → (how ≡ end.NoLine n) ↔ ((n ≡ job.device) × (line_at job devices ≡ Some false))

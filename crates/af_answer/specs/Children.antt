@@ -1,11 +1,8 @@
 -- How the children of an answering machine run, and what is told of them.
-use Rattle.std.specs.Prelude.{◌≡◌, ℕ, ℤ, pos, zero, Bool, true, false, List, [], ◌∷◌, codes}
-use Rattle.std.specs.declared.option.Option.{Option}
-use Rattle.std.specs.declared.option.Option.TheVariants.{None, Some}
+use Rattle.std.specs.Prelude.{◌≡◌, ℕ, ℤ, pos, zero, Bool, true, false, List, [], ◌∷◌, codes, Option, None, Some}
 use Rattle.af_io.specs.Observed.{Appended}
 use Rattle.af_process.specs.declared.act.BeganGot.TheVariants as got
-use Rattle.af_process.specs.declared.spawner.Finished.{Finished}
-use Rattle.af_process.specs.Acts.{Told, began, finished, status_of}
+use Rattle.af_process.specs.Acts.{Told, began, finished}
 use Rattle.af_answer.specs.declared.child.ChildEnd.{ChildEnd}
 use Rattle.af_answer.specs.declared.child.ChildEnd.TheVariants as end
 use Rattle.af_answer.specs.declared.job.AnswerJob.{AnswerJob}
@@ -22,22 +19,15 @@ pub data ChildRun : Type 0 where
   child_ran : (child : ℕ) (status : Option ℤ) → ChildRun
 
 -- a child ended well with status 0
-abbrev pub end_with : ℤ → ChildEnd
-end_with (pos zero) = end.Good
-end_with status = end.Bad
-
 abbrev pub end_by_status : Option ℤ → ChildEnd
-end_by_status (Some status) = end_with status
-end_by_status None = end.Bad
+end_by_status (Some (pos zero)) = end.Good
+end_by_status _ = end.Bad
 
 -- how a child ended: badly also if it did not start or could not be waited for
 abbrev pub run_end : ChildRun → ChildEnd
 run_end start_failed = end.Bad
 run_end start_starved = end.NoMemory
 run_end (child_ran child status) = end_by_status status
-
-abbrev pub finished_end : Finished → ChildEnd
-finished_end how = end_by_status (status_of how)
 
 -- there was no memory to start it
 abbrev pub is_starved : ChildEnd → Bool

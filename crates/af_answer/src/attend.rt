@@ -1,10 +1,8 @@
 // Attends a line until all calls were answered.
 ghost use Rattle.std.specs.Prelude.{◌≡◌, ◌≤◌, true, IfErr};
 ghost use Rattle.std.specs.declared.option.Option.TheVariants.{None};
-ghost use Rattle.af_request.specs.Asked.{select_events};
 ghost use Rattle.af_toolkit.specs.Ends.{KeepsConnectionBy};
-ghost use Rattle.af_answer.specs.Acts.{no_calls};
-ghost use Rattle.af_answer.specs.AnswerTrace.{attends, requests};
+ghost use Rattle.af_answer.specs.AnswerTrace.{attends_all};
 ghost use Rattle.af_answer.specs.AnswerParts.{GoesBy};
 ghost use Rattle.af_answer.specs.Outcomes.{is_of_calls};
 
@@ -21,8 +19,8 @@ use std::alloc::Global;
 // Rings and hooks of a line, in a mask of events.
 const RINGS_AND_HOOKS: u32 = 3;
 
-// Takes all calls. If memory runs out for a child, the machine ends after that call.
-fn take_calls<L: Link + Drop, S: Spawner>(
+/// Asks for the rings and hooks of a line, and takes all calls. If memory runs out for a child, the machine ends after that call.
+pub fn attend<L: Link + Drop, S: Spawner>(
     alloc: Global,
     job: &AnswerJob,
     conn: &mut Conn<L>,
@@ -30,12 +28,12 @@ fn take_calls<L: Link + Drop, S: Spawner>(
 ) -> Result<Tally, AnswerEnd>
     requires usable { conn.old.cause ≡ None }
     requires rings { (1 ≤ job.now.rings) × (job.now.rings ≤ 20) }
-    ensures goes { GoesBy L.left L.sent conn.old conn.new (S.acts spawner.old) (S.acts spawner.new)
-        (λ a. attends job.now.calls job.now no_calls a) result }
+    ensures goes { GoesBy L.left L.sent conn.old conn.new (S.acts spawner.old) (S.acts spawner.new) (attends_all job.now) result }
     ensures holds { KeepsConnectionBy AnswerEnd.LinkFault L.left L.faults conn.old conn.new result }
     ensures end { IfErr result (λ how. is_of_calls how ≡ true) }
     ensures count { S.faults spawner.old ≤ S.faults spawner.new }
 {
+    conn.select_events(job.device, RINGS_AND_HOOKS)?;
     let mut tally = Tally::new();
     let mut left = job.calls;
     while left > 0 {
@@ -48,23 +46,4 @@ fn take_calls<L: Link + Drop, S: Spawner>(
         left -= 1;
     }
     Ok(tally)
-}
-
-/// Asks for the rings and hooks of a line, and takes all calls.
-pub fn attend<L: Link + Drop, S: Spawner>(
-    alloc: Global,
-    job: &AnswerJob,
-    conn: &mut Conn<L>,
-    spawner: &mut S,
-) -> Result<Tally, AnswerEnd>
-    requires usable { conn.old.cause ≡ None }
-    requires rings { (1 ≤ job.now.rings) × (job.now.rings ≤ 20) }
-    ensures goes { GoesBy L.left L.sent conn.old conn.new (S.acts spawner.old) (S.acts spawner.new)
-        (λ a next. requests (select_events job.now.device 3) a (λ a. attends job.now.calls job.now no_calls a next)) result }
-    ensures holds { KeepsConnectionBy AnswerEnd.LinkFault L.left L.faults conn.old conn.new result }
-    ensures end { IfErr result (λ how. is_of_calls how ≡ true) }
-    ensures count { S.faults spawner.old ≤ S.faults spawner.new }
-{
-    conn.select_events(job.device, RINGS_AND_HOOKS)?;
-    take_calls(alloc, job, conn, spawner)
 }

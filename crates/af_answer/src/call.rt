@@ -5,7 +5,7 @@ ghost use Rattle.af_toolkit.specs.Ends.{KeepsConnectionBy};
 ghost use Rattle.af_answer.specs.AnswerTrace.{takes_call};
 ghost use Rattle.af_answer.specs.AnswerParts.{GoesBy};
 ghost use Rattle.af_answer.specs.Children.{LeavesMessage};
-ghost use Rattle.af_answer.specs.Outcomes.{is_of_machine};
+ghost use Rattle.af_answer.specs.Outcomes.{is_of_calls};
 
 use crate::child::{ChildEnd, run_child};
 use crate::end::AnswerEnd;
@@ -39,10 +39,9 @@ pub fn take_call<L: Link + Drop, S: Spawner>(
     spawner: &mut S,
 ) -> Result<ChildEnd, AnswerEnd>
     requires { conn.old.cause ≡ None }
-    ensures goes { GoesBy L.left L.sent conn.old conn.new (S.acts spawner.old) (S.acts spawner.new)
-        (λ a. takes_call job.now a) result }
+    ensures goes { GoesBy L.left L.sent conn.old conn.new (S.acts spawner.old) (S.acts spawner.new) (takes_call job.now) result }
     ensures holds { KeepsConnectionBy AnswerEnd.LinkFault L.left L.faults conn.old conn.new result }
-    ensures end { IfErr result (λ how. is_of_machine how ≡ true) }
+    ensures end { IfErr result (λ how. is_of_calls how ≡ true) }
     ensures count { S.faults spawner.old ≤ S.faults spawner.new }
 {
     conn.hook(job.device, true)?;

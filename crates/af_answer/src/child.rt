@@ -1,8 +1,8 @@
 // The children of an answering machine, each a shell that runs one text.
 ghost use Rattle.std.specs.Prelude.{◌≡◌, ◌≤◌, length};
 ghost use Rattle.arrayvec.specs.ArrayVec.{array_vec_len};
-ghost use Rattle.af_process.specs.Acts.{words_of};
-ghost use Rattle.af_answer.specs.Children.{finished_end, is_starved, shell_words, RunsChild};
+ghost use Rattle.af_process.specs.Acts.{status_of, words_of};
+ghost use Rattle.af_answer.specs.Children.{end_by_status, is_starved, shell_words, RunsChild};
 
 use af_process::{Finished, Spawner, Started, Words};
 use arrayvec::ArrayString;
@@ -50,7 +50,7 @@ fn shell_words(text: &ArrayString<200>) -> Words
 }
 
 fn finished_end(finished: Finished) -> ChildEnd
-    ensures { result ≡ finished_end finished }
+    ensures { result ≡ end_by_status (status_of finished) }
 {
     match finished {
         Finished::Ended(0) => ChildEnd::Good,

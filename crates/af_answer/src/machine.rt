@@ -1,7 +1,8 @@
 // The answering machine, over a connection.
-ghost use Rattle.std.specs.Prelude.{◌≡◌, ◌≤◌, length, slice_get, true};
+ghost use Rattle.std.specs.Prelude.{◌≡◌, ◌≤◌, length, true};
 ghost use Rattle.std.specs.declared.option.Option.TheVariants.{None};
 ghost use Rattle.af_io.specs.Observed.{CountsFault};
+ghost use Rattle.af_answer.specs.AnswerTrace.{line_at};
 ghost use Rattle.af_answer.specs.Answered.{line_or_end, IsAnswerJob, LacksItsDevice, LacksItsLine, RunsAnswer};
 ghost use Rattle.af_answer.specs.Outcomes.{is_of_answer};
 
@@ -16,7 +17,7 @@ use std::alloc::Global;
 
 // Whether the job's device exists and has a line, or else the end of the machine.
 fn find_line<L: Link + Drop>(job: &AnswerJob, conn: &Conn<L>) -> Result<(), AnswerEnd>
-    ensures { result ≡ line_or_end job.now (slice_get conn.now.devices job.now.device) (length conn.now.devices) }
+    ensures { result ≡ line_or_end job.now (line_at job.now conn.now.devices) (length conn.now.devices) }
 {
     let devices = conn.devices();
     match devices.get(usize::from(job.device)) {

@@ -1,11 +1,11 @@
 // Waiting for a call.
-ghost use Rattle.std.specs.Prelude.{◌≡◌, ◌<◌, ◌≤◌, ◌+◌, ◌^◌, true, IfErr};
-ghost use Rattle.std.specs.declared.option.Option.TheVariants.{None};
+ghost use Rattle.std.specs.Prelude.{◌≡◌, ◌<◌, ◌≤◌, ◌+◌, ◌^◌, true, List, Option, None, IfErr};
+ghost use Rattle.af_process.specs.Acts.{Told};
 ghost use Rattle.af_toolkit.specs.Ends.{KeepsConnectionBy};
 ghost use Rattle.af_answer.specs.Acts.{rings_after};
 ghost use Rattle.af_answer.specs.AnswerTrace.{awaits_call, most_for_a_call};
-ghost use Rattle.af_answer.specs.AnswerParts.{GoesAlone};
-ghost use Rattle.af_answer.specs.Outcomes.{is_of_machine};
+ghost use Rattle.af_answer.specs.AnswerParts.{GoesBy};
+ghost use Rattle.af_answer.specs.Outcomes.{is_of_calls};
 
 use crate::end::AnswerEnd;
 use crate::job::AnswerJob;
@@ -36,10 +36,10 @@ fn rings_after(job: &AnswerJob, rings: u32, event: Event) -> u32
 pub fn await_call<L: Link + Drop>(job: &AnswerJob, conn: &mut Conn<L>) -> Result<(), AnswerEnd>
     requires usable { conn.old.cause ≡ None }
     requires rings { (1 ≤ job.now.rings) × (job.now.rings ≤ 20) }
-    ensures goes { GoesAlone L.left L.sent conn.old conn.new
-        (λ a next. awaits_call most_for_a_call job.now 0 a (next tt)) result }
+    ensures goes { (acts : Option (List Told)) →
+        GoesBy L.left L.sent conn.old conn.new acts acts (awaits_call most_for_a_call job.now 0) result }
     ensures holds { KeepsConnectionBy AnswerEnd.LinkFault L.left L.faults conn.old conn.new result }
-    ensures end { IfErr result (λ how. is_of_machine how ≡ true) }
+    ensures end { IfErr result (λ how. is_of_calls how ≡ true) }
 {
     let mut rings = 0;
     let mut allowed = MOST_FOR_A_CALL;

@@ -5,8 +5,9 @@ ghost use Rattle.af_io.specs.Observed.{Appended, CountsFault, FaultCounted};
 ghost use Rattle.af_cli.specs.Ranges.{IsAddress};
 ghost use Rattle.af_answer.specs.Answered.{IsAnswerJob};
 ghost use Rattle.af_answer.specs.AnswerWords.{answer_words, is_answer_spelled, AnswerWords};
-ghost use Rattle.af_answer.specs.AnswerRun.{is_of_dial, is_of_run, AskedForServer, RanOver, RunsAsked, RunsJobOn};
-ghost use Rattle.af_answer.specs.Outcomes.{is_of_answer};
+ghost use Rattle.af_answer.specs.AnswerRun.{AskedForServer, CameOf, NotDialled, RanFirst, RanOver, RunsAsked};
+ghost use Rattle.af_answer.specs.AnswerParts.{seen_as};
+ghost use Rattle.af_answer.specs.Outcomes.{is_of_answer, is_of_dial, is_of_run};
 
 use crate::end::AnswerEnd;
 use crate::job::AnswerJob;
@@ -28,8 +29,9 @@ fn answer_over<L: Link + Drop, S: Spawner, K: Sink>(
     sink: &mut K,
 ) -> (AnswerEnd, L)
     requires { IsAnswerJob job.now }
-    ensures ran { (input : List ℕ) → L.left far ≡ Some input → RanOver job.now input result.0 (L.sent far) (L.sent result.1)
-        (S.acts spawner.old) (S.acts spawner.new) (K.held sink.old) (K.held sink.new) }
+    ensures ran { (input : List ℕ) → L.left far ≡ Some input → RanOver job.now input result.0
+        (seen_as (L.sent far) (S.acts spawner.old) (K.held sink.old))
+        (seen_as (L.sent result.1) (S.acts spawner.new) (K.held sink.new)) }
     ensures end { is_of_answer result.0 ≡ true }
     ensures link { result.0 ≡ AnswerEnd.LinkFault → FaultCounted (L.faults far) (L.faults result.1) }
     ensures sink { CountsFault (result.0 ≡ AnswerEnd.SinkFault) (K.faults sink.old) (K.faults sink.new) }
@@ -54,8 +56,9 @@ fn answer_on<K: Sink, D: Dial, S: Spawner>(
 ) -> AnswerEnd
     requires range { IsAnswerJob call.now.job }
     requires server { IsAddress call.now.server.now }
-    ensures ran { RunsJobOn D.links D.back S.acts K.held call.now.job result dial.old dial.new spawner.old spawner.new
-        sink.old sink.new }
+    ensures ran { CameOf D.links D.back S.acts K.held
+        (λ before after. NotDialled result before after ⊎ RanFirst call.now.job result before after)
+        dial.old dial.new spawner.old spawner.new sink.old sink.new }
     ensures asked { Appended (D.asked dial.old) (call.now.server.now ∷ []) (D.asked dial.new) }
     ensures end { is_of_dial result ≡ true }
     ensures dialled { CountsFault (result ≡ AnswerEnd.DialFault) (D.faults dial.old) (D.faults dial.new) }

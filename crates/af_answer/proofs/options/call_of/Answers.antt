@@ -1,36 +1,37 @@
-use Rattle.std.proofs.Common.{rules, ◌≡◌, ◌∙◌, true, false, List, ap, sym}
+use Rattle.std.proofs.Common.{rules, ◌≡◌, ◌∙◌, Bool, true, false, List, ap, if◌then◌else◌, is_some, sym, Option, None}
+use Rattle.std.proofs.lemmas.Bool.{and_left, and_right}
 use Rattle.clap.specs.Words.{Row, Text, kind_of, matches_of, takes}
 use Rattle.clap.specs.declared.error.kind.ErrorKind.TheVariants as kinds
 use Rattle.af_cli.proofs.ToolNameLemmas.{not_taken}
-use Rattle.af_answer.specs.AnswerWords.{answer_app, words_in, names_answer}
-use Rattle.af_answer.proofs.AnswerWordLemmas.{asked_words, unnamed, unspelled, untaken_words}
+use Rattle.af_answer.specs.AnswerWords.{AnswerWords, answer_app, answer_words, words_in, is_answer_spelled, names_answer}
 use Rattle.af_answer.proofs.options.call_of.Goals as goal
 
+-- what arguments ask that name the machine, by the rows of their matches
+asked_words : (words : List Text) (rows : List Row) → names_answer words ≡ true → rows ≡ matches_of answer_app words → answer_words words ≡ words_in rows
+unfolding answer_words
+asked_words words rows named same = ap (λ (b : Bool). if b then words_in (matches_of answer_app words) else None) named ∙ ap words_in (sym same)
+
 pub returns-then-not-names_answer-clause-usage : goal.returns-then-not-names_answer-clause-usage
+unfolding is_answer_spelled
 returns-then-not-names_answer-clause-usage c e =
     let named : names_answer c.args.words.now ≡ false = search rules in
-    unnamed c.args.words.now named
+    and_left _ _ (and_left _ _ named)
 
 pub returns-in-Err-2-clause-usage : goal.returns-in-Err-2-clause-usage
+unfolding is_answer_spelled
 returns-in-Err-2-clause-usage c e =
     let words = c.args.words.now in
     let other : kind_of c.in-Err.e ≡ kinds.OutOfMemory → ⊥ = search rules in
-    untaken_words words (not_taken (takes answer_app words) (kind_of c.in-Err.e) kinds.OutOfMemory (λ t. c.in-Err.ensures.err (ap (λ (w : List Text). takes answer_app w) c.as_slice.ensures ∙ t)) other)
+    let untaken = not_taken (takes answer_app words) (kind_of c.in-Err.e) kinds.OutOfMemory (λ t. c.in-Err.ensures.err (ap (λ (w : List Text). takes answer_app w) c.as_slice.ensures ∙ t)) other in
+    and_left _ _ (and_right (names_answer words) _ untaken)
 
 pub returns-in-Some-clause-ok : goal.returns-in-Some-clause-ok
 returns-in-Some-clause-ok c =
-    let words = c.args.words.now in
-    let named : names_answer words ≡ true = search rules in
-    asked_words words named
-    ∙ ap (λ (w : List Text). words_in (matches_of answer_app w)) (sym c.as_slice.ensures)
-    ∙ ap (λ (rows : List Row). words_in rows) (sym c.in-Ok.ensures.ok)
-    ∙ sym c.in-Some.ensures.value
+    let named : names_answer c.args.words.now ≡ true = search rules in
+    asked_words c.args.words.now _ named (c.in-Ok.ensures.ok ∙ ap (λ (w : List Text). matches_of answer_app w) c.as_slice.ensures) ∙ sym c.in-Some.ensures.value
 
 pub returns-clause-usage : goal.returns-clause-usage
+unfolding is_answer_spelled
 returns-clause-usage c e =
-    let words = c.args.words.now in
-    let named : names_answer words ≡ true = search rules in
-    unspelled words (asked_words words named
-    ∙ ap (λ (w : List Text). words_in (matches_of answer_app w)) (sym c.as_slice.ensures)
-    ∙ ap (λ (rows : List Row). words_in rows) (sym c.in-Ok.ensures.ok)
-    ∙ sym c.in-None.ensures.value)
+    let named : names_answer c.args.words.now ≡ true = search rules in
+    and_right _ _ (ap (λ (o : Option AnswerWords). is_some o) (asked_words c.args.words.now _ named (c.in-Ok.ensures.ok ∙ ap (λ (w : List Text). matches_of answer_app w) c.as_slice.ensures) ∙ sym c.in-None.ensures.value))

@@ -1,0 +1,22 @@
+use Rattle.std.proofs.Common.{◌≡◌, ◌≤◌, ◌+◌, ℕ, List, IsSome, Option, None, Some}
+use Rattle.af_answer.specs.declared.tally.Tally.{Tally}
+use Rattle.af_answer.specs.AnswerTrace.{AnswerTrace, ToCome, attends, attends_all}
+use Rattle.af_answer.specs.AnswerParts.{Came, stand_on}
+use Rattle.af_answer.proofs.attend.attend.Given as goal
+
+abbrev pub invariant-loop-left : goal.invariant-loop-left
+invariant-loop-left g l = record {
+  usable : l.conn.cause ≡ None;
+  devices : l.conn.devices ≡ l.fn.conn.devices;
+  tells : IsSome (g.L.Link.left l.fn.conn.link) → IsSome (g.L.Link.left l.conn.link);
+  count : g.L.Link.faults l.fn.conn.link ≤ g.L.Link.faults l.conn.link;
+  children : g.S.Spawner.faults l.fn.spawner ≤ g.S.Spawner.faults l.spawner;
+  few : l.tally.answered + l.left ≤ l.job.calls;
+  counted : l.tally.recorded + l.tally.failed ≤ l.tally.answered;
+  going : (next : Tally → ToCome → AnswerTrace) (input : List ℕ) (held : Option (List ℕ)) → g.L.Link.left l.fn.conn.link ≡ Some input →
+      Came (λ a. attends_all l.job a next) (λ a. attends l.left l.job l.tally a next) input
+      (stand_on g.L.Link.left g.L.Link.sent l.fn.conn (g.S.Spawner.acts l.fn.spawner) held) (stand_on g.L.Link.left g.L.Link.sent l.conn (g.S.Spawner.acts l.spawner) held);
+}
+
+abbrev pub decreases-loop-left : goal.decreases-loop-left
+decreases-loop-left g l = l.left

@@ -1,6 +1,5 @@
 -- A ring that holds no event.
-use Rattle.std.proofs.Common.{◌≡◌, List, [], ◌∷◌, drop, slice_get, refl, ap}
-use Rattle.std.specs.declared.option.Option.TheVariants.{None}
+use Rattle.std.proofs.Common.{◌≡◌, List, [], ◌∷◌, drop, slice_get, refl, ap, None}
 use Rattle.af_wire.specs.declared.event.Event.{Event}
 use Rattle.af_lib.specs.Ring.{RingState}
 

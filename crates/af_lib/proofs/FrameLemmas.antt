@@ -1,7 +1,6 @@
 -- Reading one message: a header, and what comes after it.
-use Rattle.std.proofs.Common.{◌≡◌, ℕ, ◌-◌, ◌<◌, ◌≤◌, List, [], ◌++◌, length, take, sym, ap, ◌∙◌, subst, arith, append_assoc, length-append}
+use Rattle.std.proofs.Common.{◌≡◌, ℕ, ◌-◌, ◌<◌, ◌≤◌, List, [], ◌++◌, length, take, sym, ap, ◌∙◌, subst, arith, append_assoc, length-append, Option}
 use Rattle.std.proofs.lemmas.List.{take_at}
-use Rattle.std.specs.declared.option.Option.{Option}
 use Rattle.af_io.specs.Observed.{Consumed}
 use Rattle.af_wire.specs.declared.order.Order.{Order}
 use Rattle.af_wire.specs.declared.message_front.MessageFront.{MessageFront}
@@ -38,7 +37,7 @@ module _ (order : Order) where
       let len : length (take 8 (head ++ rest)) ≡ 8 = ap length (take_at head rest 8 eight) ∙ eight in
       let same : length head ≡ n = omega arith in
       BothTold-map before after _ _ (BothTold-Consumed before after head consumed)
-      (λ b a e. (let P : List ℕ → Type 0 = λ b. IsWhole order b n in subst P (sym e) (head-longer order head a k d s n eight front), e ∙ ap (λ (t : List ℕ). t ++ a) (sym (take_at head rest n same))))
+      (λ b a e. (let P : List ℕ → Type 0 = λ b. IsWhole order b n in subst P (sym e) (head-longer order head a eight k d s n front), e ∙ ap (λ (t : List ℕ). t ++ a) (sym (take_at head rest n same))))
 
   -- a header and the body after it
   pub head_and_body : (before now after : Option (List ℕ)) (head rest body past : List ℕ) (n : ℕ) → length head ≡ 8 → 8 ≤ n → length body ≡ n - 8 →
@@ -53,7 +52,7 @@ module _ (order : Order) where
       (λ b a e.
       let there : n ≤ length (head ++ (body ++ a)) = omega (arith, length-append head body, length-append head (body ++ a), length-append body a) in
       let joined = e ∙ append_assoc head body a in
-      (let P : List ℕ → Type 0 = λ b. IsWhole order b n in subst P (sym joined) (whole-longer order head (body ++ a) n eight front there), e ∙ ap (λ (t : List ℕ). t ++ a) (sym whole)))
+      (let P : List ℕ → Type 0 = λ b. IsWhole order b n in subst P (sym joined) (whole-longer order head (body ++ a) eight n front there), e ∙ ap (λ (t : List ℕ). t ++ a) (sym whole)))
 
   -- the link ended within a body
   pub head_and_cut : (before now after : Option (List ℕ)) (head rest : List ℕ) (n room : ℕ) → length head ≡ 8 → 8 ≤ n → room ≡ n - 8 → Consumed before head now →
@@ -61,4 +60,4 @@ module _ (order : Order) where
   head_and_cut before now after head rest n room eight least size first cut is =
       let front = front_of head rest (NeedMore n) eight is in
       BothTold-later before now after head _ _ first cut
-      (λ b a t. (let fewer : length b < room = t.0 in cut-longer order head b n eight front (omega (arith, length-append head b)), t.1))
+      (λ b a t. (let fewer : length b < room = t.0 in cut-longer order head b eight n front (omega (arith, length-append head b)), t.1))

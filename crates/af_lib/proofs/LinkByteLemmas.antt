@@ -1,9 +1,7 @@
 -- The bytes that a link gives, over several reads.
-use Rattle.std.proofs.Common.{◌≡◌, refl, IsSome, ℕ, ◌+◌, ◌≤◌, List, ◌++◌, length, take, sym, ap, ap₂, ◌∙◌, subst}
+use Rattle.std.proofs.Common.{◌≡◌, refl, IsSome, ℕ, ◌+◌, ◌≤◌, List, ◌++◌, length, take, sym, ap, ap₂, ◌∙◌, subst, Option, None, Some}
 use Rattle.std.proofs.Math.Seq.{take-add}
 use Rattle.std.proofs.lemmas.List.{take_at, drop_at, length-take-le, take-append-le}
-use Rattle.std.specs.declared.option.Option.{Option}
-use Rattle.std.specs.declared.option.Option.TheVariants.{None, Some}
 use Rattle.af_io.specs.Observed.{Consumed}
 use Rattle.af_io.proofs.ConsumedLemmas.{consumed_on}
 use Rattle.af_lib.specs.Observed.{BothTold}

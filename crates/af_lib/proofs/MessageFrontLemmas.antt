@@ -1,66 +1,73 @@
 -- Fronts of messages: what more bytes change, and what they do not.
-use Rattle.std.proofs.Common.{◌≡◌, ℕ, ◌+◌, ◌*◌, ◌<◌, ◌≤◌, Bool, true, false, List, [], ◌∷◌, ◌++◌, length, refl, arith, nat_lt}
+use Rattle.std.proofs.Common.{◌≡◌, ℕ, ◌+◌, ◌*◌, ◌<◌, ◌≤◌, Bool, true, false, List, [], ◌∷◌, ◌++◌, length, refl, arith, nat_lt, sym, ◌∙◌, if◌then◌else◌}
 use Rattle.std.proofs.lemmas.Bool.Decides.{nat_tests}
-use Rattle.std.specs.Prelude.{if◌then◌else◌}
 use Rattle.af_wire.specs.declared.order.Order.{Order}
+use Rattle.af_wire.specs.declared.message_front.MessageFront.{MessageFront}
 use Rattle.af_wire.specs.declared.message_front.MessageFront.TheVariants.{NeedMore, Message, BadMessage}
 use Rattle.af_wire.specs.MessageFront.{is_head, message_front}
 use Rattle.af_wire.specs.Order.{u16_of, u32_of}
 use Rattle.af_lib.specs.Receive.{IsWhole, IsCut}
 
--- the front of a good or a bad header, once more bytes are there
-more_by : (t : Bool) (k d s m there there' n : ℕ) → (if t then (if nat_lt there m then NeedMore m else Message k d s m) else BadMessage) ≡ NeedMore n → n ≤ there' →
-    (if t then (if nat_lt there' m then NeedMore m else Message k d s m) else BadMessage) ≡ Message k d s n
-more_by true k d s m there there' n e more = grind (arith, nat_tests)
-more_by false k d s m there there' n e more = absurd cc
+-- the front that a header has, by whether it is good and how many bytes are there
+abbrev front_by : (good : Bool) (k d s n there : ℕ) → MessageFront
+front_by good k d s n there = if good then (if nat_lt there n then NeedMore n else Message k d s n) else BadMessage
 
-cut_by : (t : Bool) (k d s m there there' n : ℕ) → (if t then (if nat_lt there m then NeedMore m else Message k d s m) else BadMessage) ≡ NeedMore n → there' < n →
-    (if t then (if nat_lt there' m then NeedMore m else Message k d s m) else BadMessage) ≡ NeedMore n
-cut_by true k d s m there there' n e more = grind (arith, nat_tests)
-cut_by false k d s m there there' n e more = absurd cc
+-- the front of 8 bytes, and of these and others
+record Headed (order : Order) (head rest : List ℕ) : Type 0 where
+  good : Bool
+  kind : ℕ
+  detail : ℕ
+  sequence : ℕ
+  size : ℕ
+  alone : message_front order head ≡ front_by good kind detail sequence size 8
+  longer : message_front order (head ++ rest) ≡ front_by good kind detail sequence size (length (head ++ rest))
+  more : 8 ≤ length (head ++ rest)
 
-bad_by : (t : Bool) (k d s m there there' : ℕ) → (if t then (if nat_lt there m then NeedMore m else Message k d s m) else BadMessage) ≡ BadMessage →
-    (if t then (if nat_lt there' m then NeedMore m else Message k d s m) else BadMessage) ≡ BadMessage
-bad_by true k d s m there there' e = grind (arith, nat_tests)
-bad_by false k d s m there there' e = refl
+headed : (order : Order) (head rest : List ℕ) → length head ≡ 8 → Headed order head rest
+headed order (a ∷ b ∷ c ∷ d ∷ e ∷ f ∷ g ∷ h ∷ []) rest eight =
+    let words = u32_of order (e ∷ f ∷ g ∷ h ∷ []) in
+    record { good = is_head a b words; kind = a; detail = b; sequence = u16_of order (c ∷ d ∷ []); size = 8 + 4 * words; alone = refl; longer = refl; more = omega arith }
+headed order _ rest eight = absurd (omega (arith, eight))
 
-whole_by : (t : Bool) (k d s m there there' k' d' s' n : ℕ) → (if t then (if nat_lt there m then NeedMore m else Message k d s m) else BadMessage) ≡ Message k' d' s' n → there ≤ there' →
-    (if t then (if nat_lt there' m then NeedMore m else Message k d s m) else BadMessage) ≡ Message k d s n
-whole_by true k d s m there there' k' d' s' n e more = grind (arith, nat_tests)
-whole_by false k d s m there there' k' d' s' n e more = absurd cc
+-- the front of a header, once more bytes are there
+more_by : (good : Bool) (k d s m there n : ℕ) → front_by good k d s m 8 ≡ NeedMore n → n ≤ there → front_by good k d s m there ≡ Message k d s n
+more_by true k d s m there n e more = grind (arith, nat_tests)
+more_by false k d s m there n e more = absurd cc
 
-module _ (order : Order) where
+cut_by : (good : Bool) (k d s m there n : ℕ) → front_by good k d s m 8 ≡ NeedMore n → there < n → front_by good k d s m there ≡ NeedMore n
+cut_by true k d s m there n e more = grind (arith, nat_tests)
+cut_by false k d s m there n e more = absurd cc
+
+bad_by : (good : Bool) (k d s m there : ℕ) → front_by good k d s m 8 ≡ BadMessage → front_by good k d s m there ≡ BadMessage
+bad_by true k d s m there e = grind (arith, nat_tests)
+bad_by false k d s m there e = refl
+
+whole_by : (good : Bool) (k d s m there k' d' s' n : ℕ) → front_by good k d s m 8 ≡ Message k' d' s' n → 8 ≤ there → front_by good k d s m there ≡ Message k d s n
+whole_by true k d s m there k' d' s' n e more = grind (arith, nat_tests)
+whole_by false k d s m there k' d' s' n e more = absurd cc
+
+module _ (order : Order) (head rest : List ℕ) (eight : length head ≡ 8) where
   -- a message that is wholly there, however much comes after it
-  pub whole-longer : (head rest : List ℕ) (n : ℕ) → length head ≡ 8 → message_front order head ≡ NeedMore n → n ≤ length (head ++ rest) → IsWhole order (head ++ rest) n
-  whole-longer (a ∷ b ∷ c ∷ d ∷ e ∷ f ∷ g ∷ h ∷ []) rest n eight front fits =
-      let words = u32_of order (e ∷ f ∷ g ∷ h ∷ []) in
-      let sequence = u16_of order (c ∷ d ∷ []) in
-      record { kind = a; detail = b; sequence = sequence; front = more_by (is_head a b words) a b sequence (8 + 4 * words) _ _ n front fits }
-  whole-longer _ rest n eight front fits = absurd (omega (arith, eight))
+  pub whole-longer : (n : ℕ) → message_front order head ≡ NeedMore n → n ≤ length (head ++ rest) → IsWhole order (head ++ rest) n
+  whole-longer n front fits =
+      let h = headed order head rest eight in
+      record { kind = h.kind; detail = h.detail; sequence = h.sequence; front = h.longer ∙ more_by h.good _ _ _ h.size _ n (sym h.alone ∙ front) fits }
 
   -- a message that is cut off, whatever part of it is there
-  pub cut-longer : (head rest : List ℕ) (n : ℕ) → length head ≡ 8 → message_front order head ≡ NeedMore n → length (head ++ rest) < n → IsCut order (head ++ rest)
-  cut-longer (a ∷ b ∷ c ∷ d ∷ e ∷ f ∷ g ∷ h ∷ []) rest n eight front short =
-      let words = u32_of order (e ∷ f ∷ g ∷ h ∷ []) in
-      let sequence = u16_of order (c ∷ d ∷ []) in
-      record { length = n; front = cut_by (is_head a b words) a b sequence (8 + 4 * words) _ _ n front short }
-  cut-longer _ rest n eight front short = absurd (omega (arith, eight))
+  pub cut-longer : (n : ℕ) → message_front order head ≡ NeedMore n → length (head ++ rest) < n → IsCut order (head ++ rest)
+  cut-longer n front short = let h = headed order head rest eight in record { length = n; front = h.longer ∙ cut_by h.good h.kind h.detail h.sequence h.size _ n (sym h.alone ∙ front) short }
 
   -- a bad header, whatever comes after it
-  pub bad-longer : (head rest : List ℕ) → length head ≡ 8 → message_front order head ≡ BadMessage → message_front order (head ++ rest) ≡ BadMessage
-  bad-longer (a ∷ b ∷ c ∷ d ∷ e ∷ f ∷ g ∷ h ∷ []) rest eight front =
-      let words = u32_of order (e ∷ f ∷ g ∷ h ∷ []) in
-      bad_by (is_head a b words) a b (u16_of order (c ∷ d ∷ [])) (8 + 4 * words) _ _ front
-  bad-longer _ rest eight front = absurd (omega (arith, eight))
+  pub bad-longer : message_front order head ≡ BadMessage → message_front order (head ++ rest) ≡ BadMessage
+  bad-longer front = let h = headed order head rest eight in h.longer ∙ bad_by h.good h.kind h.detail h.sequence h.size _ (sym h.alone ∙ front)
 
   -- a message without a body, whatever comes after it
-  pub head-longer : (head rest : List ℕ) (k d s n : ℕ) → length head ≡ 8 → message_front order head ≡ Message k d s n → IsWhole order (head ++ rest) n
-  head-longer (a ∷ b ∷ c ∷ d ∷ e ∷ f ∷ g ∷ h ∷ []) rest k' d' s' n eight front =
-      let words = u32_of order (e ∷ f ∷ g ∷ h ∷ []) in
-      let sequence = u16_of order (c ∷ d ∷ []) in
-      record { kind = a; detail = b; sequence = sequence; front = whole_by (is_head a b words) a b sequence (8 + 4 * words) _ _ k' d' s' n front (omega arith) }
-  head-longer _ rest k' d' s' n eight front = absurd (omega (arith, eight))
+  pub head-longer : (k d s n : ℕ) → message_front order head ≡ Message k d s n → IsWhole order (head ++ rest) n
+  head-longer k' d' s' n front =
+      let h = headed order head rest eight in
+      record { kind = h.kind; detail = h.detail; sequence = h.sequence; front = h.longer ∙ whole_by h.good _ _ _ h.size _ k' d' s' n (sym h.alone ∙ front) h.more }
 
+module _ (order : Order) where
   -- fewer than 8 bytes are cut off
   pub short-cut : (input : List ℕ) → length input < 8 → IsCut order input
   short-cut [] short = record { length = 8; front = refl }

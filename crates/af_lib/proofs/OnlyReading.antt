@@ -1,6 +1,5 @@
 -- Links that are only read.
-use Rattle.std.proofs.Common.{◌∙◌, ◌≤◌, ℕ, List, arith}
-use Rattle.std.specs.declared.option.Option.{Option}
+use Rattle.std.proofs.Common.{◌∙◌, ◌≤◌, ℕ, List, arith, Option}
 use Rattle.af_io.specs.Observed.{FaultCounted}
 use Rattle.af_lib.specs.Observed.{OnlyRead}
 

@@ -1,5 +1,6 @@
 -- What a message answers to a request of a client.
-use Rattle.std.specs.Prelude.{ℕ, ◌==◌, ◌&&◌, if◌then◌else◌, List, [], ◌∷◌, drop, Option, Some, None, Result, Ok, Err}
+use Rattle.std.specs.Prelude.{ℕ, ◌==◌, ◌&&◌, if◌then◌else◌, List, [], ◌∷◌, drop, Option, Some, None, Result, Ok, Err, ok_or}
+use Rattle.std.specs.Prelude.{option_map, unwrap_or}
 use Rattle.af_wire.specs.declared.order.Order.{Order}
 use Rattle.af_wire.specs.Order.{u32_of}
 use Rattle.af_request.specs.Fields.{u8_at, u16_at}
@@ -14,24 +15,19 @@ refused_in order opcode (a ∷ b ∷ c ∷ d ∷ asked ∷ x ∷ y ∷ z ∷ [])
     if asked == opcode && x == 0 && y == 0 && z == 0 then Some (u32_of order (a ∷ b ∷ c ∷ d ∷ [])) else None
 refused_in order opcode _ = None
 
--- the fault for an error code, if the body refuses a value of the request
-abbrev pub refusal_fault : List ℕ → ℕ → Option ℕ → ConnFault
-refusal_fault bytes code (Some value) = fault.ServerError code value
-refusal_fault bytes code None = bad_reply bytes
-
 -- The answer to a request with this opcode and number, in a message that is no event: the message itself if it is the reply, the
 -- error if it is one to that request, and else a bad reply.
 abbrev pub answer_to : Order → ℕ → ℕ → List ℕ → Result (List ℕ) ConnFault
 answer_to order opcode sequence bytes =
     if u16_at order 2 bytes == sequence && u8_at 0 bytes == 1 && u8_at 1 bytes == opcode then Ok bytes
     else if u16_at order 2 bytes == sequence && u8_at 0 bytes == 0
-    then Err (refusal_fault bytes (u8_at 1 bytes) (refused_in order opcode (drop 8 bytes)))
+    then Err (unwrap_or (option_map (fault.ServerError (u8_at 1 bytes)) (refused_in order opcode (drop 8 bytes)))
+    (bad_reply bytes))
     else Err (bad_reply bytes)
 
 -- the value that the body of a reply states, or a bad reply
 abbrev pub value_or_bad : {X : Type 0} → List ℕ → Option X → Result X ConnFault
-value_or_bad bytes (Some value) = Ok value
-value_or_bad bytes None = Err (bad_reply bytes)
+value_or_bad bytes value = ok_or value (bad_reply bytes)
 
 -- a step that may fail, and the one after it
 abbrev pub and_then : {X Y : Type 0} → (X → Result Y ConnFault) → Result X ConnFault → Result Y ConnFault

@@ -1,8 +1,7 @@
 -- What a call of a connection sends, takes and answers.
-use Rattle.std.specs.Prelude.{◌≡◌, ◌≢◌, ◌≤◌, ◌+◌, ◌%◌, ◌^◌, ◌↔◌, ◌==◌, nat_le, if◌then◌else◌, ⊤, ◌⊎◌, ℕ, ℤ, pos, Bool, List}
-use Rattle.std.specs.Prelude.{[], length, take, drop, slice_get, is_some, option_and_then, Result, Ok, Err, IsOk, IsSome}
-use Rattle.std.specs.declared.option.Option.{Option}
-use Rattle.std.specs.declared.option.Option.TheVariants.{None, Some}
+use Rattle.std.specs.Prelude.{◌≡◌, ◌≢◌, ◌≤◌, ◌+◌, ◌%◌, ◌^◌, ◌↔◌, ◌==◌, nat_le, if◌then◌else◌, ⊤, ◌⊎◌, ℕ, ℤ, pos, Bool, List, []}
+use Rattle.std.specs.Prelude.{length, take, drop, slice_get, is_some, option_and_then, option_map, unwrap_or, Result, Ok, Err}
+use Rattle.std.specs.Prelude.{IsOk, IsSome, Option, None, Some}
 use Rattle.af_limits.specs.Limits.{most_events}
 use Rattle.af_time.specs.declared.DevTime.{DevTime}
 use Rattle.af_io.specs.Observed.{Appended, FaultCounted}
@@ -98,13 +97,9 @@ as_recorded blocking asked (recorded now samples) =
     else None
 as_recorded blocking asked _ = None
 
--- the value that the body of a reply states
-abbrev pub stated_value : {X : Type 0} → Order → (Answer → Option X) → ℕ → List ℕ → Option X
-stated_value order value_of opcode body = option_and_then value_of (answer_in order opcode body)
-
--- the value of the reply in a message
+-- the value that the reply in a message states
 abbrev pub value_in : {X : Type 0} → Order → (Answer → Option X) → ℕ → List ℕ → Result X ConnFault
-value_in order value_of opcode bytes = value_or_bad bytes (stated_value order value_of opcode (drop 8 bytes))
+value_in order value_of opcode bytes = value_or_bad bytes (option_and_then value_of (answer_in order opcode (drop 8 bytes)))
 
 -- the answer of the message that was found to a request with this opcode and number
 abbrev pub answer_of : {X : Type 0} → Order → (Answer → Option X) → ℕ → ℕ → Result (List ℕ) ConnFault → Result X ConnFault
@@ -144,7 +139,8 @@ pub record Sends {X : Type 0} (result : Result X ConnFault) (before : Option (Li
 abbrev pub Answers : {X : Type 0} → Order → (Answer → Option X) → ℕ → ℕ → Result X ConnFault → RingState → RingState →
     Option (List ℕ) → Option (List ℕ) → Type 0
 Answers order value_of opcode sequence result ring ring' before after = result ≢ Err fault.LinkFault →
-    BothTold before after (λ b a. (result ≡ answer_of order value_of opcode sequence (awaited_message order most_events ring b).found)
+    BothTold before after (λ b a.
+    (result ≡ answer_of order value_of opcode sequence (awaited_message order most_events ring b).found)
     × (ring' ≡ (awaited_message order most_events ring b).ring) × (a ≡ (awaited_message order most_events ring b).rest))
 
 -- the same for the message itself, which is in a buffer then
@@ -153,8 +149,11 @@ held_in (Ok x) bytes = Ok bytes
 held_in (Err fault) bytes = Err fault
 
 -- recorded samples, which are in a buffer
+abbrev pub recorded_as : List ℕ → (DevTime × ℕ) → Recorded
+recorded_as into r = record { time = r.0; samples = take r.1 into }
+
 abbrev pub recorded_in : Result (DevTime × ℕ) ConnFault → List ℕ → Result Recorded ConnFault
-recorded_in (Ok r) into = Ok (record { time = r.0; samples = take r.1 into })
+recorded_in (Ok r) into = Ok (recorded_as into r)
 recorded_in (Err fault) into = Err fault
 
 -- the buffer past what was recorded stays as it was, and all of it if nothing was recorded
@@ -162,11 +161,7 @@ abbrev pub KeepsTail : Result (DevTime × ℕ) ConnFault → List ℕ → List �
 KeepsTail (Ok r) old new = drop r.1 new ≡ drop r.1 old
 KeepsTail (Err fault) old new = new ≡ old
 
--- the same before the message is looked at
-abbrev pub stored_in : Option (DevTime × ℕ) → List ℕ → Option Recorded
-stored_in (Some r) into = Some (record { time = r.0; samples = take r.1 into })
-stored_in None into = None
-
+-- the same where there are no such samples
 abbrev pub IsStoredIn : Option (DevTime × ℕ) → List ℕ → List ℕ → Type 0
 IsStoredIn (Some r) old new = drop r.1 new ≡ drop r.1 old
 IsStoredIn None old new = new ≡ old
@@ -186,12 +181,10 @@ device_channels devices number = channels_or_one (slice_get devices number)
 
 -- a field that a request changes, or zero
 abbrev pub gain_or_zero : Option ℤ → ℤ
-gain_or_zero (Some gain) = gain
-gain_or_zero None = pos 0
+gain_or_zero gain = unwrap_or gain (pos 0)
 
 abbrev pub flag_or_zero : Option Bool → ℕ
-flag_or_zero (Some flag) = flag_byte flag
-flag_or_zero None = 0
+flag_or_zero flag = unwrap_or (option_map flag_byte flag) 0
 
 -- the bit of a field in the mask of those that a request changes
 abbrev pub bit_if : ℕ → Bool → ℕ
@@ -310,15 +303,11 @@ Connects order left sent faults link (Ok conn) =
 Connects order left sent faults link (Err e) =
     ((e.0 ≡ fault.OutOfMemory) × (e.1 ≡ link)) ⊎ ((ring : RingState) × IsSetUp order left sent faults link e.1 ring (Err e.0))
 
--- a call over an observable link is Ok if its bytes hold the awaited reply and its count of faults did not rise
-abbrev pub Succeeds : {L X : Type 0} → (L → Option (List ℕ)) → (L → ℕ) → Asked → (Answer → Option X) → ConnState L → ConnState L →
-    Result X ConnFault → Type 0
-Succeeds left faults asked value_of old new result =
-    old.cause ≡ None → ¬ (FaultCounted (faults old.link) (faults new.link)) → BothTold (left old.link) (left new.link) (λ b a.
-    IsOk (answer_of old.order value_of (opcode_of asked) (next_sequence old.sequence)
-    (awaited_message old.order most_events old.ring b).found) → IsOk result)
-
--- each call of a connection whose reply states such a value is one of these
+-- Each call of a connection whose reply states such a value is Ok if the observable bytes of its link hold the awaited reply, and
+-- its count of faults did not rise.
 abbrev pub IsOkWhereAwaited : {L X : Type 0} → (left sent : L → Option (List ℕ)) → (faults : L → ℕ) → (Answer → Option X) → Type 0
 IsOkWhereAwaited {L} {X} left sent faults value_of = (asked : Asked) (old new : ConnState L) (answer : Result X ConnFault) →
-    Called left sent faults asked value_of old new answer → Succeeds left faults asked value_of old new answer
+    Called left sent faults asked value_of old new answer →
+    old.cause ≡ None → ¬ (FaultCounted (faults old.link) (faults new.link)) → BothTold (left old.link) (left new.link) (λ b a.
+    IsOk (answer_of old.order value_of (opcode_of asked) (next_sequence old.sequence)
+    (awaited_message old.order most_events old.ring b).found) → IsOk answer)

@@ -1,6 +1,6 @@
 -- What a client takes off the bytes that a server sends, message by message.
-use Rattle.std.specs.Prelude.{ℕ, zero, suc, ◌-◌, ◌==◌, if◌then◌else◌, List, [], ◌++◌, length}
-use Rattle.std.specs.Prelude.{take, drop, replicate, Option, Some, None, Result, Ok, Err}
+use Rattle.std.specs.Prelude.{ℕ, zero, suc, ◌-◌, ◌==◌, if◌then◌else◌, List, [], ◌++◌, length, take, drop, replicate, Option, Some}
+use Rattle.std.specs.Prelude.{None, Result, Ok, Err, ok_or, option_map}
 use Rattle.af_wire.specs.declared.order.Order.{Order}
 use Rattle.af_wire.specs.declared.event.Event.{Event}
 use Rattle.af_wire.specs.declared.message_front.MessageFront.{MessageFront}
@@ -25,15 +25,12 @@ pub data Incoming : Type 0 where
   event : Event → Incoming
   other : (bytes : List ℕ) → Incoming
 
--- an event's message whose body states none is bad
-abbrev pub event_or_bad : List ℕ → Option Event → Result Incoming ConnFault
-event_or_bad bytes (Some e) = Ok (event e)
-event_or_bad bytes None = Err (bad_reply bytes)
-
--- what a complete message with a good header is; kind 2 is that of events
+-- what a complete message with a good header is; kind 2 is that of events, and such a message is bad if its body states none
 abbrev pub message_in : Order → List ℕ → Result Incoming ConnFault
 message_in order bytes =
-    if u8_at 0 bytes == 2 then event_or_bad bytes (event_in order (u8_at 1 bytes) (drop 8 bytes)) else Ok (other bytes)
+    if u8_at 0 bytes == 2
+    then ok_or (option_map event (event_in order (u8_at 1 bytes) (drop 8 bytes))) (bad_reply bytes)
+    else Ok (other bytes)
 
 -- the message at such a front of the input; if the input is too short for it, the link has ended
 abbrev pub incoming_at : Order → MessageFront → List ℕ → Result Incoming ConnFault
@@ -71,4 +68,5 @@ awaited_by (Err fault) ring rest more = record { found = Err fault; ring = ring;
 unfoldable pub awaited_message : Order → ℕ → RingState → List ℕ → Awaited
 awaited_message order zero ring input = record { found = Err fault.EventFlood; ring = ring; rest = input }
 awaited_message order (suc n) ring input =
-    awaited_by (incoming order input) ring (after_message order input) (λ r. awaited_message order n r (after_message order input))
+    awaited_by (incoming order input) ring (after_message order input)
+    (λ r. awaited_message order n r (after_message order input))

@@ -4,4 +4,3 @@ pub mod Answers
 pub mod Observed
 pub mod Receive
 pub mod Calls
-pub mod Exchange

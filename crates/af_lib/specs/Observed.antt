@@ -1,7 +1,5 @@
 -- The bytes of a link, if they are observable.
-use Rattle.std.specs.Prelude.{◌≡◌, ⊤, ℕ, List, IsSome}
-use Rattle.std.specs.declared.option.Option.{Option}
-use Rattle.std.specs.declared.option.Option.TheVariants.{None, Some}
+use Rattle.std.specs.Prelude.{◌≡◌, ⊤, ℕ, List, IsSome, Option, None, Some}
 use Rattle.af_io.specs.Observed.{CountsFault}
 
 -- the bytes that were left before and are left now, if they are observable; then they were so before, too

@@ -10,9 +10,9 @@ ghost use Rattle.af_request.specs.Replies.{IsReplyTo};
 ghost use Rattle.af_request.specs.Requests.{request_bytes, FitsFrame};
 ghost use Rattle.af_request.specs.Opcodes as opcodes;
 ghost use Rattle.af_lib.specs.Answers.{value_or_bad};
-ghost use Rattle.af_lib.specs.Exchange.{HasBuffers};
+ghost use Rattle.af_lib.specs.Receive.{HasBuffers};
 ghost use Rattle.af_lib.specs.Ring.{Gained};
-ghost use Rattle.af_lib.specs.Calls.{as_controls, as_devices, as_done, as_phone, as_recorded, as_time, device_list, opcode_of, recorded_in, stored_in, value_in, Answers, IsFresh, KeepsTail, IsStoredIn, Sends};
+ghost use Rattle.af_lib.specs.Calls.{as_controls, as_devices, as_done, as_phone, as_recorded, as_time, device_list, opcode_of, recorded_as, recorded_in, value_in, Answers, IsFresh, KeepsTail, IsStoredIn, Sends};
 
 use crate::exchange::{Exchange, ask, await_setup, opcode_of};
 use crate::fault::ConnFault;
@@ -136,7 +136,8 @@ fn stored(
     blocking: bool,
     into: &mut [u8],
 ) -> Option<(DevTime, usize)>
-    ensures value { stored_in result into.new ≡ as_recorded blocking (length into.old) (recorded time.0 samples.now) }
+    ensures value { option_map (recorded_as into.new) result
+        ≡ as_recorded blocking (length into.old) (recorded time.0 samples.now) }
     ensures kept { IsStoredIn result into.old into.new }
     ensures within { IfSome result (λ r. r.1 ≤ length into.old) }
     ensures all { IfSome result (λ r. IsTrue blocking → r.1 ≡ length into.old) }
@@ -150,7 +151,7 @@ fn stored(
 }
 
 fn recorded_of(reply: &Reply<'_>, blocking: bool, into: &mut [u8]) -> Option<(DevTime, usize)>
-    ensures value { stored_in result into.new ≡ as_recorded blocking (length into.old) (answered_by reply.now) }
+    ensures value { option_map (recorded_as into.new) result ≡ as_recorded blocking (length into.old) (answered_by reply.now) }
     ensures kept { IsStoredIn result into.old into.new }
     ensures within { IfSome result (λ r. r.1 ≤ length into.old) }
     ensures all { IfSome result (λ r. IsTrue blocking → r.1 ≡ length into.old) }

@@ -39,7 +39,7 @@ impl<L: Link + Drop> Model for Conn<L> {
     ghost use Rattle.af_request.specs.Opcodes as opcodes;
     ghost use Rattle.af_request.specs.Replies.{IsReplyTo};
     ghost use Rattle.af_lib.specs.Calls.{ConnState};
-    ghost use Rattle.af_lib.specs.Exchange.{HasBuffers};
+    ghost use Rattle.af_lib.specs.Receive.{HasBuffers};
 
     ghost Value = { ConnState L };
 

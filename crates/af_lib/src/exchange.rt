@@ -9,7 +9,7 @@ ghost use Rattle.af_request.specs.Requests.{request_bytes, FitsFrame};
 ghost use Rattle.af_request.specs.Opcodes as opcodes;
 ghost use Rattle.af_lib.specs.Answers.{answer_to, refused_in};
 ghost use Rattle.af_lib.specs.Calls.{cause_of, held_in, opcode_of, IsFresh, Sends};
-ghost use Rattle.af_lib.specs.Exchange.{Finds, HasBuffers};
+ghost use Rattle.af_lib.specs.Receive.{Finds, HasBuffers};
 ghost use Rattle.af_lib.specs.Ring.{Gained};
 ghost use Rattle.af_lib.specs.Observed.{OnlyRead};
 

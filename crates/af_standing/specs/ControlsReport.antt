@@ -30,7 +30,9 @@ flag_text flag = if flag then codes " 1" else codes " 0"
 
 -- the flags of a line: wanted hook, actual hook, ringing, current, dead
 abbrev pub phone_text : Phone → List ℕ
-phone_text p = codes "line" ++ flag_text p.wanted_off ++ flag_text p.given_off ++ flag_text p.ringing ++ flag_text p.current ++ flag_text p.dead
+phone_text p =
+    codes "line" ++ flag_text p.wanted_off ++ flag_text p.given_off ++ flag_text p.ringing
+    ++ flag_text p.current ++ flag_text p.dead
 
 -- each on a line of its own
 abbrev pub control_line : List ℕ → Bool → ℤ → List ℕ

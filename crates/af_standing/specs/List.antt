@@ -25,7 +25,8 @@ type_text ty.Lin32 = codes "lin32"
 -- the number of a device, its type, its rate, its channels, and its time
 unfoldable pub front_text : (number : ℕ) → DeviceInfo → (now : ℕ) → List ℕ
 front_text number device now =
-    decimal number ++ codes " " ++ type_text device.ty ++ codes " " ++ decimal device.rate ++ codes " " ++ decimal device.channels ++ codes " " ++ decimal now
+    decimal number ++ codes " " ++ type_text device.ty ++ codes " " ++ decimal device.rate ++ codes " "
+    ++ decimal device.channels ++ codes " " ++ decimal now
 
 -- the flags of its line, if it has one
 abbrev pub line_words : Option Phone → List ℕ
@@ -41,7 +42,8 @@ controls_report_words s =
 
 -- the line of a device
 unfoldable pub device_line : (number : ℕ) → DeviceInfo → ControlsReport → (now : ℕ) → List ℕ
-device_line number device controls_report now = front_text number device now ++ controls_report_words controls_report ++ codes "\n"
+device_line number device controls_report now =
+    front_text number device now ++ controls_report_words controls_report ++ codes "\n"
 
 -- a device is asked for its state, and for its time, and its line is written
 unfoldable pub tells_device : (number : ℕ) → DeviceInfo → ClientState → (Unit {0} → ClientState → Trace) → Trace
@@ -84,7 +86,8 @@ HasLines number (device ∷ more) text =
 -- list ran, by the devices of its server and what its link gives. What the link was sent, and what the sink gained, are those of
 -- the trace, or prefixes of them if something from outside ended it. If it is done, it wrote a line for each device. An end for a
 -- reply is that of the trace. If each request gets its reply it is done, unless something from outside ended it.
-pub record ListRan (devices : List DeviceInfo) (w : ClientState) (how : ToolEnd) (sent sent' held held' : Option (List ℕ)) : Type 0 where
+pub record ListRan (devices : List DeviceInfo) (w : ClientState) (how : ToolEnd)
+    (sent sent' held held' : Option (List ℕ)) : Type 0 where
   pub followed : ObservedTrace (list_trace devices w) how sent sent' held held'
   pub listed : how ≡ end.Done → HasLines 0 devices followed.output
   pub reply : EndsByReply (list_trace devices w) how

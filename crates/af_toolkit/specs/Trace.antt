@@ -83,7 +83,8 @@ answer_on asked value_of w = answer_of w.order value_of (opcode_of asked) (next_
 
 -- a request is sent, and what follows goes by its answer
 unfoldable pub asks : {X : Type 0} → Asked → (Answer → Option X) → ClientState → (X → ClientState → Trace) → Trace
-asks asked value_of w next = sends_first (request_bytes w.order asked) (after_answer (answer_on asked value_of w) (after_reply w) next)
+asks asked value_of w next =
+    sends_first (request_bytes w.order asked) (after_answer (answer_on asked value_of w) (after_reply w) next)
 
 -- a context is made, and the time of its device is asked for
 abbrev pub begins : Asked → ℕ → ClientState → (DevTime → ClientState → Trace) → Trace
@@ -107,7 +108,8 @@ client_before_setup order input = new_client order (record { events = []; lost =
 
 -- a client that has taken the answer to its setup
 abbrev pub client_after_setup : Order → List ℕ → ClientState
-client_after_setup order input = new_client order (next_message (client_before_setup order input)).ring (next_message (client_before_setup order input)).rest
+client_after_setup order input =
+    new_client order (next_message (client_before_setup order input)).ring (next_message (client_before_setup order input)).rest
 
 -- what the link answers to the setup
 abbrev pub setup_answer : Order → List ℕ → Result (List DeviceInfo) ConnFault
@@ -115,7 +117,8 @@ setup_answer order input = answer_of order as_devices opcodes.setup 0 (next_mess
 
 -- the setup of a byte order is sent, and what follows goes by the devices of its answer
 unfoldable pub connects : Order → List ℕ → (List DeviceInfo → ClientState → Trace) → Trace
-connects order input next = sends_first (setup_bytes order) (after_answer (setup_answer order input) (client_after_setup order input) next)
+connects order input next =
+    sends_first (setup_bytes order) (after_answer (setup_answer order input) (client_after_setup order input) next)
 
 -- the first link that a dial gives is set up in a byte order
 abbrev pub dials : Order → List ToldLink → (List DeviceInfo → ClientState → Trace) → Trace

@@ -1,10 +1,15 @@
+use Rattle.std.proofs.Common.{ap, ◌∙◌, Some}
 use Rattle.af_request.specs.Answer.{reply_meaning}
-use Rattle.af_lib.proofs.ExchangeLemmas.{listed_stated, value_listed}
+use Rattle.af_request.specs.Opcodes as opcodes
+use Rattle.af_lib.specs.Answers.{value_or_bad}
+use Rattle.af_lib.specs.Calls.{as_devices, device_list}
+use Rattle.af_lib.proofs.ExchangeLemmas.{listed_bad, listed_stated, value_read}
 use Rattle.af_lib.proofs.asks.devices_in.Goals as goal
 
 pub returns-in-Some-clause-value : goal.returns-in-Some-clause-value
 returns-in-Some-clause-value c =
-    value_listed c.args.order c.args.bytes.now (reply_meaning c.in-Some.reply) c.devices_of.result c.or_bad.result c.or_bad.ensures.value c.devices_of.ensures c.in-Some.ensures
+    ap device_list c.or_bad.ensures.value ∙ listed_bad c.args.bytes.now c.devices_of.result ∙ ap (value_or_bad c.args.bytes.now) c.devices_of.ensures
+    ∙ value_read c.args.order as_devices opcodes.setup c.args.bytes.now (Some (reply_meaning c.in-Some.reply)) c.in-Some.ensures
 
 pub returns-in-Some-clause-stated : goal.returns-in-Some-clause-stated
 returns-in-Some-clause-stated c = listed_stated c.args.order c.args.bytes.now c.or_bad.result (returns-in-Some-clause-value c)

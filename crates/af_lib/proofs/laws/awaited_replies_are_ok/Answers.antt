@@ -1,11 +1,14 @@
-use Rattle.af_lib.proofs.SuccessLemmas.{called_succeeds}
+use Rattle.af_lib.specs.Calls.{as_controls, as_done, as_phone, as_recorded, as_time}
+use Rattle.af_lib.proofs.SuccessLemmas.{calls_succeed}
 use Rattle.af_lib.proofs.laws.awaited_replies_are_ok.Goals as goal
 
 pub returns : goal.returns
-returns g c = record {
-  done = λ asked old new answer called. called_succeeds called;
-  times = λ asked old new answer called. called_succeeds called;
-  controls = λ asked old new answer called. called_succeeds called;
-  phones = λ asked old new answer called. called_succeeds called;
-  records = λ blocking room asked old new answer called. called_succeeds called;
-}
+returns g c =
+    let link = g.L.Link in
+    record {
+      done = calls_succeed link.left link.sent link.faults as_done;
+      times = calls_succeed link.left link.sent link.faults as_time;
+      controls = calls_succeed link.left link.sent link.faults as_controls;
+      phones = calls_succeed link.left link.sent link.faults as_phone;
+      records = λ blocking room. calls_succeed link.left link.sent link.faults (as_recorded blocking room);
+    }

@@ -1,14 +1,14 @@
-use Rattle.std.proofs.Common.{rules, arith, ◌≡◌, ◌≢◌, ℕ, subst, sym, refl, ◌∙◌}
-use Rattle.std.specs.Prelude.{Result, Ok, Err}
+use Rattle.std.proofs.Common.{rules, arith, ◌≡◌, ◌≢◌, ℕ, subst, sym, take, refl, ◌∙◌, Result, Ok, Err}
 use Rattle.af_limits.specs.Limits.{most_events}
 use Rattle.af_lib.specs.declared.receive.Taken.{Taken}
 use Rattle.af_lib.specs.declared.fault.ConnFault.{ConnFault}
 use Rattle.af_lib.specs.declared.fault.ConnFault.TheVariants as fault
 use Rattle.af_lib.specs.Calls.{IsFresh, IsOfMessage}
+use Rattle.af_lib.specs.Incoming.{event, other}
 use Rattle.af_lib.specs.Receive.{Takes, Awaits}
 use Rattle.af_lib.specs.Ring.{nothing_more, one_more, Gained, RingState}
 use Rattle.af_lib.proofs.OnlyReading.{read_on, read_where}
-use Rattle.af_lib.proofs.AwaitedMessageLemmas.{await_event, await_other, await_fault, await_flood}
+use Rattle.af_lib.proofs.AwaitedMessageLemmas.{await_flood, await_one}
 use Rattle.af_lib.proofs.receive.await_message.Goals as goal
 
 -- what was taken, which is no fault of the link
@@ -21,13 +21,9 @@ retag e = cc
 
 -- a fault of one message is one after which the connection can still be used
 still_fresh : (f : ConnFault) → (let r : Result Taken ConnFault = Err f in IsOfMessage r) → (let r : Result ℕ ConnFault = Err f in IsFresh r)
-still_fresh fault.LinkFault is = tt
-still_fresh fault.LinkEnded is = tt
-still_fresh (fault.ServerError code value) is = absurd is
-still_fresh (fault.BadReply header first) is = tt
 still_fresh fault.OutOfMemory is = absurd is
-still_fresh fault.EventFlood is = absurd is
 still_fresh (fault.Spent first) is = absurd is
+still_fresh f is = tt
 
 pub returns-in_err-event-clause-fresh : goal.returns-in_err-event-clause-fresh
 returns-in_err-event-clause-fresh g c =
@@ -40,7 +36,7 @@ returns-in_err-event-clause-awaits g c unfailed =
     let l0 = g.L.Link.left c.args.link.now in
     let l1 = g.L.Link.left c.loop-allowed.link in
     let l2 = g.L.Link.left c.take_message.new.link in
-    let told = await_fault c.args.order l0 l1 l2 most_events c.loop-allowed.allowed c.args.ring.now c.loop-allowed.ring c.loop-allowed.invariant.0 c.in_err-event.field-0.0 (omega arith)
+    let told = await_one c.args.order l0 l1 l2 most_events c.loop-allowed.allowed c.args.ring.now c.loop-allowed.ring c.loop-allowed.invariant.0 (Err c.in_err-event.field-0.0) (omega arith)
     (c.in_err-event.ensures.takes (λ e. unfailed (same ∙ retag e))) in
     let P : Result ℕ ConnFault → Type 0 = λ r. Awaits c.args.order r c.take_message.new.input c.args.ring.now c.loop-allowed.ring l0 l2 in
     subst P (sym same) told
@@ -50,7 +46,7 @@ returns-in-Other-clause-awaits g c _ =
     let l0 = g.L.Link.left c.args.link.now in
     let l1 = g.L.Link.left c.loop-allowed.link in
     let l2 = g.L.Link.left c.take_message.new.link in
-    await_other c.args.order l0 l1 l2 most_events c.loop-allowed.allowed c.args.ring.now c.loop-allowed.ring c.loop-allowed.invariant.0 _ (omega arith)
+    await_one c.args.order l0 l1 l2 most_events c.loop-allowed.allowed c.args.ring.now c.loop-allowed.ring c.loop-allowed.invariant.0 (Ok (other (take c.in-Other.length c.take_message.new.input))) (omega arith)
     (sound c.in_ok-event.field-0 _ (λ t. Takes c.args.order (Ok t) c.take_message.new.input l1 l2) c.in-Other.is c.in_ok-event.ensures.takes)
 
 pub loop-allowed-init : goal.loop-allowed-init
@@ -62,7 +58,7 @@ loop-allowed-preserved g c =
     let l1 = g.L.Link.left c.loop-allowed.link in
     let l2 = g.L.Link.left c.take_message.new.link in
     let i = c.loop-allowed.invariant in
-    let told = await_event c.args.order l0 l1 l2 most_events c.loop-allowed.allowed c.args.ring.now c.loop-allowed.ring i.0 c.in-Event.event (omega arith)
+    let told = await_one c.args.order l0 l1 l2 most_events c.loop-allowed.allowed c.args.ring.now c.loop-allowed.ring i.0 (Ok (event c.in-Event.event)) (omega arith)
     (sound c.in_ok-event.field-0 _ (λ t. Takes c.args.order (Ok t) c.take_message.new.input l1 l2) c.in-Event.is c.in_ok-event.ensures.takes) in
     (rw c.note.ensures told, read_on i.1 (read_where (λ never. absurd never) c.in_ok-event.ensures.reads), subst (λ (r : RingState). Gained c.args.ring.now r) (sym c.note.ensures) (one_more _ _ i.2))
 

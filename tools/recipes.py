@@ -28,9 +28,10 @@ OPTIONAL = [
 CALLED = r"(?:^|[|;&(])\s*(?:[A-Z_]+=[^\s(]*\s+)*(?:exec\s+)?(%s)\b" % "|".join(map(re.escape, OPTIONAL))
 # an address of a page
 ADDRESS = re.compile(r"(127\.0\.0\.1[: ])(\d{4,5})\b")
-# what differs from run to run: device times, counts of what was late, ports of clients, process numbers
+# what differs from run to run: device times, counts of what was late and by how much, ports of clients, process numbers
 DIFFERS = [
     (r"\b(at|from|now) \d+\b", r"\1 *"), (r"^(\d (?:mu255|alaw|lin16|lin32) \d+ [12]) \d+ ", r"\1 * "), (r"\d+ frames in \d+ blocks?", "* frames in * blocks"), (r"resynced \d+", "resynced *"),
+    (r"and \d+ would have been", "and * would have been"),
     (r"passed \d+ blocks, (never )?resynchronised.*", "passed * blocks, resynchronised *"), (r"(127\.0\.0\.1:)[2-6]\d{4}", r"\1*")]
 # what is printed where something went wrong
 WRONG = re.compile(r"^(af|afd|demo|make|client\.py): |FAIL|(^|: )[Ee]rror\b|[Nn]o such |not found|Traceback|cannot |usage:")

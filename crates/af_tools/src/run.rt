@@ -103,7 +103,8 @@ fn run_one<S: Source, K: Sink, D: Dial>(
     ensures asked { Appended (D.asked dial.old) (call.now.server.now ∷ []) (D.asked dial.new) }
     ensures end { is_of_dial (is_of_tool (reads_source call.now.task)) result ≡ true }
     ensures causes { EndsForCause S.left S.faults K.faults D.faults D.hurt
-        (reads_source call.now.task) (source_form call.now.task) result source.old source.new sink.old sink.new dial.old dial.new }
+        (reads_source call.now.task) (source_form call.now.task) result
+        source.old source.new sink.old sink.new dial.old dial.new }
     ensures unread { ReadsLate call.now.task (λ play. (told : List ToldLink) → D.links dial.old ≡ Some told →
         DialGivesContext call.now.order play told) source.old source.new }
 {

@@ -9,3 +9,4 @@ pub mod OpenBelowLemmas
 pub mod TickSizeLemmas
 pub mod TurnLemmas
 pub mod WantsWithinLemmas
+pub mod FoundLemmas

@@ -47,9 +47,6 @@ passed_wants d n ks ks' links links' passed same j =
     (subst (λ (ls : List (Option LinkState)). wants_at (map (deferral_after_frames d n) ks) ls j ≡ wants_at ks links j) (sym same)
     (ap (λ b. open_wants b (option_and_then (λ link. link) (slice_get links j))) (passed_waiting d n ks j)))
 
-pub one_woken : (ks : List KeptDeferral) (links : List (Option LinkState)) (k : ℕ) (link : Option LinkState) → (j : ℕ) → j ≢ k → wants_at ks (slice_set links k link) j ≡ wants_at ks links j
-one_woken ks links k link = others_same ks ks links k link (λ j apart. refl)
-
 -- a link among these numbers changes
 pub within_set : (from below k : ℕ) (ks ks' : List KeptDeferral) (links : List (Option LinkState)) (link : Option LinkState) → from ≤ k → k < below →
     ((j : ℕ) → j ≢ k → has_waiting ks' j ≡ has_waiting ks j) → WantsWithin from below ks links → WantsWithin from below ks' (slice_set links k link)
@@ -221,10 +218,6 @@ same_open (Ticked d n) b = refl
 same_open (Line d change) b = refl
 same_open Idle b = refl
 same_open Stop b = refl
-
--- after the parts of the links
-pub served_bounds : (b : WantingSpan) (ks ks' : List KeptDeferral) (links links' : List (Option LinkState)) → AreBounds b ks links → NoneOpenFrom b.open_below links' → WantsWithin b.wants_from b.wants_below ks' links' → AreBounds b ks' links'
-served_bounds b ks ks' links links' h none wants = record { most = h.most; none_open = none; from = h.from; within = h.within; wants = wants }
 
 -- if no link is open
 pub starts_bounds : (b : WantingSpan) (ks : List KeptDeferral) (links : List (Option LinkState)) → b ≡ record { open_below = 0; wants_from = most_links; wants_below = 0 } → links ≡ replicate most_links None → AreBounds b ks links

@@ -133,6 +133,10 @@ AreExact b ks links = b.wants_from < b.wants_below → wants_at ks links b.wants
 abbrev pub bounds_with : ℕ → WantingSpan → WantingSpan
 bounds_with k b = record b { wants_from = min b.wants_from k; wants_below = max b.wants_below (k + 1) }
 
+-- no link wants anything
+abbrev pub bounds_of_none : WantingSpan → WantingSpan
+bounds_of_none b = record b { wants_from = most_links; wants_below = 0 }
+
 -- every open link may want something
 abbrev pub bounds_of_all : WantingSpan → WantingSpan
 bounds_of_all b = record b { wants_from = 0; wants_below = b.open_below }

@@ -63,7 +63,8 @@ fn refuse_setup(order: Order, value: u32, link: &mut ServedLink)
     link.stop(Why::BadSetup);
 }
 
-// Takes a setup off, if one is complete.
+// Takes a setup off, if one is complete. This is kept out of the code that takes frames: a link has one setup.
+#[inline(never)]
 fn setup_once(shared: &SharedState, link: &mut ServedLink, work: &mut Work) -> bool
     requires room { length link.old.pending ≤ perform_limit }
     ensures step { Advances result (after_setup (setup_front link.old.rest)) shared.now link.old shared.now link.new }
@@ -85,9 +86,7 @@ fn setup_once(shared: &SharedState, link: &mut ServedLink, work: &mut Work) -> b
     }
 }
 
-// Takes the first frame off and performs it. `frame` receives a copy of it. This is kept out of the code that looks for frames,
-// since that mostly finds none.
-#[inline(never)]
+// Takes the first frame off and performs it. `frame` receives a copy of it.
 fn perform_front(
     number: u8,
     shared: &mut SharedState,
@@ -169,7 +168,25 @@ fn advance_once(
     }
 }
 
-/// Takes off and answers what is there, one after the other, as far as the link takes more.
+// Takes off and answers what is there, one after the other, as far as the link takes more.
+fn advance_all(number: u8, shared: &mut SharedState, link: &mut ServedLink, scratch: &mut Scratch)
+    requires number { number < most_links }
+    requires room { IsTrue (has_waiting shared.old.waits number) → length link.old.pending ≤ event_limit }
+    ensures step { StepsLink (advance number) shared.old link.old shared.new link.new }
+    ensures settled { IsSettled (has_waiting shared.new.waits number) link.new }
+    ensures answered { (link.new ≡ link.old) ⊎ (length link.new.rest < length link.old.rest) }
+    ensures only_queues { OnlyQueues number shared.old.waits shared.new.waits }
+{
+    while link.has_input() {
+        if !advance_once(number, shared, link, scratch) {
+            return;
+        }
+    }
+}
+
+/// Takes off and answers what is there, as far as the link takes more. After its replies a link mostly has no more input, so that
+/// is looked at in line.
+#[inline(always)]
 pub fn advance(number: u8, shared: &mut SharedState, link: &mut ServedLink, scratch: &mut Scratch)
     requires number { number < most_links }
     requires room { IsTrue (has_waiting shared.old.waits number) → length link.old.pending ≤ event_limit }
@@ -178,10 +195,7 @@ pub fn advance(number: u8, shared: &mut SharedState, link: &mut ServedLink, scra
     ensures answered { (link.new ≡ link.old) ⊎ (length link.new.rest < length link.old.rest) }
     ensures only_queues { OnlyQueues number shared.old.waits shared.new.waits }
 {
-    // after its replies a link mostly has no more input
-    while link.has_input() {
-        if !advance_once(number, shared, link, scratch) {
-            return;
-        }
+    if link.has_input() {
+        advance_all(number, shared, link, scratch);
     }
 }

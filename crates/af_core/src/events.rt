@@ -14,7 +14,9 @@ use af_state::{ServedLink, SharedState};
 use af_wire::{Event, EventKind};
 use af_world::Why;
 
-/// A link is dropped for a cause: it is to be closed, nothing of it is read or sent any more, and it waits no more.
+/// A link is dropped for a cause: it is to be closed, nothing of it is read or sent any more, and it waits no more. This is kept
+/// out of the code that serves links, few of which are dropped.
+#[inline(never)]
 pub fn drop_link(number: u8, cause: Why, shared: &mut SharedState, link: &mut ServedLink)
     ensures step { StepsLink (drop_link number cause) shared.old link.old shared.new link.new }
     ensures settled { IsSettled (has_waiting shared.new.waits number) link.new }

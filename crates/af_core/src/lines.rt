@@ -77,7 +77,9 @@ fn hook<W: World>(number: u8, off: bool, world: &mut W) -> bool
     }
 }
 
-// Moves the hook of a device's line. If the call fails, the line is dead.
+// Moves the hook of a device's line. If the call fails, the line is dead. This is kept out of the code that looks at the hooks,
+// since they mostly stay.
+#[inline(never)]
 fn give_wanted<W: World>(
     number: u8,
     off: bool,

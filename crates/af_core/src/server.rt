@@ -168,8 +168,8 @@ fn turn_parts<W: World>(
     serve_slots(bounds, shared, slots, scratch, world);
     if give_hooks(shared, slots, world) {
         bounds.include_all(slots);
+        bounds.narrow(&shared.waits, slots);
     }
-    bounds.narrow(&shared.waits, slots);
 }
 
 impl Core {

@@ -11,7 +11,7 @@ ghost use Rattle.af_model.specs.Turn.{accept, serve_slot_link, serve_all, is_ope
 ghost use Rattle.af_state.specs.Deferrals.{has_waiting, kept_due, OnlyQueues, LeavesOthers};
 ghost use Rattle.af_state.specs.SharedState.{StandsForSharedState};
 ghost use Rattle.af_core.specs.Simulates.{Simulates};
-ghost use Rattle.af_core.specs.Stands.{AreBounds, StandsForSlot, IsBetweenPhases, IsSettledSlot, NoneOpenFrom, OfFirstDue, OnlyDrops, StandsFor, WantsWithin, kept_of, wants_at};
+ghost use Rattle.af_core.specs.Stands.{AreBounds, AreExact, StandsForSlot, IsBetweenPhases, IsSettledSlot, NoneOpenFrom, OfFirstDue, OnlyDrops, StandsFor, WantsWithin, kept_of, wants_at};
 
 use crate::complete::complete_link;
 use crate::events::tell_link;
@@ -215,25 +215,31 @@ pub fn last_wanting(waits: &DeferredRequests, slots: &[Slot], from: usize, below
     end
 }
 
-/// The part of a turn of all links, by rising number: of those between which all are that want any.
+/// The part of a turn of all links, by rising number: of those between which all are that want any. The bounds are then those of
+/// the links that want more.
 pub fn serve_slots<W: World>(
-    bounds: &WantingSpan,
+    bounds: &mut WantingSpan,
     shared: &mut SharedState,
     slots: &mut [Slot],
     scratch: &mut Scratch,
     world: &mut W,
 )
     requires kept { IsBetweenPhases (kept_of shared.old slots.old) }
-    requires bounds { AreBounds bounds.now shared.old.waits slots.old }
+    requires bounds { AreBounds bounds.old shared.old.waits slots.old }
     ensures simulates { Simulates (W.log world.old) (W.log world.new) (StandsFor (kept_of shared.old slots.old))
         (StandsFor (kept_of shared.new slots.new)) serve_all accept }
     ensures kept { IsBetweenPhases (kept_of shared.new slots.new) }
-    ensures none_open { NoneOpenFrom bounds.now.open_below slots.new }
-    ensures wants { WantsWithin bounds.now.wants_from bounds.now.wants_below shared.new.waits slots.new }
+    ensures bounds { AreBounds bounds.new shared.new.waits slots.new }
+    ensures exact { AreExact bounds.new shared.new.waits slots.new }
     ensures leads { W.leads_to world.old world.new }
 {
-    for number in bounds.wants_from..bounds.wants_below {
+    let served = *bounds;
+    *bounds = served.with_none_wanting();
+    for number in served.wants_from..served.wants_below {
         let slot = &mut slots[number];
         slot.serve(number as u8, shared, scratch, world);
+        if slot.wants_turn(number as u8, &shared.waits) {
+            bounds.include(number as u8);
+        }
     }
 }

@@ -2,7 +2,7 @@
 ghost use Rattle.std.specs.Prelude.{◌≡◌, ◌≤◌, false, true, length, List};
 ghost use Rattle.af_limits.specs.Limits.{most_links};
 ghost use Rattle.af_state.specs.Deferrals.{KeptDeferral};
-ghost use Rattle.af_core.specs.Stands.{AreBounds, AreExact, NoneOpenFrom, bounds_after, bounds_of_all, bounds_with};
+ghost use Rattle.af_core.specs.Stands.{AreBounds, AreExact, NoneOpenFrom, bounds_after, bounds_of_all, bounds_of_none, bounds_with};
 
 use crate::slot::{Slot, first_wanting, last_wanting, open_end};
 use af_limits::MOST_LINKS;
@@ -26,8 +26,18 @@ pub const NO_LINKS: WantingSpan = WantingSpan {
 };
 
 impl WantingSpan {
-    // One more link may want something.
-    fn include(&mut self, number: u8)
+    /// The same, where no link wants anything.
+    pub fn with_none_wanting(self) -> WantingSpan
+        ensures { result ≡ bounds_of_none self }
+    {
+        WantingSpan {
+            open_below: self.open_below,
+            ..NO_LINKS
+        }
+    }
+
+    /// One more link may want something.
+    pub fn include(&mut self, number: u8)
         ensures { self.new ≡ bounds_with number self.old }
     {
         let number = usize::from(number);

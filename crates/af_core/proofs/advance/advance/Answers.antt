@@ -1,30 +1,7 @@
-use Rattle.std.proofs.Common.{sym, ◌∙◌, arith, refl, inr, ⊎_elim, rules}
-use Rattle.af_core.proofs.AdvanceStepLemmas.{goes_on, ends, nothing_there}
-use Rattle.af_state.proofs.DeferralLemmas.{only_queues_on}
+use Rattle.std.proofs.Common.{refl, rules}
 use Rattle.af_model.specs.State.{open_link}
+use Rattle.af_core.proofs.AdvanceStepLemmas.{nothing_there}
 use Rattle.af_core.proofs.advance.advance.Goals as goal
 
-pub loop-shared-preserved : goal.loop-shared-preserved
-loop-shared-preserved c = record {
-  number = omega arith;
-  answered = let s = c.if-not-advance_once.ensures.shorter refl in inr (⊎_elim (λ e. rw (← e) s) (λ less. omega arith) c.loop-shared.invariant.answered);
-  room = λ w. let few = c.if-not-advance_once.ensures.small_pending refl w in omega (arith, few);
-  only_queues = only_queues_on _ _ _ _ c.loop-shared.invariant.only_queues c.advance_once.ensures.only_queues;
-  step = λ a h.
-      let before = c.loop-shared.invariant.step a h in
-      let on = goes_on c.args.number (open_link before.0 c.loop-shared.link) _ _ (c.if-not-advance_once.ensures.step before.0 before.1) in
-      (on.0, on.1, on.2 ∙ before.2);
-}
-
-pub returns-then-not-advance_once-clause-step : goal.returns-then-not-advance_once-clause-step
-returns-then-not-advance_once-clause-step c = λ a h.
-    let before = c.loop-shared.invariant.step a h in
-    let same = c.if-not-advance_once.ensures.same refl in
-    let e = sym before.2 ∙ ends c.args.number (open_link before.0 c.loop-shared.link) _ _ (c.if-not-advance_once.ensures.step before.0 before.1) in
-    rw e (rw same.0 before.1, sym same.1)
-
-pub returns-clause-step : goal.returns-clause-step
-returns-clause-step c = λ a h.
-    let before = c.loop-shared.invariant.step a h in
-    let e = sym before.2 ∙ nothing_there c.args.number (open_link before.0 c.loop-shared.link) (search rules) in
-    rw e (before.1, refl)
+pub returns-else-has_input-clause-step : goal.returns-else-has_input-clause-step
+returns-else-has_input-clause-step c = λ a h. let e = nothing_there c.args.number (open_link a c.args.link.now) (search rules) in rw e (h, refl)

@@ -4,7 +4,7 @@ use Rattle.af_model.specs.State.{EnvironmentState, open_link}
 use Rattle.af_model.specs.Advance.{advance}
 use Rattle.af_state.specs.Deferrals.{has_waiting, OnlyQueues}
 use Rattle.af_state.specs.SharedState.{StandsForSharedState}
-use Rattle.af_core.proofs.advance.advance.Given as goal
+use Rattle.af_core.proofs.advance.advance_all.Given as goal
 
 abbrev pub invariant-loop-shared : goal.invariant-loop-shared
 invariant-loop-shared l = record {

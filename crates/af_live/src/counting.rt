@@ -9,33 +9,43 @@ use af_world::{LinkGot, LinkTook, Ready, Waited};
 pub(crate) fn count_got(got: LinkGot, faults: &mut u64)
     ensures { CountsOne (got ≡ LinkGot.Failed) faults.old faults.new }
 {
-    *faults = faults_after(*faults, got == LinkGot::Failed);
+    if got == LinkGot::Failed {
+        *faults = faults_after(*faults, true);
+    }
 }
 
 /// Counts a write that failed.
 pub(crate) fn count_took(took: LinkTook, faults: &mut u64)
     ensures { CountsOne (took ≡ LinkTook.Failed) faults.old faults.new }
 {
-    *faults = faults_after(*faults, took == LinkTook::Failed);
+    if took == LinkTook::Failed {
+        *faults = faults_after(*faults, true);
+    }
 }
 
 /// Counts a call of a device that failed.
 pub(crate) fn count_put(put: Put, faults: &mut u64)
     ensures { CountsOne (put ≡ Put.Failed) faults.old faults.new }
 {
-    *faults = faults_after(*faults, put == Put::Failed);
+    if put == Put::Failed {
+        *faults = faults_after(*faults, true);
+    }
 }
 
 /// Counts a listen or an attach that failed.
 pub(crate) fn count_ready(ready: Ready, faults: &mut u64)
     ensures { CountsOne (ready ≡ Ready.Failed) faults.old faults.new }
 {
-    *faults = faults_after(*faults, ready == Ready::Failed);
+    if ready == Ready::Failed {
+        *faults = faults_after(*faults, true);
+    }
 }
 
 /// Counts a wait that failed.
 pub(crate) fn count_waited(waited: Waited, faults: &mut u64)
     ensures { CountsOne (waited ≡ Waited.Failed) faults.old faults.new }
 {
-    *faults = faults_after(*faults, waited == Waited::Failed);
+    if waited == Waited::Failed {
+        *faults = faults_after(*faults, true);
+    }
 }

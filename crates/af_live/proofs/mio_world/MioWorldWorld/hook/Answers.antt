@@ -2,7 +2,7 @@ use Rattle.std.proofs.Common.{◌≡◌, ◌≤◌, ap, subst, ◌∙◌}
 use Rattle.std.proofs.Math.Nat.{le_refl}
 use Rattle.af_io.specs.declared.flow.Put.TheVariants.{Failed}
 use Rattle.af_backend.specs.Backends.{all_without_bytes}
-use Rattle.af_lines.specs.HeldLines.{LinesState, all_line_orders, HooksAt}
+use Rattle.af_lines.specs.HeldLines.{all_line_orders, HooksAt}
 use Rattle.af_lines.proofs.LinesLemmas.{hooks_same}
 use Rattle.af_live.specs.Counting.{CountsOne}
 use Rattle.af_live.specs.RealWorld.{RealState}

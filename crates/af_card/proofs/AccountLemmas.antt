@@ -1,7 +1,7 @@
 -- What stands between a device and its program keeps to the acts, act by act.
 use Rattle.std.proofs.Common.{◌≡◌, ℕ, ◌+◌, ◌-◌, ◌*◌, ◌/◌, ◌≤◌, ◌<◌, ◌⊎◌, inl, inr, Bool, true, false, List, [], ◌∷◌, ◌++◌, length, min, take, drop, refl, sym, ap, ◌∙◌, subst, arith, is_some, append_assoc, append-nil, add-zero}
-use Rattle.std.specs.List.{fold}
-use Rattle.std.proofs.lemmas.List.Sums.{fold-append}
+use Rattle.std.specs.Prelude.{⊤, MatchOption}
+use Rattle.std.specs.List.{fold, All}
 use Rattle.std.proofs.lemmas.List.Elements.{All-cons, All-nil}
 use Rattle.std.proofs.Math.Seq.{take-add}
 use Rattle.std.proofs.lemmas.List.{take-append-drop, length-drop, length-take, length-take-le, take_min}
@@ -9,68 +9,67 @@ use Rattle.std.specs.declared.option.Option.{Option}
 use Rattle.std.specs.declared.option.Option.TheVariants.{None, Some}
 use Rattle.af_io.specs.Observed.{Appended, Unchanged}
 use Rattle.af_program.specs.declared.starts.Starts.{Starts}
-use Rattle.af_program.specs.Acts.{ToldAct, gave, took, ended, captured, emitted, runs_in, runs_after}
-use Rattle.af_program.specs.Waits.{NextFits, may_come, begun_once_more, after_end, starts_after_end}
-use Rattle.af_program.proofs.StartLemmas.{begun-fits, next-failed, as-many, ended-fits, next-ended}
+use Rattle.af_program.specs.Acts.{ToldAct, gave, took, ended, captured, emitted, runs_after}
+use Rattle.af_program.specs.Ledger.{Ledger, NowFits, idle_after, ledger_after, ledger_begun, ledger_ended, ledger_failed, on_run, past_after}
+use Rattle.af_program.specs.Waits.{KeepsStarts, may_come, begun_once_more, after_end}
+use Rattle.af_program.proofs.LedgerLemmas.{fits-begun, fits-ended, fits-failed, fits-known, fits-none, holds-on, holds-same, no-run, run-of}
 use Rattle.af_world.specs.declared.card_kind.CardKind.{CardKind}
 use Rattle.af_world.specs.declared.card_kind.CardKind.TheVariants as kind
 use Rattle.af_card.specs.declared.shape.Shape.{Shape}
 use Rattle.af_card.specs.declared.running.Running.{Running}
-use Rattle.af_card.specs.Ledger.{Ledger, Run, new_run, ledger_after, ledger_of, new_ledger, ledger_gave, ledger_took, ledger_captured, ledger_emitted, ledger_ended, ledger_begun, ledger_failed}
+use Rattle.af_card.specs.Ledger.{Run, card_book, ledger_of, new_run}
 use Rattle.af_card.specs.Fed.{RunFits, PastRunFits, HasWholeFrames, CapturedBy, CapturedOf, HandedBy, IsInStep, IsPassed, IsSilent, sound_of}
 use Rattle.af_card.specs.Lost.{lost_of, lost_in, lost_now, lost_before, lost_after, most_lost}
+use Rattle.af_card.specs.Card.{IsFed, RunIsFed}
 use Rattle.af_card.proofs.FedLemmas.{captured-gave, handed-gave, captured-took, handed-took, captured-emitted, emitted-in-step, handed-part, new-run-fits, less-left}
 use Rattle.af_card.proofs.LostLemmas.{new-lost, took-lost, never-lost, untaken-lost, part-lost}
-use Rattle.af_card.specs.Between.{BetweenState, Account, Accounts, RunningFits, began_of, running_since, CapturesBy, EmitsBy, IsWhole, LeavesLess, gives_sound}
+use Rattle.af_card.specs.Between.{BetweenState, Account, Accounts, FitsNow, began_of, running_since, CapturesBy, EmitsBy, IsWhole, LeavesLess, gives_sound}
 
 -- some more acts
 pub Accounts-on : (b b' : BetweenState) (before after : Option (List ToldAct)) (acts : List ToldAct) → Accounts b before → Appended before acts after →
-    ((ledger : Ledger) → Account b ledger → Account b' (fold ledger_after ledger acts)) →
-    ((runs : Bool) → runs ≡ is_some b.running → fold runs_after runs acts ≡ is_some b'.running) → Accounts b' after
-Accounts-on b b' before None acts fits added on runs = tt
-Accounts-on b b' None (Some after) acts fits added on runs = grind arith
-Accounts-on b b' (Some before) (Some after) acts fits added on runs =
-    let ledgers : ledger_of after ≡ fold ledger_after (ledger_of before) acts = ap ledger_of added ∙ fold-append ledger_after new_ledger before acts in
-    let running : runs_in after ≡ fold runs_after (runs_in before) acts = ap runs_in added ∙ fold-append runs_after false before acts in
-    (subst (Account b') (sym ledgers) (on (ledger_of before) fits.0), running ∙ runs (runs_in before) fits.1)
+    ((ledger : Ledger Run) → Account b ledger → Account b' (fold (ledger_after card_book) ledger acts)) →
+    fold runs_after (is_some b.running) acts ≡ is_some b'.running → Accounts b' after
+Accounts-on b b' before after acts = holds-on card_book [] (Account b) (Account b') (is_some b.running) (is_some b'.running) before after acts
 
 -- no act
 pub Accounts-same : (b b' : BetweenState) (before after : Option (List ToldAct)) → Accounts b before → Unchanged before after →
-    ((ledger : Ledger) → Account b ledger → Account b' ledger) → is_some b.running ≡ is_some b'.running → Accounts b' after
-Accounts-same b b' before None fits same on runs = tt
-Accounts-same b b' None (Some after) fits same on runs = grind arith
-Accounts-same b b' (Some before) (Some after) fits same on runs =
-    (subst (λ acts. Account b' (ledger_of acts)) (sym same) (on (ledger_of before) fits.0), ap runs_in same ∙ fits.1 ∙ runs)
+    ((ledger : Ledger Run) → Account b ledger → Account b' ledger) → is_some b.running ≡ is_some b'.running → Accounts b' after
+Accounts-same b b' before after = holds-same card_book [] (Account b) (Account b') (is_some b.running) (is_some b'.running) before after
 
 -- Runs
 
--- while a program runs, the acts have a run for it
-run_of : (b : BetweenState) (r : Running) (now : Option Run) → RunningFits b (Some r) now → (run : Run) × (now ≡ Some run) × RunFits b.shape run b.left b.owed b.tick
-run_of b r None fits = grind arith
-run_of b r (Some run) fits = (run, refl, fits)
+-- the moment at which the program that runs was started stays
+same-began : (b : BetweenState) (r r' : Running) → b.running ≡ Some r → r'.began ≡ r.began → began_of b.running ≡ Some r'.began
+same-began b r r' is began = ap began_of is ∙ ap (λ n. Some n) (sym began)
 
--- something of the run has changed, and of what stands between the two
-Account-run : (b : BetweenState) (r r' : Running) (ledger : Ledger) (left owed : List ℕ) (tick : Option ℕ) (lost : ℕ) (run : Run) → b.running ≡ Some r → r'.began ≡ r.began →
-    Account b ledger → lost ≡ lost_of b.shape (record ledger { running = Some run }) → RunFits b.shape run left owed tick →
-    Account (record b { running = Some r'; left = left; owed = owed; tick = tick; lost = lost }) (record ledger { running = Some run })
-Account-run b r r' ledger left owed tick lost run is began account counts fits = record {
-  past = record { past = account.past.past; idle = account.past.idle };
-  running = fits;
-  starts = account.starts;
-  tried = account.tried;
-  next = subst (λ x. NextFits b.starts x ledger.starts) (ap began_of is ∙ ap (λ n. Some n) (sym began)) account.next;
-  lost = counts;
-}
+-- the run of the program that runs goes on, and so does what stands between the two
+Account-run : (b : BetweenState) (r r' : Running) (ledger : Ledger Run) (left owed : List ℕ) (tick : Option ℕ) (lost : ℕ) (on : Run → Run) (idle : List (List ℕ)) (latest : List ℕ) →
+    b.running ≡ Some r → r'.began ≡ r.began → Account b ledger → All (IsSilent b.shape.silence) idle →
+    ((run : Run) → ledger.running ≡ Some run → FitsNow b run → (lost ≡ lost_of b.shape (record ledger { running = Some (on run) })) × RunFits b.shape (on run) left owed tick) →
+    Account (record b { running = Some r'; left = left; owed = owed; tick = tick; lost = lost }) (record ledger { running = on_run on ledger.running; idle = idle; latest = latest })
+Account-run b r r' ledger left owed tick lost on idle latest is began account silent goes =
+    let now = run-of (FitsNow b) (began_of b.running) r.began ledger.running (ap began_of is) account.fits.now in
+    let gone = goes now.0 now.1 now.2 in
+    subst (λ x. Account (record b { running = Some r'; left = left; owed = owed; tick = tick; lost = lost }) (record ledger { running = on_run on x; idle = idle; latest = latest })) (sym now.1) (record {
+      fits = record {
+        past = account.fits.past;
+        now = gone.1;
+        starts = subst (λ x. KeepsStarts b.starts x ledger.starts) (same-began b r r' is began) account.fits.starts;
+      };
+      idle = silent;
+      none = λ no. grind arith;
+      lost = gone.0;
+    })
 
 -- the count stays if nothing more is lost
-still-lost : (b : BetweenState) (ledger : Ledger) (before after : Run) → Account b ledger → ledger.running ≡ Some before → lost_in b.shape after ≡ lost_in b.shape before →
+still-lost : (b : BetweenState) (ledger : Ledger Run) (before after : Run) → Account b ledger → ledger.running ≡ Some before → lost_in b.shape after ≡ lost_in b.shape before →
     b.lost ≡ lost_of b.shape (record ledger { running = Some after })
 still-lost b ledger before after account is same =
     account.lost ∙ ap (λ now. min (lost_before b.shape ledger.past + lost_now b.shape now) most_lost) is ∙
     ap (λ n. min (lost_before b.shape ledger.past + n) most_lost) (sym same)
 
 -- so many more frames are lost
-more-lost : (b : BetweenState) (ledger : Ledger) (before after : Run) (frames : ℕ) → Account b ledger → ledger.running ≡ Some before →
+more-lost : (b : BetweenState) (ledger : Ledger Run) (before after : Run) (frames : ℕ) → Account b ledger → ledger.running ≡ Some before →
     lost_in b.shape after ≡ lost_in b.shape before + frames → min (b.lost + frames) most_lost ≡ lost_of b.shape (record ledger { running = Some after })
 more-lost b ledger before after frames account is more =
     ap (λ n. min (n + frames) most_lost) (account.lost ∙ ap (λ now. min (lost_before b.shape ledger.past + lost_now b.shape now) most_lost) is) ∙
@@ -82,87 +81,84 @@ more-lost b ledger before after frames account is more =
 -- Given and taken
 
 -- a program that gives sound gave some
-pub Account-gave : (b : BetweenState) (r r' : Running) (bytes : List ℕ) → b.running ≡ Some r → r'.began ≡ r.began → gives_sound b.shape.kind ≡ true → (ledger : Ledger) →
-    Account b ledger → Account (record b { running = Some r'; left = b.left ++ bytes }) (ledger_after ledger (gave bytes))
+pub Account-gave : (b : BetweenState) (r r' : Running) (bytes : List ℕ) → b.running ≡ Some r → r'.began ≡ r.began → gives_sound b.shape.kind ≡ true → (ledger : Ledger Run) →
+    Account b ledger → Account (record b { running = Some r'; left = b.left ++ bytes }) (ledger_after card_book ledger (gave bytes))
 Account-gave b r r' bytes is began gives ledger account =
-    let told = run_of b r ledger.running (subst (λ x. RunningFits b x ledger.running) is account.running) in
-    let run = told.0 in
-    let fits = told.2 in
-    subst (λ now. Account (record b { running = Some r'; left = b.left ++ bytes }) (ledger_gave now ledger bytes)) (sym told.1)
-    (Account-run b r r' ledger (b.left ++ bytes) b.owed b.tick b.lost (record run { given = run.given ++ bytes }) is began account
-    (still-lost b ledger run (record run { given = run.given ++ bytes }) account told.1 refl) (record {
-      captured = captured-gave b.shape.kind b.shape run b.left bytes gives fits.captured;
-      handed = handed-gave b.shape.kind b.shape run b.owed bytes fits.handed;
-      in_step = fits.in_step;
-    }))
+    Account-run b r r' ledger (b.left ++ bytes) b.owed b.tick b.lost (λ run. card_book.gave_on run bytes) ledger.idle ledger.latest is began account account.idle (λ run now fits. (
+      still-lost b ledger run (card_book.gave_on run bytes) account now refl,
+      record {
+        captured = captured-gave b.shape.kind b.shape run b.left bytes gives fits.captured;
+        handed = handed-gave b.shape.kind b.shape run b.owed bytes fits.handed;
+        in_step = fits.in_step;
+      },
+    ))
 
 -- a program took a part of what it is owed
-pub Account-took : (b : BetweenState) (r r' : Running) (count : ℕ) → b.running ≡ Some r → r'.began ≡ r.began → 1 ≤ count → count ≤ length b.owed → (ledger : Ledger) →
-    Account b ledger → Account (record b { running = Some r'; owed = drop count b.owed }) (ledger_after ledger (took (take count b.owed)))
+pub Account-took : (b : BetweenState) (r r' : Running) (count : ℕ) → b.running ≡ Some r → r'.began ≡ r.began → 1 ≤ count → count ≤ length b.owed → (ledger : Ledger Run) →
+    Account b ledger → Account (record b { running = Some r'; owed = drop count b.owed }) (ledger_after card_book ledger (took (take count b.owed)))
 Account-took b r r' count is began some most ledger account =
-    let told = run_of b r ledger.running (subst (λ x. RunningFits b x ledger.running) is account.running) in
-    let run = told.0 in
-    let fits = told.2 in
-    subst (λ now. Account (record b { running = Some r'; owed = drop count b.owed }) (ledger_took now ledger (take count b.owed))) (sym told.1)
-    (Account-run b r r' ledger b.left (drop count b.owed) b.tick b.lost (record run { taken = run.taken ++ take count b.owed }) is began account
-    (still-lost b ledger run (record run { taken = run.taken ++ take count b.owed }) account told.1 (took-lost b.shape run b.left b.owed b.tick count most fits)) (record {
-      captured = captured-took b.shape.kind b.shape run b.left (take count b.owed) fits.captured;
-      handed = handed-took b.shape.kind b.shape run b.owed count some most fits.handed;
-      in_step = fits.in_step;
-    }))
+    Account-run b r r' ledger b.left (drop count b.owed) b.tick b.lost (λ run. card_book.took_on run (take count b.owed)) ledger.idle ledger.latest is began account account.idle (λ run now fits. (
+      still-lost b ledger run (card_book.took_on run (take count b.owed)) account now (took-lost b.shape run b.left b.owed b.tick count most fits),
+      record {
+        captured = captured-took b.shape.kind b.shape run b.left (take count b.owed) fits.captured;
+        handed = handed-took b.shape.kind b.shape run b.owed count some most fits.handed;
+        in_step = fits.in_step;
+      },
+    ))
 
 -- nothing of the run has changed
-pub Account-knows : (b : BetweenState) (r r' : Running) → b.running ≡ Some r → r'.began ≡ r.began → (ledger : Ledger) → Account b ledger → Account (record b { running = Some r' }) ledger
+pub Account-knows : (b : BetweenState) (r r' : Running) → b.running ≡ Some r → r'.began ≡ r.began → (ledger : Ledger Run) → Account b ledger → Account (record b { running = Some r' }) ledger
 Account-knows b r r' is began ledger account = record {
-  past = account.past;
-  running = knows ledger.running (subst (λ x. RunningFits b x ledger.running) is account.running);
-  starts = account.starts;
-  tried = account.tried;
-  next = subst (λ x. NextFits b.starts x ledger.starts) (ap began_of is ∙ ap (λ n. Some n) (sym began)) account.next;
+  fits = fits-known (PastRunFits b.shape) (FitsNow b) (FitsNow b) b.starts (began_of b.running) (Some r'.began) ledger (same-began b r r' is began) (λ run fits. fits) account.fits;
+  idle = account.idle;
+  none = λ no. grind arith;
   lost = account.lost;
-} where
-  knows : (now : Option Run) → RunningFits b (Some r) now → RunningFits (record b { running = Some r' }) (Some r') now
-  knows None fits = grind arith
-  knows (Some run) fits = fits
+}
+
+-- While none runs
+
+-- the acts have no run
+no-run-of : (b : BetweenState) (ledger : Ledger Run) → b.running ≡ None → Account b ledger → ledger.running ≡ None
+no-run-of b ledger none account = no-run (FitsNow b) (began_of b.running) ledger.running (ap began_of none) account.fits.now
+
+-- the sound of a tick changes nothing but what is idle
+Account-none : (b : BetweenState) (tick : Option ℕ) (ledger : Ledger Run) (on : Run → Run) (idle : List (List ℕ)) (latest : List ℕ) → b.running ≡ None →
+    All (IsSilent b.shape.silence) idle → Account b ledger → Account (record b { tick = tick }) (record ledger { running = on_run on ledger.running; idle = idle; latest = latest })
+Account-none b tick ledger on idle latest none silent account =
+    let no = no-run-of b ledger none account in
+    record {
+      fits = fits-none (PastRunFits b.shape) (FitsNow b) (FitsNow (record b { tick = tick })) b.starts (began_of b.running) ledger on idle latest (ap began_of none) account.fits;
+      idle = silent;
+      none = account.none;
+      lost = account.lost ∙ ap (λ now. min (lost_before b.shape ledger.past + lost_now b.shape now) most_lost) (no ∙ sym (ap (on_run on) no));
+    }
 
 -- Captured
 
 -- a tick is captured in which no program runs
-pub Account-idle : (b : BetweenState) (sound : List ℕ) (tick : Option ℕ) → b.running ≡ None → IsSilent b.shape.silence sound → (ledger : Ledger) → Account b ledger →
-    Account (record b { tick = tick }) (ledger_after ledger (captured sound))
-Account-idle b sound tick none silent ledger account = idle ledger.running refl (subst (λ x. RunningFits b x ledger.running) none account.running) where
-  unchanged : (now : Option Run) → RunningFits b None now → RunningFits (record b { tick = tick }) None now
-  unchanged None fits = fits
-  unchanged (Some run) fits = fits
-
-  idle : (now : Option Run) → ledger.running ≡ now → RunningFits b None now → Account (record b { tick = tick }) (ledger_captured ledger.running ledger sound)
-  idle (Some run) is fits = grind arith
-  idle None is fits = subst (λ x. Account (record b { tick = tick }) (ledger_captured x ledger sound)) (sym is) (record {
-    past = record { past = account.past.past; idle = All-cons (IsSilent b.shape.silence) sound ledger.idle silent account.past.idle };
-    running = subst (λ x. RunningFits (record b { tick = tick }) x ledger.running) (sym none) (subst (λ x. RunningFits (record b { tick = tick }) None x) (sym is) fits);
-    starts = account.starts;
-    tried = account.tried;
-    next = account.next;
-    lost = account.lost;
-  })
+pub Account-idle : (b : BetweenState) (sound : List ℕ) (tick : Option ℕ) → b.running ≡ None → IsSilent b.shape.silence sound → (ledger : Ledger Run) → Account b ledger →
+    Account (record b { tick = tick }) (ledger_after card_book ledger (captured sound))
+Account-idle b sound tick none silent ledger account =
+    Account-none b tick ledger (λ run. card_book.captured_on run sound) (idle_after ledger.running sound ledger.idle) ledger.latest none
+    (subst (λ now. All (IsSilent b.shape.silence) (idle_after now sound ledger.idle)) (sym (no-run-of b ledger none account))
+    (All-cons (IsSilent b.shape.silence) sound ledger.idle silent account.idle)) account
 
 -- a sound of a tick is captured of a run
-Account-captured : (b : BetweenState) (r : Running) (sound left : List ℕ) → b.running ≡ Some r → b.tick ≡ None → (ledger : Ledger) → Account b ledger →
+Account-captured : (b : BetweenState) (r : Running) (sound left : List ℕ) → b.running ≡ Some r → b.tick ≡ None → (ledger : Ledger Run) → Account b ledger →
     ((run : Run) → CapturedBy b.shape.kind b.shape run b.left → CapturedBy b.shape.kind b.shape (record run { captured = sound ∷ run.captured }) left) →
-    Account (record b { left = left; tick = Some (length sound) }) (ledger_after ledger (captured sound))
+    Account (record b { left = left; tick = Some (length sound) }) (ledger_after card_book ledger (captured sound))
 Account-captured b r sound left is tick ledger account on =
-    let told = run_of b r ledger.running (subst (λ x. RunningFits b x ledger.running) is account.running) in
-    let run = told.0 in
-    let fits = told.2 in
-    let between : Account (record b { running = Some r; left = left; owed = b.owed; tick = Some (length sound) }) (record ledger { running = Some (record run { captured = sound ∷ run.captured }) })
-    = Account-run b r r ledger left b.owed (Some (length sound)) b.lost (record run { captured = sound ∷ run.captured }) is refl account
-    (still-lost b ledger run (record run { captured = sound ∷ run.captured }) account told.1 refl) (record {
-      captured = on run fits.captured;
-      handed = handed-captured b.shape.kind b.shape run b.owed sound fits.handed;
-      in_step = (refl, subst (λ x. IsInStep x run.captured run.emitted) tick fits.in_step);
-    }) in
-    subst (λ now. Account (record b { left = left; tick = Some (length sound) }) (ledger_captured now ledger sound)) (sym told.1)
-    (subst (λ x. Account (record b { running = x; left = left; tick = Some (length sound) }) (record ledger { running = Some (record run { captured = sound ∷ run.captured }) })) (sym is) between)
+    let told = run-of (FitsNow b) (began_of b.running) r.began ledger.running (ap began_of is) account.fits.now in
+    subst (λ x. Account (record b { running = x; left = left; tick = Some (length sound) }) (ledger_after card_book ledger (captured sound))) (sym is)
+    (Account-run b r r ledger left b.owed (Some (length sound)) b.lost (λ run. card_book.captured_on run sound) (idle_after ledger.running sound ledger.idle) ledger.latest is refl account
+    (subst (λ now. All (IsSilent b.shape.silence) (idle_after now sound ledger.idle)) (sym told.1) account.idle) (λ run now fits. (
+      still-lost b ledger run (card_book.captured_on run sound) account now refl,
+      record {
+        captured = on run fits.captured;
+        handed = handed-captured b.shape.kind b.shape run b.owed sound fits.handed;
+        in_step = (refl, subst (λ x. IsInStep x run.captured run.emitted) tick fits.in_step);
+      },
+    )))
   where
     handed-captured : (k : CardKind) (shape : Shape) (run : Run) (owed sound : List ℕ) → HandedBy k shape run owed → HandedBy k shape (record run { captured = sound ∷ run.captured }) owed
     handed-captured kind.Speaker shape run owed sound h = record { all = h.all; piece_at_most = h.piece_at_most }
@@ -171,7 +167,7 @@ Account-captured b r sound left is tick ledger account on =
 
 -- a loudspeaker captures silence
 pub Account-silent : (b : BetweenState) (r : Running) (sound : List ℕ) → b.running ≡ Some r → b.tick ≡ None → gives_sound b.shape.kind ≡ false →
-    IsSilent b.shape.silence sound → (ledger : Ledger) → Account b ledger → Account (record b { tick = Some (length sound) }) (ledger_after ledger (captured sound))
+    IsSilent b.shape.silence sound → (ledger : Ledger Run) → Account b ledger → Account (record b { tick = Some (length sound) }) (ledger_after card_book ledger (captured sound))
 Account-silent b r sound is tick speaker silent ledger account =
     Account-captured b r sound b.left is tick ledger account (λ run c. silently b.shape.kind speaker run c) where
       silently : (k : CardKind) → gives_sound k ≡ false → (run : Run) → CapturedBy k b.shape run b.left → CapturedBy k b.shape (record run { captured = sound ∷ run.captured }) b.left
@@ -181,8 +177,8 @@ Account-silent b r sound is tick speaker silent ledger account =
 
 -- what a program gave is captured from its front
 pub Account-front : (b : BetweenState) (r : Running) (bytes : ℕ) → b.running ≡ Some r → b.tick ≡ None → gives_sound b.shape.kind ≡ true →
-    CapturesBy b.shape.kind b.shape b.left bytes → (ledger : Ledger) → Account b ledger →
-    Account (record b { left = drop bytes b.left; tick = Some (length (take bytes b.left)) }) (ledger_after ledger (captured (take bytes b.left)))
+    CapturesBy b.shape.kind b.shape b.left bytes → (ledger : Ledger Run) → Account b ledger →
+    Account (record b { left = drop bytes b.left; tick = Some (length (take bytes b.left)) }) (ledger_after card_book ledger (captured (take bytes b.left)))
 Account-front b r bytes is tick gives can ledger account =
     Account-captured b r (take bytes b.left) (drop bytes b.left) is tick ledger account (λ run c. front b.shape.kind gives can run c) where
       sound : List ℕ
@@ -204,22 +200,12 @@ Account-front b r bytes is tick gives can ledger account =
 -- Emitted
 
 -- a tick is emitted in which no program runs
-pub Account-idles : (b : BetweenState) (sound : List ℕ) → b.running ≡ None → (ledger : Ledger) → Account b ledger → Account (record b { tick = None }) (ledger_after ledger (emitted sound))
-Account-idles b sound none ledger account = idles ledger.running refl (subst (λ x. RunningFits b x ledger.running) none account.running) where
-  idles : (now : Option Run) → ledger.running ≡ now → RunningFits b None now → Account (record b { tick = None }) (ledger_emitted ledger.running ledger sound)
-  idles (Some run) is fits = grind arith
-  idles None is fits = subst (λ x. Account (record b { tick = None }) (ledger_emitted x ledger sound)) (sym is) (record {
-    past = account.past;
-    running = subst (λ x. RunningFits (record b { tick = None }) x ledger.running) (sym none) (subst (λ x. RunningFits (record b { tick = None }) None x) (sym is) fits);
-    starts = account.starts;
-    tried = account.tried;
-    next = account.next;
-    lost = account.lost;
-  })
+pub Account-idles : (b : BetweenState) (sound : List ℕ) → b.running ≡ None → (ledger : Ledger Run) → Account b ledger → Account (record b { tick = None }) (ledger_after card_book ledger (emitted sound))
+Account-idles b sound none ledger account = Account-none b None ledger (λ run. card_book.emitted_on run sound) ledger.idle sound none account.idle account
 
 -- the count after one more sound was emitted to a program
 abbrev pub CountsMore : BetweenState → List ℕ → ℕ → Type 0
-CountsMore b sound lost = (ledger : Ledger) (run : Run) → Account b ledger → ledger.running ≡ Some run → RunFits b.shape run b.left b.owed (Some (length sound)) →
+CountsMore b sound lost = (ledger : Ledger Run) (run : Run) → Account b ledger → ledger.running ≡ Some run → RunFits b.shape run b.left b.owed (Some (length sound)) →
     lost ≡ lost_of b.shape (record ledger { running = Some (record run { emitted = sound ∷ run.emitted }) })
 
 -- only a card loses sound
@@ -236,120 +222,109 @@ counts-all b sound card ledger run account is fits =
 -- a tick is emitted to a run, and nothing of it is taken now
 pub Account-untaken : (b : BetweenState) (r r' : Running) (sound owed : List ℕ) (lost : ℕ) → b.running ≡ Some r → r'.began ≡ r.began → b.tick ≡ Some (length sound) →
     ((run : Run) → HandedBy b.shape.kind b.shape run b.owed → HandedBy b.shape.kind b.shape (record run { emitted = sound ∷ run.emitted }) owed) → CountsMore b sound lost →
-    (ledger : Ledger) → Account b ledger → Account (record b { running = Some r'; owed = owed; tick = None; lost = lost }) (ledger_after ledger (emitted sound))
+    (ledger : Ledger Run) → Account b ledger → Account (record b { running = Some r'; owed = owed; tick = None; lost = lost }) (ledger_after card_book ledger (emitted sound))
 Account-untaken b r r' sound owed lost is began tick on counts ledger account =
-    let now = run_of b r ledger.running (subst (λ x. RunningFits b x ledger.running) is account.running) in
-    let run = now.0 in
-    let fits = now.2 in
-    subst (λ x. Account (record b { running = Some r'; owed = owed; tick = None; lost = lost }) (ledger_emitted x ledger sound)) (sym now.1)
-    (Account-run b r r' ledger b.left owed None lost (record run { emitted = sound ∷ run.emitted }) is began account
-    (counts ledger run account now.1 (subst (λ x. RunFits b.shape run b.left b.owed x) tick fits)) (record {
-      captured = captured-emitted b.shape.kind b.shape run b.left sound fits.captured;
-      handed = on run fits.handed;
-      in_step = emitted-in-step (length sound) sound run.captured run.emitted refl (subst (λ x. IsInStep x run.captured run.emitted) tick fits.in_step);
-    }))
+    Account-run b r r' ledger b.left owed None lost (λ run. card_book.emitted_on run sound) ledger.idle sound is began account account.idle (λ run now fits. (
+      counts ledger run account now (subst (λ x. RunFits b.shape run b.left b.owed x) tick fits),
+      record {
+        captured = captured-emitted b.shape.kind b.shape run b.left sound fits.captured;
+        handed = on run fits.handed;
+        in_step = emitted-in-step (length sound) sound run.captured run.emitted refl (subst (λ x. IsInStep x run.captured run.emitted) tick fits.in_step);
+      },
+    ))
 
 -- a card takes a first part of the sound of a tick
 pub Account-passed : (b : BetweenState) (r r' : Running) (sound : List ℕ) (count rest frames : ℕ) → b.running ≡ Some r → r'.began ≡ r.began → b.tick ≡ Some (length sound) →
-    b.shape.kind ≡ kind.Card → b.owed ≡ [] → count ≤ length sound → rest < b.shape.frame_bytes → count + rest ≡ frames * b.shape.frame_bytes → (ledger : Ledger) →
+    b.shape.kind ≡ kind.Card → b.owed ≡ [] → count ≤ length sound → rest < b.shape.frame_bytes → count + rest ≡ frames * b.shape.frame_bytes → (ledger : Ledger Run) →
     Account b ledger →
     Account (record b {
       running = Some r';
       owed = take (min rest (length sound - count)) (drop count sound);
       tick = None;
       lost = lost_after b.lost (length sound - count - length (take (min rest (length sound - count)) (drop count sound))) b.shape.frame_bytes;
-    }) (ledger_after (ledger_after ledger (emitted sound)) (took (take count sound)))
+    }) (ledger_after card_book (ledger_after card_book ledger (emitted sound)) (took (take count sound)))
 Account-passed b r r' sound count rest frames is began tick card none most less whole ledger account =
-    let now = run_of b r ledger.running (subst (λ x. RunningFits b x ledger.running) is account.running) in
-    let run = now.0 in
-    let fits = now.2 in
     let owed = take (min rest (length sound - count)) (drop count sound) in
     let without = (length sound - count - length owed) / b.shape.frame_bytes in
-    let after : Run = record run { emitted = sound ∷ run.emitted; taken = run.taken ++ take count sound } in
-    let fitted : RunFits b.shape run b.left [] (Some (length sound)) = subst (λ x. RunFits b.shape run b.left x (Some (length sound))) none (subst (λ x. RunFits b.shape run b.left b.owed x) tick fits) in
-    subst (λ x. Account (record b { running = Some r'; owed = owed; tick = None; lost = min (b.lost + without) most_lost })
-    (ledger_took (ledger_emitted x ledger sound).running (ledger_emitted x ledger sound) (take count sound))) (sym now.1)
-    (Account-run b r r' ledger b.left owed None (min (b.lost + without) most_lost) after is began account
-    (more-lost b ledger run after without account now.1 (part-lost b.shape run b.left sound count rest frames card most less whole fitted)) (record {
-      captured = captured-took b.shape.kind b.shape (record run { emitted = sound ∷ run.emitted }) b.left (take count sound) (captured-emitted b.shape.kind b.shape run b.left sound fits.captured);
-      handed = handed-part b.shape.kind card b.shape run sound count rest frames most less whole (subst (HandedBy b.shape.kind b.shape run) none fits.handed);
-      in_step = emitted-in-step (length sound) sound run.captured run.emitted refl (subst (λ x. IsInStep x run.captured run.emitted) tick fits.in_step);
-    }))
+    let on : Run → Run = λ run. card_book.took_on (card_book.emitted_on run sound) (take count sound) in
+    subst (λ x. Account (record b { running = Some r'; owed = owed; tick = None; lost = min (b.lost + without) most_lost }) (record ledger { running = x; latest = sound }))
+    (on-twice (λ run. card_book.emitted_on run sound) (λ run. card_book.took_on run (take count sound)) ledger.running)
+    (Account-run b r r' ledger b.left owed None (min (b.lost + without) most_lost) on ledger.idle sound is began account account.idle (λ run now fits.
+    let fitted : RunFits b.shape run b.left [] (Some (length sound)) = subst (λ x. RunFits b.shape run b.left x (Some (length sound))) none (subst (λ x. RunFits b.shape run b.left b.owed x) tick fits) in (
+      more-lost b ledger run (on run) without account now (part-lost b.shape run b.left sound count rest frames card most less whole fitted),
+      record {
+        captured = captured-took b.shape.kind b.shape (card_book.emitted_on run sound) b.left (take count sound) (captured-emitted b.shape.kind b.shape run b.left sound fits.captured);
+        handed = handed-part b.shape.kind card b.shape run sound count rest frames most less whole (subst (HandedBy b.shape.kind b.shape run) none fits.handed);
+        in_step = emitted-in-step (length sound) sound run.captured run.emitted refl (subst (λ x. IsInStep x run.captured run.emitted) tick fits.in_step);
+      },
+    )))
+  where
+    on-twice : (f g : Run → Run) (now : Option Run) → on_run (λ run. g (f run)) now ≡ on_run g (on_run f now)
+    on-twice f g None = refl
+    on-twice f g (Some run) = refl
 
 -- Starts
 
--- the acts have a run exactly if a program runs
-none_of : (b : BetweenState) (now : Option Run) → RunningFits b None now → now ≡ None
-none_of b None fits = refl
-none_of b (Some run) fits = grind arith
-
-empty_of : (b : BetweenState) (now : Option Run) → RunningFits b None now → (b.left ≡ []) × (b.owed ≡ [])
-empty_of b None fits = fits
-empty_of b (Some run) fits = grind arith
-
 -- a program begins to run
 pub Account-begun : (b : BetweenState) (at : ℕ) (starts : Starts) → 1 ≤ b.shape.frame_bytes → b.running ≡ None → may_come b.starts at ≡ true → starts ≡ begun_once_more b.starts → b.tick ≡ None →
-    (ledger : Ledger) → Account b ledger → Account (record b { running = Some (running_since at); starts = starts }) (ledger_begun ledger at)
+    (ledger : Ledger Run) → Account b ledger → Account (record b { running = Some (running_since at); starts = starts }) (ledger_begun ledger at new_run)
 Account-begun b at starts some none may begun tick ledger account =
-    let empty = empty_of b ledger.running (subst (λ x. RunningFits b x ledger.running) none account.running) in
-    let next : NextFits b.starts None ledger.starts = subst (λ x. NextFits b.starts (began_of x) ledger.starts) none account.next in
-    subst (λ s. Account (record b { running = Some (running_since at); starts = s }) (ledger_begun ledger at)) (sym begun) (record {
-      past = record { past = account.past.past; idle = account.past.idle };
-      running = subst (λ x. RunFits b.shape new_run x b.owed b.tick) (sym empty.0) (subst (λ x. RunFits b.shape new_run [] x b.tick) (sym empty.1)
-          (subst (λ x. RunFits b.shape new_run [] [] x) (sym tick) (new-run-fits b.shape.kind b.shape refl some)));
-      starts = begun-fits b.starts ledger.starts at None account.tried may next account.starts;
-      tried = let tried = account.tried in grind arith;
-      next = (refl, refl, next.0);
-      lost = account.lost ∙ ap (λ now. min (lost_before b.shape ledger.past + lost_now b.shape now) most_lost)
-          (none_of b ledger.running (subst (λ x. RunningFits b x ledger.running) none account.running)) ∙
+    let empty = account.none none in
+    let new : FitsNow b new_run = subst (λ x. RunFits b.shape new_run x b.owed b.tick) (sym empty.0) (subst (λ x. RunFits b.shape new_run [] x b.tick) (sym empty.1)
+    (subst (λ x. RunFits b.shape new_run [] [] x) (sym tick) (new-run-fits b.shape.kind b.shape refl some))) in
+    subst (λ s. Account (record b { running = Some (running_since at); starts = s }) (ledger_begun ledger at new_run)) (sym begun) (record {
+      fits = fits-begun (PastRunFits b.shape) (FitsNow b) (FitsNow b) b.starts (began_of b.running) ledger at new_run (ap began_of none) may new account.fits;
+      idle = account.idle;
+      none = λ no. grind arith;
+      lost = account.lost ∙ ap (λ now. min (lost_before b.shape ledger.past + lost_now b.shape now) most_lost) (no-run-of b ledger none account) ∙
           ap (λ n. min (lost_before b.shape ledger.past + n) most_lost) (sym (new-lost b.shape));
     })
 
 -- a start fails
 pub Account-failed : (b : BetweenState) (at : ℕ) (starts : Starts) → b.running ≡ None → may_come b.starts at ≡ true → starts ≡ after_end (begun_once_more b.starts) at at →
-    (ledger : Ledger) → Account b ledger → Account (record b { starts = starts }) (ledger_failed ledger at)
+    (ledger : Ledger Run) → Account b ledger → Account (record b { starts = starts }) (ledger_failed ledger at)
 Account-failed b at starts none may failed ledger account =
-    let next : NextFits b.starts None ledger.starts = subst (λ x. NextFits b.starts (began_of x) ledger.starts) none account.next in
     subst (λ s. Account (record b { starts = s }) (ledger_failed ledger at)) (sym failed) (record {
-      past = record { past = account.past.past; idle = account.past.idle };
-      running = unchanged ledger.running account.running;
-      starts = begun-fits b.starts ledger.starts at (Some at) account.tried may next account.starts;
-      tried = let is = account.tried in grind arith;
-      next = subst (λ x. NextFits (after_end (begun_once_more b.starts) at at) (began_of x) (record { began = at; ended = Some at } ∷ ledger.starts)) (sym none)
-          (next-failed b.starts at ledger.starts account.tried next);
+      fits = fits-failed (PastRunFits b.shape) (FitsNow b) (FitsNow b) b.starts (began_of b.running) ledger at (ap began_of none) may account.fits;
+      idle = account.idle;
+      none = account.none;
       lost = account.lost;
     })
-  where
-    unchanged : (now : Option Run) → RunningFits b b.running now → RunningFits (record b { starts = after_end (begun_once_more b.starts) at at }) b.running now
-    unchanged now fits = same b.running now fits where
-      same : (r : Option Running) (now : Option Run) → RunningFits b r now → RunningFits (record b { starts = after_end (begun_once_more b.starts) at at }) r now
-      same None None fits = fits
-      same None (Some run) fits = fits
-      same (Some r) None fits = fits
-      same (Some r) (Some run) fits = fits
 
 -- the program that runs has ended
 pub Account-ended : (b : BetweenState) (r : Running) (at : ℕ) (starts : Starts) → b.running ≡ Some r → b.tick ≡ None → 1 ≤ b.shape.frame_bytes → LeavesLess b.shape.kind b.shape b.left →
-    starts ≡ after_end b.starts r.began at → (ledger : Ledger) → Account b ledger →
-    Account (record b { running = None; left = []; owed = []; starts = starts }) (ledger_after ledger (ended at))
+    starts ≡ after_end b.starts r.began at → (ledger : Ledger Run) → Account b ledger →
+    Account (record b { running = None; left = []; owed = []; starts = starts }) (ledger_after card_book ledger (ended at))
 Account-ended b r at starts is tick some less after ledger account =
-    let told = run_of b r ledger.running (subst (λ x. RunningFits b x ledger.running) is account.running) in
-    let run = told.0 in
-    let fits = told.2 in
-    let past : PastRunFits b.shape run = (
+    let now = run-of (FitsNow b) (began_of b.running) r.began ledger.running (ap began_of is) account.fits.now in
+    let past : (run : Run) → FitsNow b run → PastRunFits b.shape run = λ run fits. (
       b.left,
       b.owed,
       subst (λ x. RunFits b.shape run b.left b.owed x) tick fits,
       less-left b.shape.kind b.shape run b.left some less fits.captured,
     ) in
-    subst (λ now. Account (record b { running = None; left = []; owed = []; starts = starts }) (ledger_ended now ledger at)) (sym told.1)
-    (subst (λ s. Account (record b { running = None; left = []; owed = []; starts = s })
-    (record ledger { running = None; past = run ∷ ledger.past; starts = starts_after_end ledger.starts at })) (sym after) (record {
-      past = record { past = All-cons (PastRunFits b.shape) run ledger.past past account.past.past; idle = account.past.idle };
-      running = (refl, refl);
-      starts = ended-fits b.starts.restarts ledger.starts at account.starts;
-      tried = account.tried ∙ as-many ledger.starts at;
-      next = next-ended b.starts r.began at ledger.starts account.tried (subst (λ x. NextFits b.starts (began_of x) ledger.starts) is account.next);
-      lost = account.lost ∙ ap (λ now. min (lost_before b.shape ledger.past + lost_now b.shape now) most_lost) told.1 ∙
-          ap (λ n. min n most_lost) (sym (add-zero (lost_before b.shape ledger.past + lost_in b.shape run)));
-    }))
+    let after_all : BetweenState = record b { running = None; left = []; owed = [] } in
+    subst (λ s. Account (record after_all { starts = s }) (ledger_ended ledger at)) (sym after) (record {
+      fits = fits-ended (PastRunFits b.shape) (FitsNow b) (FitsNow after_all) b.starts (began_of b.running) r.began ledger at (ap began_of is) past account.fits;
+      idle = account.idle;
+      none = λ no. (refl, refl);
+      lost = subst (λ x. b.lost ≡ min (lost_before b.shape (past_after x ledger.past) + 0) most_lost) (sym now.1) (account.lost ∙
+          ap (λ x. min (lost_before b.shape ledger.past + lost_now b.shape x) most_lost) now.1 ∙
+          ap (λ n. min n most_lost) (sym (add-zero (lost_before b.shape ledger.past + lost_in b.shape now.0))));
+    })
+
+-- the promise
+
+fed-now : (b : BetweenState) (began : Option ℕ) (now : Option Run) → NowFits (FitsNow b) began now → RunIsFed b.shape now
+fed-now b began None fits = tt
+fed-now b None (Some run) fits = absurd fits
+fed-now b (Some began) (Some run) fits = (b.left, b.owed, b.tick, fits)
+
+-- what fits the acts keeps to the promise
+pub fed-where : (b : BetweenState) (acts : Option (List ToldAct)) → Accounts b acts → MatchOption acts ⊤ (λ told. IsFed b.shape b.starts.restarts told)
+fed-where b None fits = tt
+fed-where b (Some acts) fits = record {
+  past = record { past = fits.0.fits.past; idle = fits.0.idle };
+  now = fed-now b (began_of b.running) (ledger_of acts).running fits.0.fits.now;
+  starts = fits.0.fits.starts.fit;
+}

@@ -4,7 +4,7 @@ use Rattle.std.proofs.Math.Nat.{div-add-mod}
 use Rattle.std.specs.declared.option.Option.{Option}
 use Rattle.std.specs.declared.option.Option.TheVariants.{None, Some}
 use Rattle.af_io.specs.Observed.{Appended, Unchanged}
-use Rattle.af_io.proofs.AppendedLemmas.{appended_on}
+use Rattle.af_io.proofs.AppendedLemmas.{appended_on, stays_same}
 use Rattle.af_program.specs.declared.program.Gave.{Gave}
 use Rattle.af_program.specs.declared.program.Gave.TheVariants as gives
 use Rattle.af_program.specs.declared.program.Took.{Took}
@@ -30,7 +30,7 @@ pub Accounts-taken : (b : BetweenState) (r r' : Running) (result : Gave) (left :
 Accounts-taken b r r' (gives.Bytes n) left acts acts' is began sound into fits =
     subst (λ x. Accounts (record b { running = Some r'; left = x }) acts') (sym into.1)
     (Accounts-on b (record b { running = Some r'; left = b.left ++ into.0 }) acts acts' (gave into.0 ∷ []) fits into.2
-    (Account-gave b r r' into.0 is began sound) (λ runs same. same ∙ ap is_some is))
+    (Account-gave b r r' into.0 is began sound) (ap is_some is))
 Accounts-taken b r r' gives.NotYet left acts acts' is began sound into fits =
     subst (λ x. Accounts (record b { running = Some r'; left = x }) acts') (sym into.0)
     (Accounts-same b (record b { running = Some r' }) acts acts' fits into.1 (Account-knows b r r' is began) (ap is_some is))
@@ -43,7 +43,7 @@ pub Accounts-given : (b : BetweenState) (r r' : Running) (result : Took) (owed :
 Accounts-given b r r' (takes.Bytes n) owed acts acts' is began given fits =
     subst (λ x. Accounts (record b { running = Some r'; owed = x }) acts') (sym given.2)
     (Accounts-on b (record b { running = Some r'; owed = drop n b.owed }) acts acts' (took (take n b.owed) ∷ []) fits given.3
-    (Account-took b r r' n is began given.0 given.1) (λ runs same. same ∙ ap is_some is))
+    (Account-took b r r' n is began given.0 given.1) (ap is_some is))
 Accounts-given b r r' takes.NoRoom owed acts acts' is began given fits =
     subst (λ x. Accounts (record b { running = Some r'; owed = x }) acts') (sym given.0)
     (Accounts-same b (record b { running = Some r' }) acts acts' fits given.1 (Account-knows b r r' is began) (ap is_some is))
@@ -51,24 +51,28 @@ Accounts-given b r r' takes.Ended owed acts acts' is began given fits =
     subst (λ x. Accounts (record b { running = Some r'; owed = x }) acts') (sym given.0)
     (Accounts-same b (record b { running = Some r' }) acts acts' fits given.1 (Account-knows b r r' is began) (ap is_some is))
 
+-- only what is known of the program that runs has changed
+pub Accounts-known : (b : BetweenState) (r r' : Running) (acts : Option (List ToldAct)) → b.running ≡ Some r → r'.began ≡ r.began → Accounts b acts → Accounts (record b { running = Some r' }) acts
+Accounts-known b r r' acts is began fits = Accounts-same b (record b { running = Some r' }) acts acts fits (stays_same acts) (Account-knows b r r' is began) (ap is_some is)
+
 -- the sound of a tick is captured
 
 pub Accounts-idle : (b : BetweenState) (sound : List ℕ) (tick : Option ℕ) (acts acts' : Option (List ToldAct)) → b.running ≡ None → IsSilent b.shape.silence sound →
     Appended acts (captured sound ∷ []) acts' → Accounts b acts → Accounts (record b { tick = tick }) acts'
 Accounts-idle b sound tick acts acts' none silent told fits =
-    Accounts-on b (record b { tick = tick }) acts acts' (captured sound ∷ []) fits told (Account-idle b sound tick none silent) (λ runs same. same)
+    Accounts-on b (record b { tick = tick }) acts acts' (captured sound ∷ []) fits told (Account-idle b sound tick none silent) refl
 
 pub Accounts-silent : (b : BetweenState) (r : Running) (sound : List ℕ) (acts acts' : Option (List ToldAct)) → b.running ≡ Some r → b.tick ≡ None → gives_sound b.shape.kind ≡ false →
     IsSilent b.shape.silence sound → Appended acts (captured sound ∷ []) acts' → Accounts b acts → Accounts (record b { tick = Some (length sound) }) acts'
 Accounts-silent b r sound acts acts' is tick none silent told fits =
-    Accounts-on b (record b { tick = Some (length sound) }) acts acts' (captured sound ∷ []) fits told (Account-silent b r sound is tick none silent) (λ runs same. same)
+    Accounts-on b (record b { tick = Some (length sound) }) acts acts' (captured sound ∷ []) fits told (Account-silent b r sound is tick none silent) refl
 
 pub Accounts-front : (b : BetweenState) (r : Running) (bytes : ℕ) (acts acts' : Option (List ToldAct)) → b.running ≡ Some r → b.tick ≡ None → gives_sound b.shape.kind ≡ true →
     CapturesBy b.shape.kind b.shape b.left bytes → Appended acts (captured (take bytes b.left) ∷ []) acts' → Accounts b acts →
     Accounts (record b { left = drop bytes b.left; tick = Some (length (take bytes b.left)) }) acts'
 Accounts-front b r bytes acts acts' is tick sound can told fits =
     Accounts-on b (record b { left = drop bytes b.left; tick = Some (length (take bytes b.left)) }) acts acts' (captured (take bytes b.left) ∷ []) fits told
-    (Account-front b r bytes is tick sound can) (λ runs same. same)
+    (Account-front b r bytes is tick sound can) refl
 
 -- the sound of a tick is emitted
 
@@ -78,7 +82,7 @@ pub Accounts-owed : (b : BetweenState) (r : Running) (sound : List ℕ) (acts ac
 Accounts-owed b r sound acts acts' is tick speaker can told fits =
     Accounts-on b (record b { running = Some r; owed = b.owed ++ sound; tick = None }) acts acts' (emitted sound ∷ []) fits told
     (Account-untaken b r r sound (b.owed ++ sound) b.lost is refl tick (λ run. handed-piece b.shape.kind speaker b.shape run b.owed sound can) (counts-none b sound (inl speaker)))
-    (λ runs same. same ∙ ap is_some is)
+    (ap is_some is)
 
 pub Accounts-lost : (b : BetweenState) (r r' : Running) (sound : List ℕ) (acts acts' : Option (List ToldAct)) → b.running ≡ Some r → r'.began ≡ r.began → b.tick ≡ Some (length sound) →
     b.shape.kind ≡ kind.Card → Appended acts (emitted sound ∷ []) acts' → Accounts b acts →
@@ -86,19 +90,19 @@ pub Accounts-lost : (b : BetweenState) (r r' : Running) (sound : List ℕ) (acts
 Accounts-lost b r r' sound acts acts' is began tick card told fits =
     Accounts-on b (record b { running = Some r'; tick = None; lost = lost_after b.lost (length sound) b.shape.frame_bytes }) acts acts' (emitted sound ∷ []) fits told
     (Account-untaken b r r' sound b.owed (lost_after b.lost (length sound) b.shape.frame_bytes) is began tick
-    (λ run. handed-lost b.shape.kind card b.shape run b.owed sound) (counts-all b sound card)) (λ runs same. same ∙ ap is_some is)
+    (λ run. handed-lost b.shape.kind card b.shape run b.owed sound) (counts-all b sound card)) (ap is_some is)
 
 pub Accounts-unheard : (b : BetweenState) (r : Running) (sound : List ℕ) (acts acts' : Option (List ToldAct)) → b.running ≡ Some r → b.tick ≡ Some (length sound) →
     b.shape.kind ≡ kind.Microphone → Appended acts (emitted sound ∷ []) acts' → Accounts b acts → Accounts (record b { running = Some r; tick = None }) acts'
 Accounts-unheard b r sound acts acts' is tick microphone told fits =
     Accounts-on b (record b { running = Some r; tick = None }) acts acts' (emitted sound ∷ []) fits told
     (Account-untaken b r r sound b.owed b.lost is refl tick (λ run. handed-nothing b.shape.kind microphone b.shape run b.owed sound) (counts-none b sound (inr microphone)))
-    (λ runs same. same ∙ ap is_some is)
+    (ap is_some is)
 
 pub Accounts-idles : (b : BetweenState) (sound : List ℕ) (acts acts' : Option (List ToldAct)) → b.running ≡ None → Appended acts (emitted sound ∷ []) acts' → Accounts b acts →
     Accounts (record b { tick = None }) acts'
 Accounts-idles b sound acts acts' none told fits =
-    Accounts-on b (record b { tick = None }) acts acts' (emitted sound ∷ []) fits told (Account-idles b sound none) (λ runs same. same)
+    Accounts-on b (record b { tick = None }) acts acts' (emitted sound ∷ []) fits told (Account-idles b sound none) refl
 
 -- nothing is taken of a sound
 unpassed : (b : BetweenState) (r r' : Running) (sound owed : List ℕ) (acts mid acts' : Option (List ToldAct)) → b.running ≡ Some r → r'.began ≡ r.began →
@@ -120,7 +124,7 @@ Accounts-passed b r r' sound (takes.Bytes n) owed acts mid acts' is began tick c
     subst (λ x. Accounts (record b { running = Some r'; owed = x; tick = None; lost = lost_after b.lost (length sound - n - length x) b.shape.frame_bytes }) acts') (sym passes.owes)
     (Accounts-on b (record b { running = Some r'; owed = rest; tick = None; lost = lost_after b.lost (length sound - n - length rest) b.shape.frame_bytes }) acts acts'
     (emitted sound ∷ (took (take n sound) ∷ [])) fits (appended_on acts mid acts' (emitted sound ∷ []) (took (take n sound) ∷ []) told passes.told)
-    (Account-passed b r r' sound n passes.rest passes.whole.0 is began tick card none passes.most passes.less passes.whole.1) (λ runs same. same ∙ ap is_some is))
+    (Account-passed b r r' sound n passes.rest passes.whole.0 is began tick card none passes.most passes.less passes.whole.1) (ap is_some is))
 Accounts-passed b r r' sound takes.NoRoom owed acts mid acts' is began tick card none told passes fits = unpassed b r r' sound owed acts mid acts' is began tick card none told passes fits
 Accounts-passed b r r' sound takes.Ended owed acts mid acts' is began tick card none told passes fits = unpassed b r r' sound owed acts mid acts' is began tick card none told passes fits
 
@@ -159,7 +163,7 @@ pub Accounts-begun : (b : BetweenState) (at : ℕ) (words : List (List ℕ)) (re
     Appended acts (launched at words result ∷ []) acts' → Accounts b acts → Accounts (record b { running = Some (running_since at); starts = starts }) acts'
 Accounts-begun b at words launch.Runs starts acts acts' is some none may begun tick told fits =
     Accounts-on b (record b { running = Some (running_since at); starts = starts }) acts acts' (launched at words launch.Runs ∷ []) fits told
-    (Account-begun b at starts some none may begun tick) (λ runs same. refl)
+    (Account-begun b at starts some none may begun tick) refl
 Accounts-begun b at words launch.Failed starts acts acts' is some none may begun tick told fits = grind arith
 Accounts-begun b at words launch.OutOfMemory starts acts acts' is some none may begun tick told fits = grind arith
 
@@ -168,9 +172,9 @@ pub Accounts-not-begun : (b : BetweenState) (at : ℕ) (words : List (List ℕ))
     Accounts b acts → Accounts (record b { starts = starts }) acts'
 Accounts-not-begun b at words launch.Runs starts acts acts' not none may failed told fits = absurd (not refl)
 Accounts-not-begun b at words launch.Failed starts acts acts' not none may failed told fits =
-    Accounts-on b (record b { starts = starts }) acts acts' (launched at words launch.Failed ∷ []) fits told (Account-failed b at starts none may failed) (λ runs same. same)
+    Accounts-on b (record b { starts = starts }) acts acts' (launched at words launch.Failed ∷ []) fits told (Account-failed b at starts none may failed) refl
 Accounts-not-begun b at words launch.OutOfMemory starts acts acts' not none may failed told fits =
-    Accounts-on b (record b { starts = starts }) acts acts' (launched at words launch.OutOfMemory ∷ []) fits told (Account-failed b at starts none may failed) (λ runs same. same)
+    Accounts-on b (record b { starts = starts }) acts acts' (launched at words launch.OutOfMemory ∷ []) fits told (Account-failed b at starts none may failed) refl
 
 pub Accounts-ended : (b : BetweenState) (r : Running) (at : ℕ) (starts : Starts) (left owed : List ℕ) (acts acts' : Option (List ToldAct)) → b.running ≡ Some r → b.tick ≡ None →
     1 ≤ b.shape.frame_bytes → LeavesLess b.shape.kind b.shape b.left → starts ≡ after_end b.starts r.began at → left ≡ [] → owed ≡ [] → Appended acts (ended at ∷ []) acts' → Accounts b acts →
@@ -179,7 +183,7 @@ Accounts-ended b r at starts left owed acts acts' is tick some less after no-lef
     subst (λ x. Accounts (record b { running = None; left = x; owed = owed; starts = starts }) acts') (sym no-left)
     (subst (λ x. Accounts (record b { running = None; left = []; owed = x; starts = starts }) acts') (sym no-owed)
     (Accounts-on b (record b { running = None; left = []; owed = []; starts = starts }) acts acts' (ended at ∷ []) fits told
-    (Account-ended b r at starts is tick some less after) (λ runs same. refl)))
+    (Account-ended b r at starts is tick some less after) refl))
 
 -- captures, if what runs is known only as a choice
 

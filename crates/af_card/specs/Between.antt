@@ -1,5 +1,5 @@
 -- What stands between a device and its program, and how it fits the acts.
-use Rattle.std.specs.Prelude.{◌≡◌, ⊤, ℕ, ◌+◌, ◌*◌, ◌/◌, ◌%◌, ◌≤◌, ◌<◌, ◌-◌, Bool, true, false, not, ◌&&◌, ◌||◌, ◌==◌, nat_le, if◌then◌else◌, List, [], ◌∷◌, length, min, take, drop, replicate, is_some, is_none}
+use Rattle.std.specs.Prelude.{◌≡◌, ⊤, ℕ, ◌+◌, ◌*◌, ◌/◌, ◌%◌, ◌≤◌, ◌<◌, ◌-◌, Bool, true, false, not, ◌&&◌, ◌||◌, ◌==◌, nat_le, if◌then◌else◌, List, [], ◌∷◌, length, min, take, drop, replicate, is_some, is_none, All}
 use Rattle.std.specs.declared.option.Option.{Option}
 use Rattle.std.specs.declared.option.Option.TheVariants.{None, Some}
 use Rattle.af_limits.specs.Limits.{longest_capture, longest_tick}
@@ -9,14 +9,15 @@ use Rattle.af_program.specs.declared.program.Gave.TheVariants as gives
 use Rattle.af_program.specs.declared.program.Took.{Took}
 use Rattle.af_program.specs.declared.program.Took.TheVariants as takes
 use Rattle.af_program.specs.declared.starts.Starts.{Starts}
-use Rattle.af_program.specs.Acts.{ToldAct, took, runs_in}
-use Rattle.af_program.specs.Waits.{StartsFit, NextFits, no_starts, may_come, is_left}
+use Rattle.af_program.specs.Acts.{ToldAct, took}
+use Rattle.af_program.specs.Ledger.{Ledger, LedgerFits, HoldsOf}
+use Rattle.af_program.specs.Waits.{no_starts, may_come, is_left}
 use Rattle.af_world.specs.declared.card_kind.CardKind.{CardKind}
 use Rattle.af_world.specs.declared.card_kind.CardKind.TheVariants as kind
 use Rattle.af_card.specs.declared.shape.Shape.{Shape}
 use Rattle.af_card.specs.declared.running.Running.{Running}
-use Rattle.af_card.specs.Ledger.{Ledger, Run, ledger_of}
-use Rattle.af_card.specs.Fed.{RunFits, PastFits, piece_frames, piece_of}
+use Rattle.af_card.specs.Ledger.{Run, card_book}
+use Rattle.af_card.specs.Fed.{RunFits, PastRunFits, IsSilent, piece_frames, piece_of}
 use Rattle.af_card.specs.Lost.{lost_of}
 
 pub record BetweenState : Type 0 where
@@ -49,43 +50,33 @@ after_give (takes.Bytes n) at running = record running { took = at }
 after_give takes.NoRoom at running = running
 after_give takes.Ended at running = record running { is_closed = true }
 
--- whether a program of this kind gives sound, and whether it takes some
+-- whether a program of this kind gives sound
 abbrev pub gives_sound : CardKind → Bool
 gives_sound kind.Speaker = false
 gives_sound kind.Microphone = true
 gives_sound kind.Card = true
 
-abbrev pub takes_sound : CardKind → Bool
-takes_sound kind.Speaker = true
-takes_sound kind.Microphone = false
-takes_sound kind.Card = true
-
 -- How it fits the ledger
-
--- a program runs in both, or in neither
-abbrev pub RunningFits : BetweenState → Option Running → Option Run → Type 0
-RunningFits b None None = (b.left ≡ []) × (b.owed ≡ [])
-RunningFits b None (Some run) = ⊥
-RunningFits b (Some running) None = ⊥
-RunningFits b (Some running) (Some run) = RunFits b.shape run b.left b.owed b.tick
 
 -- when the program that runs was started
 abbrev pub began_of : Option Running → Option ℕ
 began_of None = None
 began_of (Some running) = Some running.began
 
-pub record Account (b : BetweenState) (ledger : Ledger) : Type 0 where
-  pub past : PastFits b.shape ledger
-  pub running : RunningFits b b.running ledger.running
-  pub starts : StartsFit b.starts.restarts ledger.starts
-  pub tried : b.starts.tried ≡ length ledger.starts
-  pub next : NextFits b.starts (began_of b.running) ledger.starts
+-- what the run of the program that runs keeps to
+abbrev pub FitsNow : BetweenState → Run → Type 0
+FitsNow b run = RunFits b.shape run b.left b.owed b.tick
+
+-- While no program runs nothing is left of a program's sound, and none is owed.
+pub record Account (b : BetweenState) (ledger : Ledger Run) : Type 0 where
+  pub fits : LedgerFits (PastRunFits b.shape) (FitsNow b) b.starts (began_of b.running) ledger
+  pub idle : All (IsSilent b.shape.silence) ledger.idle
+  pub none : b.running ≡ None → (b.left ≡ []) × (b.owed ≡ [])
   pub lost : b.lost ≡ lost_of b.shape ledger
 
 -- if the acts are observable, all of this holds of them
 abbrev pub Accounts : BetweenState → Option (List ToldAct) → Type 0
-Accounts b None = ⊤
-Accounts b (Some acts) = Account b (ledger_of acts) × (runs_in acts ≡ is_some b.running)
+Accounts b acts = HoldsOf card_book [] (Account b) (is_some b.running) acts
 
 -- whole frames
 abbrev pub IsWhole : ℕ → ℕ → Type 0

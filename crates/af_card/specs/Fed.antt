@@ -3,10 +3,11 @@ use Rattle.std.specs.Prelude.{◌≡◌, ⊤, ℕ, ◌*◌, ◌/◌, ◌≤◌, 
 use Rattle.std.specs.declared.option.Option.{Option}
 use Rattle.std.specs.declared.option.Option.TheVariants.{None, Some}
 use Rattle.af_limits.specs.Limits.{longest_tick}
+use Rattle.af_program.specs.Ledger.{Ledger}
 use Rattle.af_world.specs.declared.card_kind.CardKind.{CardKind}
 use Rattle.af_world.specs.declared.card_kind.CardKind.TheVariants as kind
 use Rattle.af_card.specs.declared.shape.Shape.{Shape}
-use Rattle.af_card.specs.Ledger.{Ledger, Run}
+use Rattle.af_card.specs.Ledger.{Run}
 
 -- the frames of a piece, a hundredth of a second of sound, and its bytes
 abbrev pub piece_frames : Shape → ℕ
@@ -104,6 +105,6 @@ PastRunFits shape run = (left : List ℕ) × (owed : List ℕ) × RunFits shape 
 
 -- All that was captured and emitted before now fits: each program that ran kept to this, and without one silence was captured. No
 -- sound is handed to two programs, since each is handed what was emitted while it ran.
-pub record PastFits (shape : Shape) (ledger : Ledger) : Type 0 where
+pub record PastFits (shape : Shape) (ledger : Ledger Run) : Type 0 where
   pub past : All (PastRunFits shape) ledger.past
   pub idle : All (IsSilent shape.silence) ledger.idle

@@ -5,10 +5,11 @@ use Rattle.std.specs.declared.option.Option.TheVariants.{None, Some}
 use Rattle.af_program.specs.declared.program.Took.{Took}
 use Rattle.af_program.specs.declared.program.Took.TheVariants as takes
 use Rattle.af_program.specs.Acts.{ToldAct}
+use Rattle.af_program.specs.Ledger.{Ledger}
 use Rattle.af_world.specs.declared.card_kind.CardKind.{CardKind}
 use Rattle.af_world.specs.declared.card_kind.CardKind.TheVariants as kind
 use Rattle.af_card.specs.declared.shape.Shape.{Shape}
-use Rattle.af_card.specs.Ledger.{Ledger, Run, ledger_of}
+use Rattle.af_card.specs.Ledger.{Run, ledger_of}
 use Rattle.af_card.specs.Fed.{sound_of}
 
 -- the highest count
@@ -34,7 +35,7 @@ lost_before shape [] = 0
 lost_before shape (run ∷ earlier) = lost_before shape earlier + lost_in shape run
 
 -- while all programs ran
-abbrev pub lost_of : Shape → Ledger → ℕ
+abbrev pub lost_of : Shape → Ledger Run → ℕ
 lost_of shape ledger = min (lost_before shape ledger.past + lost_now shape ledger.running) most_lost
 
 -- a count is that of all acts, if these are observable

@@ -1,10 +1,11 @@
 // What stands between a device and its program: two queues of bytes, one each way, and the starts of the program.
-ghost use Rattle.std.specs.Prelude.{◌≡◌, ◌≢◌, ◌≤◌, ◌<◌, ◌+◌, ◌-◌, ◌⊎◌, [], ◌∷◌, length, take, replicate, true, false, is_some, is_none, ◌&&◌, IfOk};
+ghost use Rattle.std.specs.Prelude.{◌≡◌, ◌≢◌, ◌≤◌, ◌<◌, ◌+◌, ◌-◌, ◌⊎◌, [], ◌∷◌, length, take, replicate, true, false, is_some, is_none, ◌&&◌, List, IfOk};
+ghost use Rattle.std.specs.declared.option.Option.{Option};
 ghost use Rattle.std.specs.declared.option.Option.TheVariants.{None, Some};
 ghost use Rattle.arrayvec.specs.ArrayVec.{array_vec_len};
 ghost use Rattle.af_limits.specs.Limits.{longest_capture, longest_tick};
 ghost use Rattle.af_io.specs.Observed.{Appended};
-ghost use Rattle.af_program.specs.Acts.{captured, emitted, launched, RunsWhereTold};
+ghost use Rattle.af_program.specs.Acts.{ToldAct, captured, emitted, launched, RunsWhereTold};
 ghost use Rattle.af_process.specs.Acts.{words_of};
 ghost use Rattle.af_card.specs.Fed.{IsSilent};
 ghost use Rattle.af_world.specs.Kinds.{most_card_restarts};
@@ -252,6 +253,7 @@ impl Between {
 
     /// A card that takes nothing while it gives is to be ended, once all that it gave is captured.
     pub(crate) fn look(&mut self, at: u64)
+        ensures fits { (acts : Option (List ToldAct)) → Accounts self.old acts → Accounts self.new acts }
         ensures runs { is_some self.new.running ≡ is_some self.old.running }
         ensures rest { self.new ≡ record self.old { running = running_after_look self.old.running self.old.shape.kind at } }
     {

@@ -23,14 +23,14 @@ use Rattle.af_exchange.specs.Told.{RunTold}
 use Rattle.af_exchange.specs.Dialogue.{DialogueState, Accounts, running_since, after_take, after_give, PassesOver, CanEnd}
 use Rattle.af_exchange.proofs.NoteLemmas.{notes, notes-same}
 use Rattle.af_exchange.proofs.RunLemmas.{told-closed, told-owed, told-missed}
-use Rattle.af_exchange.proofs.AccountLemmas.{Accounts-on, Accounts-same, Account-gave, Account-took, Account-knows, Account-passed, Account-changed, Account-none-called, Account-called, Account-begun, Account-failed, Account-ended}
+use Rattle.af_exchange.proofs.AccountLemmas.{Accounts-on, Accounts-same, Account-gave, Account-took, Account-knows, Account-passed, Account-changed, Account-called, Account-begun, Account-failed, Account-ended}
 
 pub Accounts-taken : (d : DialogueState) (r : Running) (result : Gave) (left : List ℕ) (acts acts' : Option (List ToldAct)) → d.running ≡ Some r →
     TakesInto result d.left left acts acts' → Accounts d acts → Accounts (record d { running = Some (after_take result r); left = left }) acts'
 Accounts-taken d r (gives.Bytes n) left acts acts' is into fits =
     subst (λ x. Accounts (record d { running = Some r; left = x }) acts') (sym into.1)
     (Accounts-on d (record d { running = Some r; left = d.left ++ into.0 }) acts acts' (gave into.0 ∷ []) fits into.2
-    (Account-gave d r r into.0 is refl refl) (λ runs same. same ∙ ap is_some is))
+    (Account-gave d r r into.0 is refl refl) (ap is_some is))
 Accounts-taken d r gives.NotYet left acts acts' is into fits =
     subst (λ x. Accounts (record d { running = Some r; left = x }) acts') (sym into.0)
     (Accounts-same d (record d { running = Some r }) acts acts' fits into.1 (Account-knows d r r is refl (λ run told. told)) (ap is_some is))
@@ -49,7 +49,7 @@ pub Accounts-given : (d : DialogueState) (r : Running) (result : Took) (owed : L
 Accounts-given d r (takes.Bytes n) owed acts acts' is given fits =
     subst (λ x. Accounts (record d { running = Some r; owed = x }) acts') (sym given.2)
     (Accounts-on d (record d { running = Some r; owed = drop n d.owed }) acts acts' (took (take n d.owed) ∷ []) fits given.3
-    (Account-took d r r n is refl refl) (λ runs same. same ∙ ap is_some is))
+    (Account-took d r r n is refl refl) (ap is_some is))
 Accounts-given d r takes.NoRoom owed acts acts' is given fits =
     subst (λ x. Accounts (record d { running = Some r; owed = x }) acts') (sym given.0)
     (Accounts-same d (record d { running = Some r }) acts acts' fits given.1 (Account-knows d r r is refl (λ run told. told)) (ap is_some is))
@@ -67,20 +67,16 @@ pub Accounts-passed : (d : DialogueState) (left : List ℕ) (acts : Option (List
 Accounts-passed d left acts over fits =
     Accounts-same d (record d { left = left }) acts acts fits (stays_same acts) (Account-passed d left over) refl
 
-pub Accounts-changed : (d : DialogueState) (change : LineChange) (count : ℕ) (left : List ℕ) (acts acts' : Option (List ToldAct)) → is_some d.running ≡ true →
+pub Accounts-changed : (d : DialogueState) (now : Option Running) (change : LineChange) (count : ℕ) (left : List ℕ) (acts acts' : Option (List ToldAct)) → d.running ≡ now → is_some now ≡ true →
     SaysMore (change ∷ []) count d.left → left ≡ drop count d.left → Appended acts (captured (text_of change) ∷ []) acts' → Accounts d acts → Accounts (record d { left = left }) acts'
-Accounts-changed d change count left acts acts' runs says rest told fits =
+Accounts-changed d None change count left acts acts' is runs says rest told fits = grind arith
+Accounts-changed d (Some r) change count left acts acts' is runs says rest told fits =
     subst (λ x. Accounts (record d { left = x }) acts') (sym rest)
-    (Accounts-on d (record d { left = drop count d.left }) acts acts' (captured (text_of change) ∷ []) fits told
-    (Account-changed d change count runs says) (λ running same. same))
+    (subst (λ x. Accounts (record d { running = x; left = drop count d.left }) acts') (sym is)
+    (Accounts-on d (record d { running = Some r; left = drop count d.left }) acts acts' (captured (text_of change) ∷ []) fits told
+    (Account-changed d r change count is says) (ap is_some is)))
 
 -- Hook calls
-
-pub Accounts-none-called : (d : DialogueState) (off : Bool) (text : List ℕ) (acts acts' : Option (List ToldAct)) → d.running ≡ None → text ≡ hook_text off →
-    Appended acts (emitted text ∷ []) acts' → Accounts d acts → Accounts (record d { off = off }) acts'
-Accounts-none-called d off text acts acts' none is told fits =
-    Accounts-on d (record d { off = off }) acts acts' (emitted (hook_text off) ∷ []) fits (subst (λ x. Appended acts (emitted x ∷ []) acts') is told)
-    (Account-none-called d off none) (λ runs same. same)
 
 pub Accounts-missed : (d : DialogueState) (r r' : Running) (off : Bool) (text : List ℕ) (acts acts' : Option (List ToldAct)) → d.running ≡ Some r → r'.began ≡ r.began →
     r'.is_closed ≡ true → text ≡ hook_text off → Appended acts (emitted text ∷ []) acts' → Accounts d acts → Accounts (record d { running = Some r'; off = off }) acts'
@@ -88,7 +84,7 @@ Accounts-missed d r r' off text acts acts' runs began closed is told fits =
     Accounts-on d (record d { running = Some r'; off = off }) acts acts' (emitted (hook_text off) ∷ []) fits (subst (λ x. Appended acts (emitted x ∷ []) acts') is told)
     (Account-called d r r' d.owed off runs began (λ run t.
     subst (λ x. RunTold (record run { told = run.told ++ hook_text off }) d.left d.owed (not x)) (sym closed)
-    (told-missed run d.left d.owed (hook_text off) (not r.is_closed) t))) (λ running same. same ∙ ap is_some runs)
+    (told-missed run d.left d.owed (hook_text off) (not r.is_closed) t))) (ap is_some runs)
 
 pub Accounts-owed : (d : DialogueState) (r : Running) (off : Bool) (text owed : List ℕ) (acts acts' : Option (List ToldAct)) → d.running ≡ Some r → r.is_closed ≡ false →
     text ≡ hook_text off → owed ≡ d.owed ++ text → Appended acts (emitted text ∷ []) acts' → Accounts d acts → Accounts (record d { owed = owed; off = off }) acts'
@@ -99,7 +95,7 @@ Accounts-owed d r off text owed acts acts' runs unclosed is more told fits =
     (subst (λ x. Appended acts (emitted x ∷ []) acts') is told)
     (Account-called d r r (d.owed ++ hook_text off) off runs refl (λ run t.
     subst (λ x. RunTold (record run { told = run.told ++ hook_text off }) d.left (d.owed ++ hook_text off) (not x)) (sym unclosed)
-    (told-owed run d.left d.owed (hook_text off) (subst (λ x. RunTold run d.left d.owed (not x)) unclosed t)))) (λ running same. same ∙ ap is_some runs)))
+    (told-owed run d.left d.owed (hook_text off) (subst (λ x. RunTold run d.left d.owed (not x)) unclosed t)))) (ap is_some runs)))
 
 -- Starts
 
@@ -110,7 +106,7 @@ Accounts-begun d at words launch.Runs starts left owed acts acts' is none may be
     subst (λ x. Accounts (record d { running = Some (running_since at); starts = starts; left = x; owed = owed }) acts') (sym no-left)
     (subst (λ x. Accounts (record d { running = Some (running_since at); starts = starts; left = []; owed = x }) acts') (sym owes)
     (Accounts-on d (record d { running = Some (running_since at); starts = starts; left = []; owed = hook_text d.off }) acts acts' (launched at words launch.Runs ∷ []) fits told
-    (Account-begun d at starts none may begun) (λ runs same. refl)))
+    (Account-begun d at starts none may begun) refl))
 Accounts-begun d at words launch.Failed starts left owed acts acts' is none may begun no-left owes told fits = grind arith
 Accounts-begun d at words launch.OutOfMemory starts left owed acts acts' is none may begun no-left owes told fits = grind arith
 
@@ -119,9 +115,9 @@ not-begun : (d : DialogueState) (at : ℕ) (words : List (List ℕ)) (result : L
     Accounts d acts → Accounts (record d { starts = starts; left = []; owed = [] }) acts'
 not-begun d at words launch.Runs starts acts acts' not none may failed told fits = absurd (not refl)
 not-begun d at words launch.Failed starts acts acts' not none may failed told fits =
-    Accounts-on d (record d { starts = starts; left = []; owed = [] }) acts acts' (launched at words launch.Failed ∷ []) fits told (Account-failed d at starts none may failed) (λ runs same. same)
+    Accounts-on d (record d { starts = starts; left = []; owed = [] }) acts acts' (launched at words launch.Failed ∷ []) fits told (Account-failed d at starts none may failed) refl
 not-begun d at words launch.OutOfMemory starts acts acts' not none may failed told fits =
-    Accounts-on d (record d { starts = starts; left = []; owed = [] }) acts acts' (launched at words launch.OutOfMemory ∷ []) fits told (Account-failed d at starts none may failed) (λ runs same. same)
+    Accounts-on d (record d { starts = starts; left = []; owed = [] }) acts acts' (launched at words launch.OutOfMemory ∷ []) fits told (Account-failed d at starts none may failed) refl
 
 pub Accounts-not-begun : (d : DialogueState) (at : ℕ) (words : List (List ℕ)) (result : Launched) (starts : Starts) (left owed : List ℕ) (acts acts' : Option (List ToldAct)) →
     result ≢ launch.Runs → d.running ≡ None → may_come d.starts at ≡ true → starts ≡ after_end (begun_once_more d.starts) at at → left ≡ [] → owed ≡ [] →
@@ -134,4 +130,4 @@ Accounts-not-begun d at words result starts left owed acts acts' not none may fa
 pub Accounts-ended : (d : DialogueState) (r : Running) (at : ℕ) (starts : Starts) (acts acts' : Option (List ToldAct)) → d.running ≡ Some r → CanEnd d →
     starts ≡ after_end d.starts r.began at → Appended acts (ended at ∷ []) acts' → Accounts d acts → Accounts (record d { running = None; starts = starts }) acts'
 Accounts-ended d r at starts acts acts' is can after told fits =
-    Accounts-on d (record d { running = None; starts = starts }) acts acts' (ended at ∷ []) fits told (Account-ended d r at starts is can after) (λ runs same. refl)
+    Accounts-on d (record d { running = None; starts = starts }) acts acts' (ended at ∷ []) fits told (Account-ended d r at starts is can after) refl

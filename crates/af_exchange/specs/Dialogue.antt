@@ -1,5 +1,5 @@
 -- What stands between a line and its program, and how it fits the acts.
-use Rattle.std.specs.Prelude.{◌≡◌, ⊤, ℕ, Bool, true, false, not, ◌||◌, List, [], ◌++◌, length, is_some, All}
+use Rattle.std.specs.Prelude.{◌≡◌, ℕ, Bool, true, false, not, ◌||◌, List, [], ◌++◌, is_some}
 use Rattle.std.specs.List.{fold}
 use Rattle.std.specs.declared.option.Option.{Option}
 use Rattle.std.specs.declared.option.Option.TheVariants.{None, Some}
@@ -8,13 +8,14 @@ use Rattle.af_program.specs.declared.program.Gave.TheVariants as gives
 use Rattle.af_program.specs.declared.program.Took.{Took}
 use Rattle.af_program.specs.declared.program.Took.TheVariants as takes
 use Rattle.af_program.specs.declared.starts.Starts.{Starts}
-use Rattle.af_program.specs.Acts.{ToldAct, runs_in}
-use Rattle.af_program.specs.Waits.{StartsFit, NextFits, no_starts, may_come}
+use Rattle.af_program.specs.Acts.{ToldAct}
+use Rattle.af_program.specs.Ledger.{Ledger, LedgerFits, HoldsOf}
+use Rattle.af_program.specs.Waits.{no_starts, may_come}
 use Rattle.af_phone.specs.declared.line.LineChange.{LineChange}
 use Rattle.af_exchange.specs.declared.running.Running.{Running}
 use Rattle.af_exchange.specs.Lines.{hook_text, at_line, after_byte}
 use Rattle.af_exchange.specs.Fronts.{SaysNoMore}
-use Rattle.af_exchange.specs.Ledger.{Ledger, Run, ledger_of}
+use Rattle.af_exchange.specs.Ledger.{Run, exchange_book, first_hook}
 use Rattle.af_exchange.specs.Told.{RunTold, PastRunTold}
 
 -- so many bytes of a program, or for one, are kept at most
@@ -60,31 +61,23 @@ is_over (Some running) = running.is_closed || running.is_ended
 
 -- How it fits the ledger
 
--- a program runs in both, or in neither
-abbrev pub RunningFits : DialogueState → Option Running → Option Run → Type 0
-RunningFits d None None = ⊤
-RunningFits d None (Some run) = ⊥
-RunningFits d (Some running) None = ⊥
-RunningFits d (Some running) (Some run) = RunTold run d.left d.owed (not running.is_closed)
-
 -- when the program that runs was started
 abbrev pub began_of : Option Running → Option ℕ
 began_of None = None
 began_of (Some running) = Some running.began
 
-pub record Account (d : DialogueState) (ledger : Ledger) : Type 0 where
-  pub past : All PastRunTold ledger.past
-  pub running : RunningFits d d.running ledger.running
+-- what the run of the program that runs keeps to
+abbrev pub ToldNow : DialogueState → Run → Type 0
+ToldNow d run = RunTold run d.left d.owed (is_open d.running)
+
+pub record Account (d : DialogueState) (ledger : Ledger Run) : Type 0 where
+  pub fits : LedgerFits PastRunTold (ToldNow d) d.starts (began_of d.running) ledger
   pub none : ledger.idle ≡ []
-  pub hook : ledger.hook ≡ hook_text d.off
-  pub starts : StartsFit d.starts.restarts ledger.starts
-  pub tried : d.starts.tried ≡ length ledger.starts
-  pub next : NextFits d.starts (began_of d.running) ledger.starts
+  pub hook : ledger.latest ≡ hook_text d.off
 
 -- if the acts are observable, all of this holds of them
 abbrev pub Accounts : DialogueState → Option (List ToldAct) → Type 0
-Accounts d None = ⊤
-Accounts d (Some acts) = Account d (ledger_of acts) × (runs_in acts ≡ is_some d.running)
+Accounts d acts = HoldsOf exchange_book first_hook (Account d) (is_some d.running) acts
 
 -- What may be done
 

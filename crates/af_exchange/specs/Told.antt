@@ -8,18 +8,26 @@ use Rattle.af_program.specs.Waits.{StartsFit}
 use Rattle.af_exchange.specs.Lines.{at_line, changes_of, text_of, hook_text}
 use Rattle.af_exchange.specs.Ledger.{Run, ledger_of}
 
--- While a program runs. The changes that were given are those of a front of what it gave, which is whole lines, in order and each
--- once; this much is left of it. What it was handed is a front of what it is told, each line in order. This much it is owed.
--- Nothing is missing, as long as it is open.
-pub record RunTold (run : Run) (left owed : List ℕ) (is_open : Bool) : Type 0 where
+-- The lines of the changes that were given are those of a front of what a program gave, which is whole lines, in order and each
+-- once; this much is left of it.
+pub record ChangesGiven (given left : List ℕ) (changes : List (List ℕ)) : Type 0 where
   pub read : List ℕ
   pub said : List LineChange
-  pub missed : List ℕ
-  pub given : run.given ≡ read ++ left
+  pub parts : given ≡ read ++ left
   pub reads : changes_of read ≡ at_line said []
-  pub changes : run.changes ≡ map text_of said
-  pub told : run.told ≡ (run.taken ++ owed) ++ missed
+  pub lines : changes ≡ map text_of said
+
+-- What a program took is a front of what it is told, each line in order. This much it is owed. Nothing is missing, as long as it
+-- is open.
+pub record LinesHanded (told taken owed : List ℕ) (is_open : Bool) : Type 0 where
+  pub missed : List ℕ
+  pub handed : told ≡ (taken ++ owed) ++ missed
   pub all : is_open ≡ true → missed ≡ []
+
+-- while a program runs: what it said and was handed so far
+pub record RunTold (run : Run) (left owed : List ℕ) (is_open : Bool) : Type 0 where
+  pub changes : ChangesGiven run.given left run.changes
+  pub lines : LinesHanded run.told run.taken owed is_open
 
 -- Once a program has ended. All changes of what it gave were given, up to a malformed line.
 pub record PastRunTold (run : Run) : Type 0 where
@@ -40,7 +48,7 @@ pub record IsTold (restarts : ℕ) (off : Bool) (left owed : List ℕ) (is_open 
   pub past : All PastRunTold (ledger_of acts).past
   pub now : RunIsTold left owed is_open (ledger_of acts).running
   pub none : (ledger_of acts).idle ≡ []
-  pub hook : (ledger_of acts).hook ≡ hook_text off
+  pub hook : (ledger_of acts).latest ≡ hook_text off
   pub starts : StartsFit restarts (ledger_of acts).starts
 
 -- all changes of what the running program gave so far were given, and none of its lines is malformed

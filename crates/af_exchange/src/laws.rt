@@ -55,7 +55,7 @@ pub fn acts_are_sorted_by_program()
             told = codes "onhook\noffhook\n";
           } ∷ [];
           idle = [];
-          hook = codes "onhook\n";
+          latest = codes "onhook\n";
           starts = record { began = 9; ended = Some 9 } ∷ record { began = 0; ended = Some 5 } ∷ [];
         } }
 {}

@@ -1,5 +1,6 @@
 pub mod Acts
 pub mod Handing
+pub mod Ledger
 pub mod Memory
 pub mod Notes
 pub mod Sockets

@@ -99,3 +99,9 @@ abbrev pub NextFits : Starts → Option ℕ → List Start → Type 0
 NextFits s None starts = (s.wait ≡ wait_after starts) × ((at : ℕ) → may_come s at ≡ true → IsLateEnough at starts)
 NextFits s (Some began) [] = ⊥
 NextFits s (Some began) (start ∷ earlier) = (start.began ≡ began) × (start.ended ≡ None) × (s.wait ≡ wait_after earlier)
+
+-- what is kept of starts fits them, as the program that runs was started at this moment, or none runs
+pub record KeepsStarts (kept : Starts) (began : Option ℕ) (starts : List Start) : Type 0 where
+  pub fit : StartsFit kept.restarts starts
+  pub tried : kept.tried ≡ length starts
+  pub next : NextFits kept began starts

@@ -4,7 +4,7 @@ use Rattle.af_world.specs.declared.card_kind.CardKind.TheVariants as kind
 use Rattle.af_card.specs.contracts.between.Between.{the_view}
 use Rattle.af_card.specs.Between.{BetweenState, Accounts, CanEmit}
 use Rattle.af_card.specs.Lost.{lost_after, without_room}
-use Rattle.af_card.proofs.BetweenLemmas.{Accounts-no-room, Accounts-passed, empty-where}
+use Rattle.af_card.proofs.BetweenLemmas.{Accounts-idles, Accounts-no-room, Accounts-passed, empty-where}
 use Rattle.af_card.proofs.between.Between.pass.Goals as goal
 
 pub returns-clause-fits : goal.returns-clause-fits
@@ -27,3 +27,8 @@ returns-then-running-clause-fits g c =
     (Accounts-no-room (the_view c.self.inside) c.in-Some.running c.args.sound.now _ _ c.in-Some.is can.0
     (subst (λ (b : BetweenState). b.shape.kind ≡ kind.Card) (sym c.self.view_is) c.requires.kind) c.note_emitted.ensures.acts
     (subst (λ b. Accounts b (g.P.Program.acts c.args.program.now)) (sym c.self.view_is) c.requires.fits))
+
+pub returns-in_default-clause-fits : goal.returns-in_default-clause-fits
+returns-in_default-clause-fits g c =
+    Accounts-idles (the_view c.self.inside) c.args.sound.now _ _ c.in_default.is c.note_emitted.ensures.acts
+    (subst (λ b. Accounts b (g.P.Program.acts c.args.program.now)) (sym c.self.view_is) c.requires.fits)

@@ -3,14 +3,13 @@ ghost use Rattle.std.specs.Prelude.{◌≡◌, ◌↔◌, ◌≤◌, ◌+◌, []
 ghost use Rattle.std.specs.declared.option.Option.{Option};
 ghost use Rattle.std.specs.declared.option.Option.TheVariants.{None, Some};
 ghost use Rattle.arrayvec.specs.ArrayVec.{array_vec_len};
-ghost use Rattle.af_io.specs.Observed.{Appended};
-ghost use Rattle.af_program.specs.Acts.{ToldAct, launched};
+ghost use Rattle.af_program.specs.Acts.{ToldAct};
 ghost use Rattle.af_process.specs.Acts.{words_of};
 ghost use Rattle.af_world.specs.Kinds.{most_card_restarts};
 ghost use Rattle.af_exchange.specs.Lines.{text_of, hook_text};
 ghost use Rattle.af_exchange.specs.Fronts.{FrontOf, NoComment};
 ghost use Rattle.af_exchange.specs.Ledger.{Notes};
-ghost use Rattle.af_exchange.specs.Dialogue.{new_dialogue, is_open, is_over, Accounts, CanBegin, CanEnd, PassesOver};
+ghost use Rattle.af_exchange.specs.Dialogue.{new_dialogue, is_open, is_over, Accounts, CanBegin, CanEnd, LeavesNone, PassesOver};
 
 use crate::line::{Front, front_of, hook_text, note_change};
 use crate::running::Running;
@@ -71,7 +70,7 @@ impl Dialogue {
         })
     }
 
-    /// Tries a start. A program that runs then is owed the hook as it is.
+    /// Tries a start. A program that runs then is handed the hook as it is.
     pub(crate) fn begin<P: Program>(
         &mut self,
         program: &mut P,
@@ -84,10 +83,9 @@ impl Dialogue {
         requires fits { Accounts self.old (P.acts program.old) }
         ensures fits { Accounts self.new (P.acts program.new) }
         ensures same { (self.new.starts.restarts ≡ self.old.starts.restarts) × (self.new.off ≡ self.old.off) }
-        ensures acts { Appended (P.acts program.old) (launched at (words_of words.now) result ∷ []) (P.acts program.new) }
         ensures tried { self.new.starts.tried ≡ self.old.starts.tried + 1 }
         ensures runs { (result ≡ Launched.Runs) ↔ (is_some self.new.running ≡ true) }
-        ensures left { self.new.left ≡ [] }
+        ensures none { LeavesNone self.new }
         ensures notes { Notes [] [] (record { at = at; words = words_of words.now } ∷ []) (P.acts program.old) (P.acts program.new) }
     {
         let launched = program.start(alloc, at, words);
@@ -98,6 +96,7 @@ impl Dialogue {
             Launched::Runs => {
                 self.owed.append(hook_text(self.off));
                 self.running = Some(Running::begun(at));
+                self.give_owed(program);
             }
             _ => self.starts.end(at, at),
         }

@@ -84,13 +84,8 @@ impl<P: Program + Drop> Exchange<P> {
         ensures tried { self.new.dialogue.starts.tried ≡ 1 }
         ensures off { self.new.dialogue.off ≡ self.old.dialogue.off }
     {
-        start(
-            &mut self.dialogue,
-            &mut self.program,
-            self.alloc,
-            at,
-            &self.words,
-        )
+        self.dialogue
+            .begin(&mut self.program, self.alloc, at, &self.words)
     }
 
     /// The next change of the line, if the program gave one. Where none runs it is started again, if a start may come at this
@@ -111,13 +106,8 @@ impl<P: Program + Drop> Exchange<P> {
             return next_of(&mut self.dialogue, &mut self.program, at);
         }
         if self.dialogue.starts().may_come(at) {
-            start(
-                &mut self.dialogue,
-                &mut self.program,
-                self.alloc,
-                at,
-                &self.words,
-            );
+            self.dialogue
+                .begin(&mut self.program, self.alloc, at, &self.words);
         }
         None
     }
@@ -175,29 +165,6 @@ impl<P: Program + Drop> Exchange<P> {
     {
         &self.program
     }
-}
-
-/// Tries a start. A program that runs then is handed the hook as it is.
-fn start<P: Program>(
-    dialogue: &mut Dialogue,
-    program: &mut P,
-    alloc: Global,
-    at: u64,
-    words: &Words,
-) -> Launched
-    requires some { 1 ≤ array_vec_len words.now }
-    requires can { CanBegin dialogue.old at }
-    requires fits { Accounts dialogue.old (P.acts program.old) }
-    ensures fits { Accounts dialogue.new (P.acts program.new) }
-    ensures notes { Notes [] [] (record { at = at; words = words_of words.now } ∷ []) (P.acts program.old) (P.acts program.new) }
-    ensures runs { (result ≡ Launched.Runs) ↔ (is_some dialogue.new.running ≡ true) }
-    ensures tried { dialogue.new.starts.tried ≡ dialogue.old.starts.tried + 1 }
-    ensures none { LeavesNone dialogue.new }
-    ensures same { (dialogue.new.starts.restarts ≡ dialogue.old.starts.restarts) × (dialogue.new.off ≡ dialogue.old.off) }
-{
-    let launched = dialogue.begin(program, alloc, at, words);
-    dialogue.give_owed(program);
-    launched
 }
 
 /// The next change of what a program that runs gives. One that is at fault, or gives or takes nothing any more, is ended.

@@ -6,17 +6,24 @@ use Rattle.af_program.specs.Waits.{after_end}
 use Rattle.af_exchange.specs.Dialogue.{DialogueState, Accounts, CanBegin}
 use Rattle.af_program.specs.Acts.{launched}
 use Rattle.af_process.specs.Acts.{words_of}
-use Rattle.af_exchange.proofs.NoteLemmas.{notes}
+use Rattle.af_exchange.proofs.NoteLemmas.{notes, notes-on}
 use Rattle.af_exchange.proofs.DialogueLemmas.{Accounts-begun, Accounts-not-begun}
 use Rattle.af_exchange.proofs.dialogue.Dialogue.begin.Goals as goal
 
-pub returns-in-Runs-clause-fits : goal.returns-in-Runs-clause-fits
-returns-in-Runs-clause-fits g c =
+pub give_owed-requires : goal.give_owed-requires
+give_owed-requires g c =
     let can = subst (λ d. CanBegin d c.args.at) (sym c.self.view_is) c.requires.can in
-    subst (λ r. Accounts (record (the_view c.self.inside) { running = Some r; starts = c.begin.new.self; left = c.clear.new.self; owed = c.append.new.self }) (g.P.Program.acts c.start-launched.new.self)) (sym c.begun.ensures)
-    (Accounts-begun (the_view c.self.inside) c.args.at _ c.start-launched.result c.begin.new.self c.clear.new.self c.append.new.self _ _ c.in-Runs.is can.0 can.1 c.begin.ensures.begun
-    c.clear.ensures (c.append.ensures ∙ ap (λ x. x ++ c.hook_text.result.now) c.clear-2.ensures ∙ c.hook_text.ensures) c.start-launched.ensures.acts
-    (subst (λ d. Accounts d (g.P.Program.acts c.args.program.now)) (sym c.self.view_is) c.requires.fits))
+    record {
+      fits = subst (λ r. Accounts (record (the_view c.self.inside) { running = Some r; starts = c.begin.new.self; left = c.clear.new.self; owed = c.append.new.self }) (g.P.Program.acts c.start-launched.new.self)) (sym c.begun.ensures)
+          (Accounts-begun (the_view c.self.inside) c.args.at _ c.start-launched.result c.begin.new.self c.clear.new.self c.append.new.self _ _ c.in-Runs.is can.0 can.1 c.begin.ensures.begun
+          c.clear.ensures (c.append.ensures ∙ ap (λ x. x ++ c.hook_text.result.now) c.clear-2.ensures ∙ c.hook_text.ensures) c.start-launched.ensures.acts
+          (subst (λ d. Accounts d (g.P.Program.acts c.args.program.now)) (sym c.self.view_is) c.requires.fits));
+    }
+
+pub returns-in-Runs-clause-notes : goal.returns-in-Runs-clause-notes
+returns-in-Runs-clause-notes g c =
+    notes-on [] [] (record { at = c.args.at; words = words_of c.args.words.now } ∷ []) [] [] [] _ _ _
+    (notes _ _ (launched c.args.at (words_of c.args.words.now) c.start-launched.result ∷ []) c.start-launched.ensures.acts) c.give_owed.ensures.notes
 
 pub returns-in_default : goal.returns-in_default
 returns-in_default g c =
@@ -29,12 +36,8 @@ returns-in_default g c =
         ap (λ (s : Starts). s.restarts) after ∙ ap (λ (d : DialogueState). d.starts.restarts) c.self.view_is,
         ap (λ (d : DialogueState). d.off) c.self.view_is,
       );
-      acts = c.start-launched.ensures.acts;
       tried = ap (λ (s : Starts). s.tried) after ∙ ap (λ (d : DialogueState). d.starts.tried + 1) c.self.view_is;
       runs = (λ is. absurd (c.in_default.not-Runs is), λ some. grind arith);
-      left = c.clear.ensures;
+      none = λ some. grind arith;
       notes = notes _ _ (launched c.args.at (words_of c.args.words.now) c.start-launched.result ∷ []) c.start-launched.ensures.acts;
     }
-
-pub returns-in-Runs-clause-notes : goal.returns-in-Runs-clause-notes
-returns-in-Runs-clause-notes g c = notes _ _ (launched c.args.at (words_of c.args.words.now) c.start-launched.result ∷ []) c.start-launched.ensures.acts

@@ -7,12 +7,12 @@ use Rattle.std.proofs.Math.Seq.{take-add}
 use Rattle.std.proofs.lemmas.List.{take-append-drop, length-drop, length-take, length-take-le, take_min}
 use Rattle.std.specs.declared.option.Option.{Option}
 use Rattle.std.specs.declared.option.Option.TheVariants.{None, Some}
-use Rattle.af_io.specs.Observed.{Appended, Unchanged}
+use Rattle.af_io.specs.Observed.{Appended}
 use Rattle.af_program.specs.declared.starts.Starts.{Starts}
 use Rattle.af_program.specs.Acts.{ToldAct, gave, took, ended, captured, emitted, runs_after}
 use Rattle.af_program.specs.Ledger.{Ledger, NowFits, idle_after, ledger_after, ledger_begun, ledger_ended, ledger_failed, on_run, past_after}
 use Rattle.af_program.specs.Waits.{KeepsStarts, may_come, begun_once_more, after_end}
-use Rattle.af_program.proofs.LedgerLemmas.{fits-begun, fits-ended, fits-failed, fits-known, fits-none, holds-on, holds-same, no-run, run-of}
+use Rattle.af_program.proofs.LedgerLemmas.{fits-begun, fits-ended, fits-failed, fits-known, fits-none, holds-on, no-run, run-of}
 use Rattle.af_world.specs.declared.card_kind.CardKind.{CardKind}
 use Rattle.af_world.specs.declared.card_kind.CardKind.TheVariants as kind
 use Rattle.af_card.specs.declared.shape.Shape.{Shape}
@@ -30,11 +30,6 @@ pub Accounts-on : (b b' : BetweenState) (before after : Option (List ToldAct)) (
     ((ledger : Ledger Run) → Account b ledger → Account b' (fold (ledger_after card_book) ledger acts)) →
     fold runs_after (is_some b.running) acts ≡ is_some b'.running → Accounts b' after
 Accounts-on b b' before after acts = holds-on card_book [] (Account b) (Account b') (is_some b.running) (is_some b'.running) before after acts
-
--- no act
-pub Accounts-same : (b b' : BetweenState) (before after : Option (List ToldAct)) → Accounts b before → Unchanged before after →
-    ((ledger : Ledger Run) → Account b ledger → Account b' ledger) → is_some b.running ≡ is_some b'.running → Accounts b' after
-Accounts-same b b' before after = holds-same card_book [] (Account b) (Account b') (is_some b.running) (is_some b'.running) before after
 
 -- Runs
 

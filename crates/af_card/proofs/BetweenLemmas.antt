@@ -4,7 +4,7 @@ use Rattle.std.proofs.Math.Nat.{div-add-mod}
 use Rattle.std.specs.declared.option.Option.{Option}
 use Rattle.std.specs.declared.option.Option.TheVariants.{None, Some}
 use Rattle.af_io.specs.Observed.{Appended, Unchanged}
-use Rattle.af_io.proofs.AppendedLemmas.{appended_on, stays_same}
+use Rattle.af_io.proofs.AppendedLemmas.{appended_none, appended_on}
 use Rattle.af_program.specs.declared.program.Gave.{Gave}
 use Rattle.af_program.specs.declared.program.Gave.TheVariants as gives
 use Rattle.af_program.specs.declared.program.Took.{Took}
@@ -15,6 +15,7 @@ use Rattle.af_program.specs.declared.starts.Starts.{Starts}
 use Rattle.af_program.specs.Acts.{ToldAct, launched, gave, took, ended, captured, emitted}
 use Rattle.af_program.specs.Handing.{TakesInto, GivesFrom}
 use Rattle.af_program.specs.Waits.{may_come, begun_once_more, after_end}
+use Rattle.af_program.proofs.LedgerLemmas.{no-act}
 use Rattle.af_world.specs.declared.card_kind.CardKind.{CardKind}
 use Rattle.af_world.specs.declared.card_kind.CardKind.TheVariants as kind
 use Rattle.af_card.specs.declared.shape.Shape.{Shape}
@@ -22,7 +23,7 @@ use Rattle.af_card.specs.declared.running.Running.{Running}
 use Rattle.af_card.specs.Fed.{IsSilent}
 use Rattle.af_card.specs.Lost.{lost_after, without_room}
 use Rattle.af_card.specs.Between.{BetweenState, running_since, Accounts, PassesOn, CapturesBy, CapturesOf, IsWhole, CanCapture, LeavesLess, EmitsBy, EmitsTo, gives_sound}
-use Rattle.af_card.proofs.AccountLemmas.{Accounts-on, Accounts-same, Account-gave, Account-took, Account-knows, Account-untaken, Account-passed, Account-idle, Account-idles, Account-silent, Account-front, Account-begun, Account-failed, Account-ended, counts-none, counts-all}
+use Rattle.af_card.proofs.AccountLemmas.{Accounts-on, Account-gave, Account-took, Account-knows, Account-untaken, Account-passed, Account-idle, Account-idles, Account-silent, Account-front, Account-begun, Account-failed, Account-ended, counts-none, counts-all}
 use Rattle.af_card.proofs.FedLemmas.{handed-nothing, handed-piece, handed-lost}
 
 pub Accounts-taken : (b : BetweenState) (r r' : Running) (result : Gave) (left : List ℕ) (acts acts' : Option (List ToldAct)) → b.running ≡ Some r → r'.began ≡ r.began →
@@ -33,10 +34,10 @@ Accounts-taken b r r' (gives.Bytes n) left acts acts' is began sound into fits =
     (Account-gave b r r' into.0 is began sound) (ap is_some is))
 Accounts-taken b r r' gives.NotYet left acts acts' is began sound into fits =
     subst (λ x. Accounts (record b { running = Some r'; left = x }) acts') (sym into.0)
-    (Accounts-same b (record b { running = Some r' }) acts acts' fits into.1 (Account-knows b r r' is began) (ap is_some is))
+    (Accounts-on b (record b { running = Some r' }) acts acts' [] fits (no-act acts acts' into.1) (Account-knows b r r' is began) (ap is_some is))
 Accounts-taken b r r' gives.Ended left acts acts' is began sound into fits =
     subst (λ x. Accounts (record b { running = Some r'; left = x }) acts') (sym into.0)
-    (Accounts-same b (record b { running = Some r' }) acts acts' fits into.1 (Account-knows b r r' is began) (ap is_some is))
+    (Accounts-on b (record b { running = Some r' }) acts acts' [] fits (no-act acts acts' into.1) (Account-knows b r r' is began) (ap is_some is))
 
 pub Accounts-given : (b : BetweenState) (r r' : Running) (result : Took) (owed : List ℕ) (acts acts' : Option (List ToldAct)) → b.running ≡ Some r → r'.began ≡ r.began →
     GivesFrom result b.owed owed acts acts' → Accounts b acts → Accounts (record b { running = Some r'; owed = owed }) acts'
@@ -46,14 +47,14 @@ Accounts-given b r r' (takes.Bytes n) owed acts acts' is began given fits =
     (Account-took b r r' n is began given.0 given.1) (ap is_some is))
 Accounts-given b r r' takes.NoRoom owed acts acts' is began given fits =
     subst (λ x. Accounts (record b { running = Some r'; owed = x }) acts') (sym given.0)
-    (Accounts-same b (record b { running = Some r' }) acts acts' fits given.1 (Account-knows b r r' is began) (ap is_some is))
+    (Accounts-on b (record b { running = Some r' }) acts acts' [] fits (no-act acts acts' given.1) (Account-knows b r r' is began) (ap is_some is))
 Accounts-given b r r' takes.Ended owed acts acts' is began given fits =
     subst (λ x. Accounts (record b { running = Some r'; owed = x }) acts') (sym given.0)
-    (Accounts-same b (record b { running = Some r' }) acts acts' fits given.1 (Account-knows b r r' is began) (ap is_some is))
+    (Accounts-on b (record b { running = Some r' }) acts acts' [] fits (no-act acts acts' given.1) (Account-knows b r r' is began) (ap is_some is))
 
 -- only what is known of the program that runs has changed
 pub Accounts-known : (b : BetweenState) (r r' : Running) (acts : Option (List ToldAct)) → b.running ≡ Some r → r'.began ≡ r.began → Accounts b acts → Accounts (record b { running = Some r' }) acts
-Accounts-known b r r' acts is began fits = Accounts-same b (record b { running = Some r' }) acts acts fits (stays_same acts) (Account-knows b r r' is began) (ap is_some is)
+Accounts-known b r r' acts is began fits = Accounts-on b (record b { running = Some r' }) acts acts [] fits (appended_none acts) (Account-knows b r r' is began) (ap is_some is)
 
 -- the sound of a tick is captured
 
@@ -113,7 +114,7 @@ unpassed b r r' sound owed acts mid acts' is began tick card none told same fits
     let lost_now = lost_after b.lost (length sound) b.shape.frame_bytes in
     let after : BetweenState = record b { running = Some r'; tick = None; lost = lost_now } in
     subst (λ x. Accounts (record b { running = Some r'; owed = x; tick = None; lost = lost_now }) acts') (none ∙ sym same.0)
-    (Accounts-same after after mid acts' lost same.1 (λ ledger account. account) refl)
+    (Accounts-on after after mid acts' [] lost (no-act mid acts' same.1) (λ ledger account. account) refl)
 
 pub Accounts-passed : (b : BetweenState) (r r' : Running) (sound : List ℕ) (result : Took) (owed : List ℕ) (acts mid acts' : Option (List ToldAct)) → b.running ≡ Some r →
     r'.began ≡ r.began → b.tick ≡ Some (length sound) → b.shape.kind ≡ kind.Card → b.owed ≡ [] → Appended acts (emitted sound ∷ []) mid →

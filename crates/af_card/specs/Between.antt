@@ -97,6 +97,14 @@ PassesOn (takes.Bytes n) sound width owed acts acts' = PassesPart n sound width 
 PassesOn takes.NoRoom sound width owed acts acts' = (owed ≡ []) × Unchanged acts acts'
 PassesOn takes.Ended sound width owed acts acts' = (owed ≡ []) × Unchanged acts acts'
 
+-- The kind of device and the starts stay, and a program runs if one ran. So many bytes of a tick were captured, and are to be
+-- emitted, if any are.
+pub record Keeps (tick : Option ℕ) (before after : BetweenState) : Type 0 where
+  pub shape : after.shape ≡ before.shape
+  pub starts : after.starts ≡ before.starts
+  pub runs : is_some after.running ≡ is_some before.running
+  pub ticks : after.tick ≡ tick
+
 -- What may be done
 
 abbrev pub CanBegin : BetweenState → ℕ → Type 0

@@ -10,7 +10,7 @@ ghost use Rattle.af_process.specs.Acts.{words_of};
 ghost use Rattle.af_card.specs.Fed.{IsSilent};
 ghost use Rattle.af_world.specs.Kinds.{most_card_restarts};
 ghost use Rattle.af_program.specs.Waits.{longest_wait, may_come};
-ghost use Rattle.af_card.specs.Between.{IsWhole, PassesOn, Accounts, new_between, CanBegin, CanCapture, CanEmit, CanEnd, LeavesLess, gives_sound, is_dead, may_capture, may_emit, frames_of, is_stalled, is_over_of, running_after_look, captured_of, takes_now};
+ghost use Rattle.af_card.specs.Between.{Keeps, IsWhole, PassesOn, Accounts, new_between, CanBegin, CanCapture, CanEmit, CanEnd, LeavesLess, gives_sound, is_dead, may_capture, may_emit, frames_of, is_stalled, is_over_of, running_after_look, captured_of, takes_now};
 ghost use Rattle.af_card.specs.Lost.{lost_after};
 
 use crate::handing::{pass_on, without_room};
@@ -217,9 +217,7 @@ impl Between {
     pub(crate) fn take<P: Program>(&mut self, program: &mut P, at: u64)
         requires fits { Accounts self.old (P.acts program.old) }
         ensures fits { Accounts self.new (P.acts program.new) }
-        ensures same { (self.new.shape ≡ self.old.shape) × (self.new.starts.restarts ≡ self.old.starts.restarts) }
-        ensures tick { self.new.tick ≡ self.old.tick }
-        ensures runs { is_some self.new.running ≡ is_some self.old.running }
+        ensures keeps { Keeps self.old.tick self.old self.new }
     {
         let Some(running) = self.running else {
             return;
@@ -236,10 +234,7 @@ impl Between {
     pub(crate) fn give_owed<P: Program>(&mut self, program: &mut P, at: u64)
         requires fits { Accounts self.old (P.acts program.old) }
         ensures fits { Accounts self.new (P.acts program.new) }
-        ensures same { (self.new.shape ≡ self.old.shape) × (self.new.starts.restarts ≡ self.old.starts.restarts) }
-        ensures tick { self.new.tick ≡ self.old.tick }
-        ensures runs { is_some self.new.running ≡ is_some self.old.running }
-        ensures starts { self.new.starts ≡ self.old.starts }
+        ensures keeps { Keeps self.old.tick self.old self.new }
     {
         let Some(running) = self.running else {
             return;
@@ -296,8 +291,7 @@ impl Between {
         requires fits { Accounts self.old (P.acts program.old) }
         ensures fits { Accounts self.new (P.acts program.new) }
         ensures acts { Appended (P.acts program.old) (captured into.new ∷ []) (P.acts program.new) }
-        ensures same { (self.new.shape ≡ self.old.shape) × (self.new.starts.restarts ≡ self.old.starts.restarts) }
-        ensures tick { self.new.tick ≡ Some (length into.new) }
+        ensures keeps { Keeps (Some (length into.new)) self.old self.new }
         ensures sound { into.new ≡ captured_of self.old.running self.old (length into.old) }
     {
         match self.running {
@@ -314,8 +308,7 @@ impl Between {
         requires fits { Accounts self.old (P.acts program.old) }
         ensures fits { Accounts self.new (P.acts program.new) }
         ensures acts { Appended (P.acts program.old) (captured into.new ∷ []) (P.acts program.new) }
-        ensures same { (self.new.shape ≡ self.old.shape) × (self.new.starts.restarts ≡ self.old.starts.restarts) }
-        ensures tick { self.new.tick ≡ Some (length into.new) }
+        ensures keeps { Keeps (Some (length into.new)) self.old self.new }
         ensures sound { into.new ≡ take (length into.old) self.old.left }
     {
         into.copy_from_slice(&self.input.as_slice()[..into.len()]);
@@ -331,8 +324,7 @@ impl Between {
         requires fits { Accounts self.old (P.acts program.old) }
         ensures fits { Accounts self.new (P.acts program.new) }
         ensures acts { Appended (P.acts program.old) (captured into.new ∷ []) (P.acts program.new) }
-        ensures same { (self.new.shape ≡ self.old.shape) × (self.new.starts.restarts ≡ self.old.starts.restarts) }
-        ensures tick { self.new.tick ≡ Some (length into.new) }
+        ensures keeps { Keeps (Some (length into.new)) self.old self.new }
         ensures sound { into.new ≡ replicate (length into.old) self.old.shape.silence }
     {
         silence(into, self.shape.silence);
@@ -346,10 +338,7 @@ impl Between {
         requires can { CanEmit self.old (length sound.now) }
         requires fits { Accounts self.old (P.acts program.old) }
         ensures fits { Accounts self.new (P.acts program.new) }
-        ensures same { (self.new.shape ≡ self.old.shape) × (self.new.starts.restarts ≡ self.old.starts.restarts) }
-        ensures tick { self.new.tick ≡ None }
-        ensures runs { is_some self.new.running ≡ is_some self.old.running }
-        ensures starts { self.new.starts ≡ self.old.starts }
+        ensures keeps { Keeps None self.old self.new }
         ensures idle { self.old.running ≡ None → Appended (P.acts program.old) (emitted sound.now ∷ []) (P.acts program.new) }
     {
         match self.running {
@@ -372,10 +361,7 @@ impl Between {
         requires kind { self.old.shape.kind ≡ CardKind.Speaker }
         requires fits { Accounts self.old (P.acts program.old) }
         ensures fits { Accounts self.new (P.acts program.new) }
-        ensures same { (self.new.shape ≡ self.old.shape) × (self.new.starts.restarts ≡ self.old.starts.restarts) }
-        ensures tick { self.new.tick ≡ None }
-        ensures runs { is_some self.new.running ≡ is_some self.old.running }
-        ensures starts { self.new.starts ≡ self.old.starts }
+        ensures keeps { Keeps None self.old self.new }
     {
         program.note_emitted(sound);
         self.owed.append(sound);
@@ -390,10 +376,7 @@ impl Between {
         requires kind { self.old.shape.kind ≡ CardKind.Card }
         requires fits { Accounts self.old (P.acts program.old) }
         ensures fits { Accounts self.new (P.acts program.new) }
-        ensures same { (self.new.shape ≡ self.old.shape) × (self.new.starts.restarts ≡ self.old.starts.restarts) }
-        ensures tick { self.new.tick ≡ None }
-        ensures runs { is_some self.new.running ≡ is_some self.old.running }
-        ensures starts { self.new.starts ≡ self.old.starts }
+        ensures keeps { Keeps None self.old self.new }
     {
         program.note_emitted(sound);
         self.tick = None;
@@ -417,10 +400,7 @@ impl Between {
         requires kind { self.old.running ≡ None ⊎ self.old.shape.kind ≡ CardKind.Microphone }
         requires fits { Accounts self.old (P.acts program.old) }
         ensures fits { Accounts self.new (P.acts program.new) }
-        ensures same { (self.new.shape ≡ self.old.shape) × (self.new.starts.restarts ≡ self.old.starts.restarts) }
-        ensures tick { self.new.tick ≡ None }
-        ensures runs { is_some self.new.running ≡ is_some self.old.running }
-        ensures starts { self.new.starts ≡ self.old.starts }
+        ensures keeps { Keeps None self.old self.new }
         ensures acts { Appended (P.acts program.old) (emitted sound.now ∷ []) (P.acts program.new) }
     {
         program.note_emitted(sound);

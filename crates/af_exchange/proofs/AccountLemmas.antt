@@ -4,12 +4,12 @@ use Rattle.std.specs.Prelude.{⊤, MatchOption}
 use Rattle.std.specs.List.{fold}
 use Rattle.std.specs.declared.option.Option.{Option}
 use Rattle.std.specs.declared.option.Option.TheVariants.{None, Some}
-use Rattle.af_io.specs.Observed.{Appended, Unchanged}
+use Rattle.af_io.specs.Observed.{Appended}
 use Rattle.af_program.specs.declared.starts.Starts.{Starts}
 use Rattle.af_program.specs.Acts.{ToldAct, gave, took, ended, captured, emitted, runs_after}
 use Rattle.af_program.specs.Waits.{may_come, begun_once_more, after_end}
 use Rattle.af_program.specs.Ledger.{Ledger, NowFits, idle_after, ledger_after, ledger_begun, ledger_ended, ledger_failed, on_run}
-use Rattle.af_program.proofs.LedgerLemmas.{fits-begun, fits-ended, fits-failed, fits-known, fits-on, holds-on, holds-same, run-of}
+use Rattle.af_program.proofs.LedgerLemmas.{fits-begun, fits-ended, fits-failed, fits-known, fits-on, holds-on, run-of}
 use Rattle.af_phone.specs.declared.line.LineChange.{LineChange}
 use Rattle.af_exchange.specs.declared.running.Running.{Running}
 use Rattle.af_exchange.specs.Lines.{text_of, hook_text}
@@ -24,11 +24,6 @@ pub Accounts-on : (d d' : DialogueState) (before after : Option (List ToldAct)) 
     ((ledger : Ledger Run) → Account d ledger → Account d' (fold (ledger_after exchange_book) ledger acts)) →
     fold runs_after (is_some d.running) acts ≡ is_some d'.running → Accounts d' after
 Accounts-on d d' before after acts = holds-on exchange_book first_hook (Account d) (Account d') (is_some d.running) (is_some d'.running) before after acts
-
--- no act
-pub Accounts-same : (d d' : DialogueState) (before after : Option (List ToldAct)) → Accounts d before → Unchanged before after →
-    ((ledger : Ledger Run) → Account d ledger → Account d' ledger) → is_some d.running ≡ is_some d'.running → Accounts d' after
-Accounts-same d d' before after = holds-same exchange_book first_hook (Account d) (Account d') (is_some d.running) (is_some d'.running) before after
 
 -- Runs
 

@@ -3,7 +3,7 @@ use Rattle.std.proofs.Common.{◌≡◌, ◌≢◌, ℕ, Bool, true, false, not,
 use Rattle.std.specs.declared.option.Option.{Option}
 use Rattle.std.specs.declared.option.Option.TheVariants.{None, Some}
 use Rattle.af_io.specs.Observed.{Appended}
-use Rattle.af_io.proofs.AppendedLemmas.{stays_same}
+use Rattle.af_io.proofs.AppendedLemmas.{appended_none}
 use Rattle.af_phone.specs.declared.line.LineChange.{LineChange}
 use Rattle.af_program.specs.declared.program.Gave.{Gave}
 use Rattle.af_program.specs.declared.program.Gave.TheVariants as gives
@@ -15,6 +15,7 @@ use Rattle.af_program.specs.declared.starts.Starts.{Starts}
 use Rattle.af_program.specs.Acts.{ToldAct, launched, gave, took, ended, captured, emitted}
 use Rattle.af_program.specs.Handing.{TakesInto, GivesFrom}
 use Rattle.af_program.specs.Waits.{may_come, begun_once_more, after_end}
+use Rattle.af_program.proofs.LedgerLemmas.{no-act}
 use Rattle.af_exchange.specs.declared.running.Running.{Running}
 use Rattle.af_exchange.specs.Lines.{text_of, hook_text}
 use Rattle.af_exchange.specs.Fronts.{SaysMore}
@@ -23,7 +24,7 @@ use Rattle.af_exchange.specs.Told.{RunTold}
 use Rattle.af_exchange.specs.Dialogue.{DialogueState, Accounts, running_since, after_take, after_give, PassesOver, CanEnd}
 use Rattle.af_exchange.proofs.NoteLemmas.{notes, notes-same}
 use Rattle.af_exchange.proofs.RunLemmas.{told-closed, told-owed, told-missed}
-use Rattle.af_exchange.proofs.AccountLemmas.{Accounts-on, Accounts-same, Account-gave, Account-took, Account-knows, Account-passed, Account-changed, Account-called, Account-begun, Account-failed, Account-ended}
+use Rattle.af_exchange.proofs.AccountLemmas.{Accounts-on, Account-gave, Account-took, Account-knows, Account-passed, Account-changed, Account-called, Account-begun, Account-failed, Account-ended}
 
 pub Accounts-taken : (d : DialogueState) (r : Running) (result : Gave) (left : List ℕ) (acts acts' : Option (List ToldAct)) → d.running ≡ Some r →
     TakesInto result d.left left acts acts' → Accounts d acts → Accounts (record d { running = Some (after_take result r); left = left }) acts'
@@ -33,10 +34,10 @@ Accounts-taken d r (gives.Bytes n) left acts acts' is into fits =
     (Account-gave d r r into.0 is refl refl) (ap is_some is))
 Accounts-taken d r gives.NotYet left acts acts' is into fits =
     subst (λ x. Accounts (record d { running = Some r; left = x }) acts') (sym into.0)
-    (Accounts-same d (record d { running = Some r }) acts acts' fits into.1 (Account-knows d r r is refl (λ run told. told)) (ap is_some is))
+    (Accounts-on d (record d { running = Some r }) acts acts' [] fits (no-act acts acts' into.1) (Account-knows d r r is refl (λ run told. told)) (ap is_some is))
 Accounts-taken d r gives.Ended left acts acts' is into fits =
     subst (λ x. Accounts (record d { running = Some (record r { is_ended = true }); left = x }) acts') (sym into.0)
-    (Accounts-same d (record d { running = Some (record r { is_ended = true }) }) acts acts' fits into.1
+    (Accounts-on d (record d { running = Some (record r { is_ended = true }) }) acts acts' [] fits (no-act acts acts' into.1)
     (Account-knows d r (record r { is_ended = true }) is refl (λ run told. told)) (ap is_some is))
 
 pub notes-taken : (result : Gave) (before after : List ℕ) (acts acts' : Option (List ToldAct)) → TakesInto result before after acts acts' → Notes [] [] [] acts acts'
@@ -52,10 +53,10 @@ Accounts-given d r (takes.Bytes n) owed acts acts' is given fits =
     (Account-took d r r n is refl refl) (ap is_some is))
 Accounts-given d r takes.NoRoom owed acts acts' is given fits =
     subst (λ x. Accounts (record d { running = Some r; owed = x }) acts') (sym given.0)
-    (Accounts-same d (record d { running = Some r }) acts acts' fits given.1 (Account-knows d r r is refl (λ run told. told)) (ap is_some is))
+    (Accounts-on d (record d { running = Some r }) acts acts' [] fits (no-act acts acts' given.1) (Account-knows d r r is refl (λ run told. told)) (ap is_some is))
 Accounts-given d r takes.Ended owed acts acts' is given fits =
     subst (λ x. Accounts (record d { running = Some (record r { is_closed = true }); owed = x }) acts') (sym given.0)
-    (Accounts-same d (record d { running = Some (record r { is_closed = true }) }) acts acts' fits given.1
+    (Accounts-on d (record d { running = Some (record r { is_closed = true }) }) acts acts' [] fits (no-act acts acts' given.1)
     (Account-knows d r (record r { is_closed = true }) is refl (λ run told. told-closed run d.left d.owed (not r.is_closed) told)) (ap is_some is))
 
 pub notes-given : (result : Took) (before after : List ℕ) (acts acts' : Option (List ToldAct)) → GivesFrom result before after acts acts' → Notes [] [] [] acts acts'
@@ -65,7 +66,7 @@ notes-given takes.Ended before after acts acts' given = notes-same acts acts' gi
 
 pub Accounts-passed : (d : DialogueState) (left : List ℕ) (acts : Option (List ToldAct)) → PassesOver d.left left → Accounts d acts → Accounts (record d { left = left }) acts
 Accounts-passed d left acts over fits =
-    Accounts-same d (record d { left = left }) acts acts fits (stays_same acts) (Account-passed d left over) refl
+    Accounts-on d (record d { left = left }) acts acts [] fits (appended_none acts) (Account-passed d left over) refl
 
 pub Accounts-changed : (d : DialogueState) (now : Option Running) (change : LineChange) (count : ℕ) (left : List ℕ) (acts acts' : Option (List ToldAct)) → d.running ≡ now → is_some now ≡ true →
     SaysMore (change ∷ []) count d.left → left ≡ drop count d.left → Appended acts (captured (text_of change) ∷ []) acts' → Accounts d acts → Accounts (record d { left = left }) acts'

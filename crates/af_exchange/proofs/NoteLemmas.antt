@@ -4,8 +4,9 @@ use Rattle.std.proofs.lemmas.List.Concat.{flat_map-append}
 use Rattle.std.specs.declared.option.Option.{Option}
 use Rattle.std.specs.declared.option.Option.TheVariants.{None, Some}
 use Rattle.af_io.specs.Observed.{Appended, Unchanged}
-use Rattle.af_io.proofs.AppendedLemmas.{appended_on, appended_none}
+use Rattle.af_io.proofs.AppendedLemmas.{appended_on}
 use Rattle.af_program.specs.Acts.{ToldAct}
+use Rattle.af_program.proofs.LedgerLemmas.{no-act}
 use Rattle.af_exchange.specs.Ledger.{Notes, Order, all_told, call_in, change_in, order_in}
 
 -- what more acts have of this
@@ -22,11 +23,7 @@ notes acts acts' more added =
 
 -- none was done
 pub notes-same : (acts acts' : Option (List ToldAct)) → Unchanged acts acts' → Notes [] [] [] acts acts'
-notes-same acts acts' same = notes acts acts' [] (none-added acts acts' same) where
-  none-added : (acts acts' : Option (List ToldAct)) → Unchanged acts acts' → Appended acts [] acts'
-  none-added acts None same = tt
-  none-added None (Some after) same = absurd same
-  none-added (Some before) (Some after) same = same ∙ appended_none (Some before)
+notes-same acts acts' same = notes acts acts' [] (no-act acts acts' same)
 
 -- more were done
 pub notes-on : (given called : List (List ℕ)) (started : List Order) (given' called' : List (List ℕ)) (started' : List Order) (acts mid acts' : Option (List ToldAct)) →

@@ -102,7 +102,7 @@ reads-all : (given left : List ℕ) (changes : List (List ℕ)) (t : ChangesGive
 reads-all given left changes t = ap changes_of t.parts ∙ fold-append after_byte (at_line [] []) t.read left ∙ ap (λ r. fold after_byte r left) t.reads
 
 -- all changes were given
-pub all-given : (given left : List ℕ) (changes : List (List ℕ)) (is_fault : Bool) → ChangesGiven given left changes → SaysNoMore is_fault left →
+all-given : (given left : List ℕ) (changes : List (List ℕ)) (is_fault : Bool) → ChangesGiven given left changes → SaysNoMore is_fault left →
     (changes ≡ map text_of (changes_of given).changes) × ((changes_of given).is_fault ≡ is_fault)
 all-given given left changes is_fault t none =
     let all = reads-all given left changes t in (

@@ -24,13 +24,3 @@ pub runs_in-noted : (before after : Option (List ToldAct)) (noted : Result Act O
     ActNoted before noted after → IfSome before (λ acts. runs ≡ runs_in acts) → IfSome after (λ acts. runs_after runs act ≡ runs_in acts)
 runs_in-noted before after (Ok a) act runs is added shown = runs_in-appended before after (told_of a) act runs is added shown
 runs_in-noted before after (Err e) act runs is added shown = subst (λ told_now. IfSome told_now (λ acts. runs_after runs act ≡ runs_in acts)) (sym added) tt
-
--- the acts show that it runs
-pub shown_to_run : (acts : Option (List ToldAct)) (runs : Bool) → IfSome acts (λ acts. runs ≡ runs_in acts) → IsTrue runs → RunsWhereTold acts
-shown_to_run None runs shown is = tt
-shown_to_run (Some acts) runs shown is = sym shown ∙ is
-
--- the acts show that it does not run
-pub shown_to_idle : (acts : Option (List ToldAct)) (runs : Bool) → IfSome acts (λ acts. runs ≡ runs_in acts) → IsFalse runs → IdlesWhereTold acts
-shown_to_idle None runs shown is = tt
-shown_to_idle (Some acts) runs shown is = sym shown ∙ is

@@ -6,6 +6,7 @@ use Rattle.std.proofs.lemmas.List.Elements.{All-cons}
 use Rattle.std.specs.declared.option.Option.{Option}
 use Rattle.std.specs.declared.option.Option.TheVariants.{None, Some}
 use Rattle.af_io.specs.Observed.{Appended, Unchanged}
+use Rattle.af_io.proofs.AppendedLemmas.{appended_none, stays_appended}
 use Rattle.af_program.specs.declared.starts.Starts.{Starts}
 use Rattle.af_program.specs.Acts.{ToldAct, runs_in, runs_after}
 use Rattle.af_program.specs.Waits.{Start, KeepsStarts, may_come, begun_once_more, after_end}
@@ -24,12 +25,8 @@ holds-on book latest Is Is' runs runs' (Some before) (Some after) acts holds add
 )
 
 -- no act
-pub holds-same : {Run : Type 0} (book : Book Run) (latest : List ℕ) (Is Is' : Ledger Run → Type 0) (runs runs' : Bool) (before after : Option (List ToldAct)) →
-    HoldsOf book latest Is runs before → Unchanged before after → ((ledger : Ledger Run) → Is ledger → Is' ledger) → runs ≡ runs' → HoldsOf book latest Is' runs' after
-holds-same book latest Is Is' runs runs' before None holds same on run = tt
-holds-same book latest Is Is' runs runs' None (Some after) holds same on run = absurd same
-holds-same book latest Is Is' runs runs' (Some before) (Some after) holds same on run =
-    (subst (λ acts. Is' (ledger_by book latest acts)) (sym same) (on (ledger_by book latest before) holds.0), ap runs_in same ∙ holds.1 ∙ run)
+pub no-act : (acts acts' : Option (List ToldAct)) → Unchanged acts acts' → Appended acts [] acts'
+no-act acts acts' same = stays_appended acts acts' acts' [] same (appended_none acts')
 
 -- while a program runs, the acts have a run for it
 pub run-of : {Run : Type 0} (Now : Run → Type 0) (began : Option ℕ) (moment : ℕ) (now : Option Run) → began ≡ Some moment → NowFits Now began now → (run : Run) × (now ≡ Some run) × Now run
@@ -44,7 +41,7 @@ no-run Now None (Some run) is fits = absurd fits
 no-run Now (Some began) (Some run) is fits = grind arith
 
 -- the run of the program that runs goes on
-pub now-on : {Run : Type 0} (Now Now' : Run → Type 0) (began : Option ℕ) (on : Run → Run) → ((run : Run) → Now run → Now' (on run)) → (now : Option Run) →
+now-on : {Run : Type 0} (Now Now' : Run → Type 0) (began : Option ℕ) (on : Run → Run) → ((run : Run) → Now run → Now' (on run)) → (now : Option Run) →
     NowFits Now began now → NowFits Now' began (on_run on now)
 now-on Now Now' None on goes None fits = tt
 now-on Now Now' None on goes (Some run) fits = fits

@@ -1,10 +1,9 @@
 -- What stands between a device and its program keeps to the acts, act by act.
-use Rattle.std.proofs.Common.{◌≡◌, ℕ, ◌+◌, ◌-◌, ◌*◌, ◌/◌, ◌≤◌, ◌<◌, ◌⊎◌, inl, inr, Bool, true, false, List, [], ◌∷◌, ◌++◌, length, min, take, drop, refl, sym, ap, ◌∙◌, subst, arith, is_some, append_assoc, append-nil, add-zero}
+use Rattle.std.proofs.Common.{◌≡◌, ℕ, ◌+◌, ◌-◌, ◌*◌, ◌/◌, ◌≤◌, ◌<◌, ◌⊎◌, true, false, List, [], ◌∷◌, ◌++◌, length, min, take, drop, refl, sym, ap, ◌∙◌, subst, arith, is_some, append_assoc, add-zero}
 use Rattle.std.specs.Prelude.{⊤, MatchOption}
 use Rattle.std.specs.List.{fold, All}
-use Rattle.std.proofs.lemmas.List.Elements.{All-cons, All-nil}
-use Rattle.std.proofs.Math.Seq.{take-add}
-use Rattle.std.proofs.lemmas.List.{take-append-drop, length-drop, length-take, length-take-le, take_min}
+use Rattle.std.proofs.lemmas.List.Elements.{All-cons}
+use Rattle.std.proofs.lemmas.List.{take-append-drop, length-take-le}
 use Rattle.std.specs.declared.option.Option.{Option}
 use Rattle.std.specs.declared.option.Option.TheVariants.{None, Some}
 use Rattle.af_io.specs.Observed.{Appended}
@@ -18,12 +17,12 @@ use Rattle.af_world.specs.declared.card_kind.CardKind.TheVariants as kind
 use Rattle.af_card.specs.declared.shape.Shape.{Shape}
 use Rattle.af_card.specs.declared.running.Running.{Running}
 use Rattle.af_card.specs.Ledger.{Run, card_book, ledger_of, new_run}
-use Rattle.af_card.specs.Fed.{RunFits, PastRunFits, HasWholeFrames, CapturedBy, CapturedOf, HandedBy, IsInStep, IsPassed, IsSilent, sound_of}
+use Rattle.af_card.specs.Fed.{RunFits, PastRunFits, HasWholeFrames, CapturedBy, CapturedOf, HandedBy, IsInStep, IsSilent, sound_of}
 use Rattle.af_card.specs.Lost.{lost_of, lost_in, lost_now, lost_before, lost_after, most_lost}
 use Rattle.af_card.specs.Card.{IsFed, RunIsFed}
 use Rattle.af_card.proofs.FedLemmas.{captured-gave, handed-gave, captured-took, handed-took, captured-emitted, emitted-in-step, handed-part, new-run-fits, less-left}
 use Rattle.af_card.proofs.LostLemmas.{new-lost, took-lost, never-lost, untaken-lost, part-lost}
-use Rattle.af_card.specs.Between.{BetweenState, Account, Accounts, FitsNow, began_of, running_since, CapturesBy, EmitsBy, IsWhole, LeavesLess, gives_sound}
+use Rattle.af_card.specs.Between.{BetweenState, Account, Accounts, FitsNow, began_of, running_since, CapturesBy, IsWhole, LeavesLess, gives_sound}
 
 -- some more acts
 pub Accounts-on : (b b' : BetweenState) (before after : Option (List ToldAct)) (acts : List ToldAct) → Accounts b before → Appended before acts after →

@@ -67,7 +67,8 @@ began_of (Some running) = Some running.began
 abbrev pub FitsNow : BetweenState → Run → Type 0
 FitsNow b run = RunFits b.shape run b.left b.owed b.tick
 
--- While no program runs nothing is left of a program's sound, and none is owed.
+-- What stands between a device and its program fits the ledger. While no program runs nothing is left of a program's sound, and
+-- none is owed.
 pub record Account (b : BetweenState) (ledger : Ledger Run) : Type 0 where
   pub fits : LedgerFits (PastRunFits b.shape) (FitsNow b) b.starts (began_of b.running) ledger
   pub idle : All (IsSilent b.shape.silence) ledger.idle

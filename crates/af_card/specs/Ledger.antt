@@ -10,6 +10,7 @@ pub record Run : Type 0 where
   pub captured : List (List ℕ)
   pub emitted : List (List ℕ)
 
+-- a program was started
 abbrev pub new_run : Run
 new_run = record { given = []; taken = []; captured = []; emitted = [] }
 

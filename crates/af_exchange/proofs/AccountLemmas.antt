@@ -1,6 +1,5 @@
 -- What stands between a line and its program keeps to the acts, act by act.
-use Rattle.std.proofs.Common.{◌≡◌, ℕ, Bool, true, false, not, List, [], ◌∷◌, ◌++◌, take, drop, refl, sym, ap, ◌∙◌, subst, arith, is_some}
-use Rattle.std.specs.Prelude.{⊤, MatchOption}
+use Rattle.std.proofs.Common.{◌≡◌, ℕ, Bool, true, not, List, [], ◌∷◌, ◌++◌, take, drop, refl, sym, ap, ◌∙◌, subst, is_some}
 use Rattle.std.specs.List.{fold}
 use Rattle.std.specs.declared.option.Option.{Option}
 use Rattle.std.specs.declared.option.Option.TheVariants.{None, Some}
@@ -8,14 +7,14 @@ use Rattle.af_io.specs.Observed.{Appended}
 use Rattle.af_program.specs.declared.starts.Starts.{Starts}
 use Rattle.af_program.specs.Acts.{ToldAct, gave, took, ended, captured, emitted, runs_after}
 use Rattle.af_program.specs.Waits.{may_come, begun_once_more, after_end}
-use Rattle.af_program.specs.Ledger.{Ledger, NowFits, idle_after, ledger_after, ledger_begun, ledger_ended, ledger_failed, on_run}
+use Rattle.af_program.specs.Ledger.{Ledger, idle_after, ledger_after, ledger_begun, ledger_ended, ledger_failed, on_run}
 use Rattle.af_program.proofs.LedgerLemmas.{fits-begun, fits-ended, fits-failed, fits-known, fits-on, holds-on, run-of}
 use Rattle.af_phone.specs.declared.line.LineChange.{LineChange}
 use Rattle.af_exchange.specs.declared.running.Running.{Running}
 use Rattle.af_exchange.specs.Lines.{text_of, hook_text}
 use Rattle.af_exchange.specs.Fronts.{SaysMore}
-use Rattle.af_exchange.specs.Ledger.{Run, exchange_book, first_hook, ledger_of, new_run}
-use Rattle.af_exchange.specs.Told.{RunTold, PastRunTold, RunIsTold, IsTold}
+use Rattle.af_exchange.specs.Ledger.{Run, exchange_book, first_hook, new_run}
+use Rattle.af_exchange.specs.Told.{RunTold, PastRunTold}
 use Rattle.af_exchange.specs.Dialogue.{DialogueState, Account, Accounts, ToldNow, began_of, running_since, PassesOver, CanEnd, is_open}
 use Rattle.af_exchange.proofs.RunLemmas.{told-gave, told-took, told-passed, told-changed, told-begun, told-ended}
 

@@ -70,6 +70,7 @@ began_of (Some running) = Some running.began
 abbrev pub ToldNow : DialogueState → Run → Type 0
 ToldNow d run = RunTold run d.left d.owed (is_open d.running)
 
+-- what stands between a line and its program fits the ledger
 pub record Account (d : DialogueState) (ledger : Ledger Run) : Type 0 where
   pub fits : LedgerFits PastRunTold (ToldNow d) d.starts (began_of d.running) ledger
   pub none : ledger.idle ≡ []

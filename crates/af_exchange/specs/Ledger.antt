@@ -1,11 +1,11 @@
 -- What each program of a line gave and was handed, by the acts. A change that was given is noted as the sound that a device
--- captures, and a hook call as the sound that it emits: by their lines. So the sound that was emitted last is the line of the hook
--- as it is.
+-- captures, and a hook call as the sound that it emits: by their lines. So the sound that was emitted last is the line of the
+-- hook as it is.
 use Rattle.std.specs.Prelude.{ℕ, List, [], ◌∷◌, ◌++◌, codes, flat_map}
 use Rattle.std.specs.declared.option.Option.{Option}
 use Rattle.std.specs.declared.option.Option.TheVariants.{None, Some}
 use Rattle.af_io.specs.Observed.{Appended}
-use Rattle.af_program.specs.Acts.{ToldAct, launched, gave, took, ended, captured, emitted}
+use Rattle.af_program.specs.Acts.{ToldAct, launched, captured, emitted}
 use Rattle.af_program.specs.Ledger.{Book, Ledger, ledger_by}
 
 -- While one program ran: the bytes that it gave and those that it took; the lines of the changes that were given meanwhile; and
@@ -16,6 +16,7 @@ pub record Run : Type 0 where
   pub changes : List (List ℕ)
   pub told : List ℕ
 
+-- a program was started, with this line of the hook
 abbrev pub new_run : List ℕ → Run
 new_run hook = record { given = []; taken = []; changes = []; told = hook }
 

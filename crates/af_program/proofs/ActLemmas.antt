@@ -1,5 +1,5 @@
 -- Whether a program runs, once an act is added.
-use Rattle.std.proofs.Common.{◌≡◌, Bool, false, List, [], ◌∷◌, IfSome, IfOk, IsTrue, IsFalse, sym, ap, subst, ◌∙◌}
+use Rattle.std.proofs.Common.{◌≡◌, Bool, false, List, [], ◌∷◌, IfSome, IfOk, sym, ap, subst, ◌∙◌}
 use Rattle.std.proofs.lemmas.List.Sums.{fold-append}
 use Rattle.std.specs.declared.option.Option.{Option}
 use Rattle.std.specs.declared.option.Option.TheVariants.{None, Some}
@@ -8,7 +8,7 @@ use Rattle.std.specs.declared.result.Result.TheVariants.{Ok, Err}
 use Rattle.af_io.specs.Observed.{Appended}
 use Rattle.af_time.specs.declared.OutOfMemory.{OutOfMemory}
 use Rattle.af_program.specs.declared.act.Act.{Act}
-use Rattle.af_program.specs.Acts.{ToldAct, runs_after, runs_in, RunsWhereTold, IdlesWhereTold}
+use Rattle.af_program.specs.Acts.{ToldAct, runs_after, runs_in}
 use Rattle.af_program.specs.Notes.{told_of, ActNoted}
 
 -- what the acts show goes on

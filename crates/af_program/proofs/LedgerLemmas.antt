@@ -1,5 +1,5 @@
 -- What a caller keeps of its program fits the ledger of the acts, act by act.
-use Rattle.std.proofs.Common.{◌≡◌, ℕ, Bool, true, false, List, [], ◌∷◌, refl, sym, ap, ◌∙◌, subst, arith}
+use Rattle.std.proofs.Common.{◌≡◌, ℕ, Bool, true, false, List, [], refl, sym, ap, ◌∙◌, subst, arith}
 use Rattle.std.specs.List.{fold, All}
 use Rattle.std.proofs.lemmas.List.Sums.{fold-append}
 use Rattle.std.proofs.lemmas.List.Elements.{All-cons}
@@ -9,7 +9,7 @@ use Rattle.af_io.specs.Observed.{Appended, Unchanged}
 use Rattle.af_io.proofs.AppendedLemmas.{appended_none, stays_appended}
 use Rattle.af_program.specs.declared.starts.Starts.{Starts}
 use Rattle.af_program.specs.Acts.{ToldAct, runs_in, runs_after}
-use Rattle.af_program.specs.Waits.{Start, KeepsStarts, may_come, begun_once_more, after_end}
+use Rattle.af_program.specs.Waits.{KeepsStarts, may_come, begun_once_more, after_end}
 use Rattle.af_program.specs.Ledger.{Book, Ledger, LedgerFits, NowFits, HoldsOf, ledger_after, ledger_begun, ledger_by, ledger_ended, ledger_failed, new_ledger, on_run, past_after, starts_once_ended}
 use Rattle.af_program.proofs.StartLemmas.{starts-begun, starts-failed, starts-ended}
 

@@ -54,11 +54,12 @@ abbrev pub past_after : {Run : Type 0} → Option Run → List Run → List Run
 past_after None past = past
 past_after (Some run) past = run ∷ past
 
--- the program that runs is ended, if one runs
+-- all starts, once the program that runs is ended, if one runs
 abbrev pub starts_once_ended : {Run : Type 0} → Option Run → List Start → ℕ → List Start
 starts_once_ended None starts at = starts
 starts_once_ended (Some run) starts at = starts_after_end starts at
 
+-- the program that runs is ended
 abbrev pub ledger_ended : {Run : Type 0} → Ledger Run → ℕ → Ledger Run
 ledger_ended l at =
     record l { running = None; past = past_after l.running l.past; starts = starts_once_ended l.running l.starts at }
@@ -89,10 +90,10 @@ NowFits Now (Some began) None = ⊥
 NowFits Now (Some began) (Some run) = Now run
 
 -- each past run fits, and so do the run of the program that runs, if it was started at this moment, and all starts
-pub record LedgerFits {Run : Type 0} (Past Now : Run → Type 0) (kept : Starts) (began : Option ℕ) (ledger : Ledger Run) : Type 0 where
-  pub past : All Past ledger.past
-  pub now : NowFits Now began ledger.running
-  pub starts : KeepsStarts kept began ledger.starts
+pub record LedgerFits {Run : Type 0} (Past Now : Run → Type 0) (kept : Starts) (began : Option ℕ) (l : Ledger Run) : Type 0 where
+  pub past : All Past l.past
+  pub now : NowFits Now began l.running
+  pub starts : KeepsStarts kept began l.starts
 
 -- if the acts are observable, this is so of their ledger, and they show whether the program runs
 abbrev pub HoldsOf : {Run : Type 0} → Book Run → List ℕ → (Ledger Run → Type 0) → Bool → Option (List ToldAct) → Type 0

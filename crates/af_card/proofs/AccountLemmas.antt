@@ -14,13 +14,12 @@ use Rattle.af_program.specs.Waits.{KeepsStarts, may_come, begun_once_more, after
 use Rattle.af_program.proofs.LedgerLemmas.{fits-begun, fits-ended, fits-failed, fits-known, fits-none, holds-on, no-run, run-of}
 use Rattle.af_world.specs.declared.card_kind.CardKind.{CardKind}
 use Rattle.af_world.specs.declared.card_kind.CardKind.TheVariants as kind
-use Rattle.af_card.specs.declared.shape.Shape.{Shape}
 use Rattle.af_card.specs.declared.running.Running.{Running}
 use Rattle.af_card.specs.Ledger.{Run, card_book, ledger_of, new_run}
 use Rattle.af_card.specs.Fed.{RunFits, PastRunFits, HasWholeFrames, CapturedBy, CapturedOf, HandedBy, IsInStep, IsSilent, sound_of}
 use Rattle.af_card.specs.Lost.{lost_of, lost_in, lost_now, lost_before, lost_after, most_lost}
 use Rattle.af_card.specs.Card.{IsFed, RunIsFed}
-use Rattle.af_card.proofs.FedLemmas.{captured-gave, handed-gave, captured-took, handed-took, captured-emitted, emitted-in-step, handed-part, new-run-fits, less-left}
+use Rattle.af_card.proofs.FedLemmas.{captured-gave, handed-took, emitted-in-step, handed-part, new-run-fits, less-left}
 use Rattle.af_card.proofs.LostLemmas.{new-lost, took-lost, never-lost, untaken-lost, part-lost}
 use Rattle.af_card.specs.Between.{BetweenState, Account, Accounts, FitsNow, began_of, running_since, CapturesBy, IsWhole, LeavesLess, gives_sound}
 
@@ -81,8 +80,8 @@ Account-gave b r r' bytes is began gives ledger account =
     Account-run b r r' ledger (b.left ++ bytes) b.owed b.tick b.lost (λ run. card_book.gave_on run bytes) ledger.idle ledger.latest is began account account.idle (λ run now fits. (
       still-lost b ledger run (card_book.gave_on run bytes) account now refl,
       record {
-        captured = captured-gave b.shape.kind b.shape run b.left bytes gives fits.captured;
-        handed = handed-gave b.shape.kind b.shape run b.owed bytes fits.handed;
+        captured = captured-gave b.shape.kind b.shape run.given run.captured b.left bytes gives fits.captured;
+        handed = fits.handed;
         in_step = fits.in_step;
       },
     ))
@@ -94,8 +93,8 @@ Account-took b r r' count is began some most ledger account =
     Account-run b r r' ledger b.left (drop count b.owed) b.tick b.lost (λ run. card_book.took_on run (take count b.owed)) ledger.idle ledger.latest is began account account.idle (λ run now fits. (
       still-lost b ledger run (card_book.took_on run (take count b.owed)) account now (took-lost b.shape run b.left b.owed b.tick count most fits),
       record {
-        captured = captured-took b.shape.kind b.shape run b.left (take count b.owed) fits.captured;
-        handed = handed-took b.shape.kind b.shape run b.owed count some most fits.handed;
+        captured = fits.captured;
+        handed = handed-took b.shape.kind b.shape run.emitted run.taken b.owed count some most fits.handed;
         in_step = fits.in_step;
       },
     ))
@@ -139,7 +138,7 @@ Account-idle b sound tick none silent ledger account =
 
 -- a sound of a tick is captured of a run
 Account-captured : (b : BetweenState) (r : Running) (sound left : List ℕ) → b.running ≡ Some r → b.tick ≡ None → (ledger : Ledger Run) → Account b ledger →
-    ((run : Run) → CapturedBy b.shape.kind b.shape run b.left → CapturedBy b.shape.kind b.shape (record run { captured = sound ∷ run.captured }) left) →
+    ((given : List ℕ) (sounds : List (List ℕ)) → CapturedBy b.shape.kind b.shape given sounds b.left → CapturedBy b.shape.kind b.shape given (sound ∷ sounds) left) →
     Account (record b { left = left; tick = Some (length sound) }) (ledger_after card_book ledger (captured sound))
 Account-captured b r sound left is tick ledger account on =
     let told = run-of (FitsNow b) (began_of b.running) r.began ledger.running (ap began_of is) account.fits.now in
@@ -148,48 +147,43 @@ Account-captured b r sound left is tick ledger account on =
     (subst (λ now. All (IsSilent b.shape.silence) (idle_after now sound ledger.idle)) (sym told.1) account.idle) (λ run now fits. (
       still-lost b ledger run (card_book.captured_on run sound) account now refl,
       record {
-        captured = on run fits.captured;
-        handed = handed-captured b.shape.kind b.shape run b.owed sound fits.handed;
+        captured = on run.given run.captured fits.captured;
+        handed = fits.handed;
         in_step = (refl, subst (λ x. IsInStep x run.captured run.emitted) tick fits.in_step);
       },
     )))
-  where
-    handed-captured : (k : CardKind) (shape : Shape) (run : Run) (owed sound : List ℕ) → HandedBy k shape run owed → HandedBy k shape (record run { captured = sound ∷ run.captured }) owed
-    handed-captured kind.Speaker shape run owed sound h = record { all = h.all; piece_at_most = h.piece_at_most }
-    handed-captured kind.Microphone shape run owed sound h = record { none = h.none; owes = h.owes }
-    handed-captured kind.Card shape run owed sound h = record { passed = h.passed; part = h.part }
 
 -- a loudspeaker captures silence
 pub Account-silent : (b : BetweenState) (r : Running) (sound : List ℕ) → b.running ≡ Some r → b.tick ≡ None → gives_sound b.shape.kind ≡ false →
     IsSilent b.shape.silence sound → (ledger : Ledger Run) → Account b ledger → Account (record b { tick = Some (length sound) }) (ledger_after card_book ledger (captured sound))
 Account-silent b r sound is tick speaker silent ledger account =
-    Account-captured b r sound b.left is tick ledger account (λ run c. silently b.shape.kind speaker run c) where
-      silently : (k : CardKind) → gives_sound k ≡ false → (run : Run) → CapturedBy k b.shape run b.left → CapturedBy k b.shape (record run { captured = sound ∷ run.captured }) b.left
-      silently kind.Speaker gives run c = record { given = c.given; silent = All-cons (IsSilent b.shape.silence) sound run.captured silent c.silent; none = c.none }
-      silently kind.Microphone gives run c = grind arith
-      silently kind.Card gives run c = grind arith
+    Account-captured b r sound b.left is tick ledger account (λ given sounds c. silently b.shape.kind speaker given sounds c) where
+      silently : (k : CardKind) → gives_sound k ≡ false → (given : List ℕ) (sounds : List (List ℕ)) → CapturedBy k b.shape given sounds b.left → CapturedBy k b.shape given (sound ∷ sounds) b.left
+      silently kind.Speaker gives given sounds c = record { given = c.given; silent = All-cons (IsSilent b.shape.silence) sound sounds silent c.silent; none = c.none }
+      silently kind.Microphone gives given sounds c = grind arith
+      silently kind.Card gives given sounds c = grind arith
 
 -- what a program gave is captured from its front
 pub Account-front : (b : BetweenState) (r : Running) (bytes : ℕ) → b.running ≡ Some r → b.tick ≡ None → gives_sound b.shape.kind ≡ true →
     CapturesBy b.shape.kind b.shape b.left bytes → (ledger : Ledger Run) → Account b ledger →
     Account (record b { left = drop bytes b.left; tick = Some (length (take bytes b.left)) }) (ledger_after card_book ledger (captured (take bytes b.left)))
 Account-front b r bytes is tick gives can ledger account =
-    Account-captured b r (take bytes b.left) (drop bytes b.left) is tick ledger account (λ run c. front b.shape.kind gives can run c) where
+    Account-captured b r (take bytes b.left) (drop bytes b.left) is tick ledger account (λ given sounds c. front b.shape.kind gives can given sounds c) where
       sound : List ℕ
       sound = take bytes b.left
 
-      parted : (run : Run) → bytes ≤ length b.left → IsWhole b.shape.frame_bytes bytes → CapturedOf b.shape.frame_bytes run b.left →
-          CapturedOf b.shape.frame_bytes (record run { captured = sound ∷ run.captured }) (drop bytes b.left)
-      parted run most whole c = record {
-        given = c.given ∙ ap (λ x. sound_of run.captured ++ x) (sym (take-append-drop bytes b.left)) ∙ sym (append_assoc (sound_of run.captured) sound (drop bytes b.left));
-        whole = All-cons (HasWholeFrames b.shape.frame_bytes) sound run.captured (whole.0, length-take-le bytes b.left most ∙ whole.1) c.whole;
+      parted : (given : List ℕ) (sounds : List (List ℕ)) → bytes ≤ length b.left → IsWhole b.shape.frame_bytes bytes → CapturedOf b.shape.frame_bytes given sounds b.left →
+          CapturedOf b.shape.frame_bytes given (sound ∷ sounds) (drop bytes b.left)
+      parted given sounds most whole c = record {
+        given = c.given ∙ ap (λ x. sound_of sounds ++ x) (sym (take-append-drop bytes b.left)) ∙ sym (append_assoc (sound_of sounds) sound (drop bytes b.left));
+        whole = All-cons (HasWholeFrames b.shape.frame_bytes) sound sounds (whole.0, length-take-le bytes b.left most ∙ whole.1) c.whole;
       }
 
-      front : (k : CardKind) → gives_sound k ≡ true → CapturesBy k b.shape b.left bytes → (run : Run) → CapturedBy k b.shape run b.left →
-          CapturedBy k b.shape (record run { captured = sound ∷ run.captured }) (drop bytes b.left)
-      front kind.Speaker gave-some can run c = grind arith
-      front kind.Microphone gave-some can run c = parted run can.0 can.1 c
-      front kind.Card gave-some can run c = parted run can.0 can.1 c
+      front : (k : CardKind) → gives_sound k ≡ true → CapturesBy k b.shape b.left bytes → (given : List ℕ) (sounds : List (List ℕ)) → CapturedBy k b.shape given sounds b.left →
+          CapturedBy k b.shape given (sound ∷ sounds) (drop bytes b.left)
+      front kind.Speaker gave-some can given sounds c = grind arith
+      front kind.Microphone gave-some can given sounds c = parted given sounds can.0 can.1 c
+      front kind.Card gave-some can given sounds c = parted given sounds can.0 can.1 c
 
 -- Emitted
 
@@ -215,14 +209,14 @@ counts-all b sound card ledger run account is fits =
 
 -- a tick is emitted to a run, and nothing of it is taken now
 pub Account-untaken : (b : BetweenState) (r r' : Running) (sound owed : List ℕ) (lost : ℕ) → b.running ≡ Some r → r'.began ≡ r.began → b.tick ≡ Some (length sound) →
-    ((run : Run) → HandedBy b.shape.kind b.shape run b.owed → HandedBy b.shape.kind b.shape (record run { emitted = sound ∷ run.emitted }) owed) → CountsMore b sound lost →
+    ((sounds : List (List ℕ)) (taken : List ℕ) → HandedBy b.shape.kind b.shape sounds taken b.owed → HandedBy b.shape.kind b.shape (sound ∷ sounds) taken owed) → CountsMore b sound lost →
     (ledger : Ledger Run) → Account b ledger → Account (record b { running = Some r'; owed = owed; tick = None; lost = lost }) (ledger_after card_book ledger (emitted sound))
 Account-untaken b r r' sound owed lost is began tick on counts ledger account =
     Account-run b r r' ledger b.left owed None lost (λ run. card_book.emitted_on run sound) ledger.idle sound is began account account.idle (λ run now fits. (
       counts ledger run account now (subst (λ x. RunFits b.shape run b.left b.owed x) tick fits),
       record {
-        captured = captured-emitted b.shape.kind b.shape run b.left sound fits.captured;
-        handed = on run fits.handed;
+        captured = fits.captured;
+        handed = on run.emitted run.taken fits.handed;
         in_step = emitted-in-step (length sound) sound run.captured run.emitted refl (subst (λ x. IsInStep x run.captured run.emitted) tick fits.in_step);
       },
     ))
@@ -247,8 +241,8 @@ Account-passed b r r' sound count rest frames is began tick card none most less 
     let fitted : RunFits b.shape run b.left [] (Some (length sound)) = subst (λ x. RunFits b.shape run b.left x (Some (length sound))) none (subst (λ x. RunFits b.shape run b.left b.owed x) tick fits) in (
       more-lost b ledger run (on run) without account now (part-lost b.shape run b.left sound count rest frames card most less whole fitted),
       record {
-        captured = captured-took b.shape.kind b.shape (card_book.emitted_on run sound) b.left (take count sound) (captured-emitted b.shape.kind b.shape run b.left sound fits.captured);
-        handed = handed-part b.shape.kind card b.shape run sound count rest frames most less whole (subst (HandedBy b.shape.kind b.shape run) none fits.handed);
+        captured = fits.captured;
+        handed = handed-part b.shape.kind card b.shape run.emitted run.taken sound count rest frames most less whole (subst (HandedBy b.shape.kind b.shape run.emitted run.taken) none fits.handed);
         in_step = emitted-in-step (length sound) sound run.captured run.emitted refl (subst (λ x. IsInStep x run.captured run.emitted) tick fits.in_step);
       },
     )))
@@ -295,7 +289,7 @@ Account-ended b r at starts is tick some less after ledger account =
       b.left,
       b.owed,
       subst (λ x. RunFits b.shape run b.left b.owed x) tick fits,
-      less-left b.shape.kind b.shape run b.left some less fits.captured,
+      less-left b.shape.kind b.shape run.given run.captured b.left some less fits.captured,
     ) in
     let after_all : BetweenState = record b { running = None; left = []; owed = [] } in
     subst (λ s. Account (record after_all { starts = s }) (ledger_ended ledger at)) (sym after) (record {

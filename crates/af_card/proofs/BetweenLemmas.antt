@@ -82,7 +82,7 @@ pub Accounts-owed : (b : BetweenState) (r : Running) (sound : List ℕ) (acts ac
     Accounts (record b { running = Some r; owed = b.owed ++ sound; tick = None }) acts'
 Accounts-owed b r sound acts acts' is tick speaker can told fits =
     Accounts-on b (record b { running = Some r; owed = b.owed ++ sound; tick = None }) acts acts' (emitted sound ∷ []) fits told
-    (Account-untaken b r r sound (b.owed ++ sound) b.lost is refl tick (λ run. handed-piece b.shape.kind speaker b.shape run b.owed sound can) (counts-none b sound (inl speaker)))
+    (Account-untaken b r r sound (b.owed ++ sound) b.lost is refl tick (λ sounds taken. handed-piece b.shape.kind speaker b.shape sounds taken b.owed sound can) (counts-none b sound (inl speaker)))
     (ap is_some is)
 
 pub Accounts-lost : (b : BetweenState) (r r' : Running) (sound : List ℕ) (acts acts' : Option (List ToldAct)) → b.running ≡ Some r → r'.began ≡ r.began → b.tick ≡ Some (length sound) →
@@ -91,13 +91,13 @@ pub Accounts-lost : (b : BetweenState) (r r' : Running) (sound : List ℕ) (acts
 Accounts-lost b r r' sound acts acts' is began tick card told fits =
     Accounts-on b (record b { running = Some r'; tick = None; lost = lost_after b.lost (length sound) b.shape.frame_bytes }) acts acts' (emitted sound ∷ []) fits told
     (Account-untaken b r r' sound b.owed (lost_after b.lost (length sound) b.shape.frame_bytes) is began tick
-    (λ run. handed-lost b.shape.kind card b.shape run b.owed sound) (counts-all b sound card)) (ap is_some is)
+    (λ sounds taken. handed-lost b.shape.kind card b.shape sounds taken b.owed sound) (counts-all b sound card)) (ap is_some is)
 
 pub Accounts-unheard : (b : BetweenState) (r : Running) (sound : List ℕ) (acts acts' : Option (List ToldAct)) → b.running ≡ Some r → b.tick ≡ Some (length sound) →
     b.shape.kind ≡ kind.Microphone → Appended acts (emitted sound ∷ []) acts' → Accounts b acts → Accounts (record b { running = Some r; tick = None }) acts'
 Accounts-unheard b r sound acts acts' is tick microphone told fits =
     Accounts-on b (record b { running = Some r; tick = None }) acts acts' (emitted sound ∷ []) fits told
-    (Account-untaken b r r sound b.owed b.lost is refl tick (λ run. handed-nothing b.shape.kind microphone b.shape run b.owed sound) (counts-none b sound (inr microphone)))
+    (Account-untaken b r r sound b.owed b.lost is refl tick (λ sounds taken. handed-nothing b.shape.kind microphone b.shape sounds taken b.owed sound) (counts-none b sound (inr microphone)))
     (ap is_some is)
 
 pub Accounts-idles : (b : BetweenState) (sound : List ℕ) (acts acts' : Option (List ToldAct)) → b.running ≡ None → Appended acts (emitted sound ∷ []) acts' → Accounts b acts →

@@ -7,48 +7,31 @@ use Rattle.std.specs.declared.option.Option.TheVariants.{None, Some}
 use Rattle.af_world.specs.declared.card_kind.CardKind.{CardKind}
 use Rattle.af_world.specs.declared.card_kind.CardKind.TheVariants as kind
 use Rattle.af_card.specs.declared.shape.Shape.{Shape}
-use Rattle.af_card.specs.Ledger.{Run, new_run}
+use Rattle.af_card.specs.Ledger.{new_run}
 use Rattle.af_card.specs.Fed.{RunFits, HasWholeFrames, CapturedBy, HandedBy, IsInStep, IsPassed, IsSilent, sound_of}
 use Rattle.af_card.specs.Between.{EmitsBy, LeavesLess, gives_sound}
 
-pub captured-gave : (k : CardKind) (shape : Shape) (run : Run) (left bytes : List ℕ) → gives_sound k ≡ true → CapturedBy k shape run left →
-    CapturedBy k shape (record run { given = run.given ++ bytes }) (left ++ bytes)
-captured-gave kind.Speaker shape run left bytes gives c = grind arith
-captured-gave kind.Microphone shape run left bytes gives c =
-    record { given = ap (λ x. x ++ bytes) c.given ∙ append_assoc (sound_of run.captured) left bytes; whole = c.whole }
-captured-gave kind.Card shape run left bytes gives c =
-    record { given = ap (λ x. x ++ bytes) c.given ∙ append_assoc (sound_of run.captured) left bytes; whole = c.whole }
-
-pub handed-gave : (k : CardKind) (shape : Shape) (run : Run) (owed bytes : List ℕ) → HandedBy k shape run owed → HandedBy k shape (record run { given = run.given ++ bytes }) owed
-handed-gave kind.Speaker shape run owed bytes handed = record { all = handed.all; piece_at_most = handed.piece_at_most }
-handed-gave kind.Microphone shape run owed bytes handed = record { none = handed.none; owes = handed.owes }
-handed-gave kind.Card shape run owed bytes handed = record { passed = handed.passed; part = handed.part }
-
-pub captured-took : (k : CardKind) (shape : Shape) (run : Run) (left bytes : List ℕ) → CapturedBy k shape run left → CapturedBy k shape (record run { taken = run.taken ++ bytes }) left
-captured-took kind.Speaker shape run left bytes c = record { given = c.given; silent = c.silent; none = c.none }
-captured-took kind.Microphone shape run left bytes c = record { given = c.given; whole = c.whole }
-captured-took kind.Card shape run left bytes c = record { given = c.given; whole = c.whole }
+pub captured-gave : (k : CardKind) (shape : Shape) (gave : List ℕ) (sounds : List (List ℕ)) (left bytes : List ℕ) → gives_sound k ≡ true → CapturedBy k shape gave sounds left →
+    CapturedBy k shape (gave ++ bytes) sounds (left ++ bytes)
+captured-gave kind.Speaker shape gave sounds left bytes gives c = grind arith
+captured-gave kind.Microphone shape gave sounds left bytes gives c = record { given = ap (λ x. x ++ bytes) c.given ∙ append_assoc (sound_of sounds) left bytes; whole = c.whole }
+captured-gave kind.Card shape gave sounds left bytes gives c = record { given = ap (λ x. x ++ bytes) c.given ∙ append_assoc (sound_of sounds) left bytes; whole = c.whole }
 
 -- what is owed is taken from its front
 took-front : (taken owed : List ℕ) (count : ℕ) → (taken ++ take count owed) ++ drop count owed ≡ taken ++ owed
 took-front taken owed count = append_assoc taken (take count owed) (drop count owed) ∙ ap (λ x. taken ++ x) (take-append-drop count owed)
 
-pub handed-took : (k : CardKind) (shape : Shape) (run : Run) (owed : List ℕ) (count : ℕ) → 1 ≤ count → count ≤ length owed → HandedBy k shape run owed →
-    HandedBy k shape (record run { taken = run.taken ++ take count owed }) (drop count owed)
-handed-took kind.Speaker shape run owed count some most h = record {
-  all = h.all ∙ sym (took-front run.taken owed count);
+pub handed-took : (k : CardKind) (shape : Shape) (sounds : List (List ℕ)) (took owed : List ℕ) (count : ℕ) → 1 ≤ count → count ≤ length owed → HandedBy k shape sounds took owed →
+    HandedBy k shape sounds (took ++ take count owed) (drop count owed)
+handed-took kind.Speaker shape sounds took owed count some most h = record {
+  all = h.all ∙ sym (took-front took owed count);
   piece_at_most = let less = length-drop count owed in let piece = h.piece_at_most in grind arith;
 }
-handed-took kind.Microphone shape run owed count some most h = let none = ap length h.owes in grind arith
-handed-took kind.Card shape run owed count some most h = record {
-  passed = subst (λ x. IsPassed shape.frame_bytes run.emitted x) (sym (took-front run.taken owed count)) h.passed;
+handed-took kind.Microphone shape sounds took owed count some most h = let none = ap length h.owes in grind arith
+handed-took kind.Card shape sounds took owed count some most h = record {
+  passed = subst (λ x. IsPassed shape.frame_bytes sounds x) (sym (took-front took owed count)) h.passed;
   part = let less = length-drop count owed in let part = h.part in grind arith;
 }
-
-pub captured-emitted : (k : CardKind) (shape : Shape) (run : Run) (left sound : List ℕ) → CapturedBy k shape run left → CapturedBy k shape (record run { emitted = sound ∷ run.emitted }) left
-captured-emitted kind.Speaker shape run left sound c = record { given = c.given; silent = c.silent; none = c.none }
-captured-emitted kind.Microphone shape run left sound c = record { given = c.given; whole = c.whole }
-captured-emitted kind.Card shape run left sound c = record { given = c.given; whole = c.whole }
 
 -- the two calls of a tick are made
 pub emitted-in-step : (bytes : ℕ) (sound : List ℕ) (cs es : List (List ℕ)) → bytes ≡ length sound → IsInStep (Some bytes) cs es → IsInStep None cs (sound ∷ es)
@@ -56,31 +39,31 @@ emitted-in-step bytes sound [] es is step = grind arith
 emitted-in-step bytes sound (c ∷ cs) es is step = (step.0 ∙ is, step.1)
 
 -- a microphone is handed nothing
-pub handed-nothing : (k : CardKind) → k ≡ kind.Microphone → (shape : Shape) (run : Run) (owed sound : List ℕ) → HandedBy k shape run owed →
-    HandedBy k shape (record run { emitted = sound ∷ run.emitted }) owed
-handed-nothing kind.Speaker is shape run owed sound h = grind arith
-handed-nothing kind.Microphone is shape run owed sound h = record { none = h.none; owes = h.owes }
-handed-nothing kind.Card is shape run owed sound h = grind arith
+pub handed-nothing : (k : CardKind) → k ≡ kind.Microphone → (shape : Shape) (sounds : List (List ℕ)) (took owed sound : List ℕ) → HandedBy k shape sounds took owed →
+    HandedBy k shape (sound ∷ sounds) took owed
+handed-nothing kind.Speaker is shape sounds took owed sound h = grind arith
+handed-nothing kind.Microphone is shape sounds took owed sound h = h
+handed-nothing kind.Card is shape sounds took owed sound h = grind arith
 
 -- a loudspeaker is owed a piece
-pub handed-piece : (k : CardKind) → k ≡ kind.Speaker → (shape : Shape) (run : Run) (owed sound : List ℕ) → EmitsBy k shape owed (length sound) → HandedBy k shape run owed →
-    HandedBy k shape (record run { emitted = sound ∷ run.emitted }) (owed ++ sound)
-handed-piece kind.Speaker is shape run owed sound can h = record {
-  all = ap (λ x. x ++ sound) h.all ∙ append_assoc run.taken owed sound;
+pub handed-piece : (k : CardKind) → k ≡ kind.Speaker → (shape : Shape) (sounds : List (List ℕ)) (took owed sound : List ℕ) → EmitsBy k shape owed (length sound) →
+    HandedBy k shape sounds took owed → HandedBy k shape (sound ∷ sounds) took (owed ++ sound)
+handed-piece kind.Speaker is shape sounds took owed sound can h = record {
+  all = ap (λ x. x ++ sound) h.all ∙ append_assoc took owed sound;
   piece_at_most = let none = ap (λ x. length (x ++ sound)) can.0 in let most = can.1 in grind arith;
 }
-handed-piece kind.Microphone is shape run owed sound can h = grind arith
-handed-piece kind.Card is shape run owed sound can h = grind arith
+handed-piece kind.Microphone is shape sounds took owed sound can h = grind arith
+handed-piece kind.Card is shape sounds took owed sound can h = grind arith
 
 -- a card has no room for a sound
-pub handed-lost : (k : CardKind) → k ≡ kind.Card → (shape : Shape) (run : Run) (owed sound : List ℕ) → HandedBy k shape run owed →
-    HandedBy k shape (record run { emitted = sound ∷ run.emitted }) owed
-handed-lost kind.Speaker is shape run owed sound h = grind arith
-handed-lost kind.Microphone is shape run owed sound h = grind arith
-handed-lost kind.Card is shape run owed sound h =
+pub handed-lost : (k : CardKind) → k ≡ kind.Card → (shape : Shape) (sounds : List (List ℕ)) (took owed sound : List ℕ) → HandedBy k shape sounds took owed →
+    HandedBy k shape (sound ∷ sounds) took owed
+handed-lost kind.Speaker is shape sounds took owed sound h = grind arith
+handed-lost kind.Microphone is shape sounds took owed sound h = grind arith
+handed-lost kind.Card is shape sounds took owed sound h =
     let none : 0 * shape.frame_bytes ≡ 0 = omega arith in
     record {
-      passed = (run.taken ++ owed, 0, h.passed, sym (append-nil (run.taken ++ owed)) ∙ ap (λ n. (run.taken ++ owed) ++ take n sound) (sym none));
+      passed = (took ++ owed, 0, h.passed, sym (append-nil (took ++ owed)) ∙ ap (λ n. (took ++ owed) ++ take n sound) (sym none));
       part = h.part;
     }
 
@@ -92,19 +75,19 @@ parts-passed sound count rest frames width most is =
     ap (λ xs. take count sound ++ xs) (take_min rest (drop count sound)) ∙ sym (take-add count rest sound) ∙ ap (λ n. take n sound) is
 
 -- a card that is owed nothing takes a first part of a sound, and is owed the rest of the frame in which it ends
-pub handed-part : (k : CardKind) → k ≡ kind.Card → (shape : Shape) (run : Run) (sound : List ℕ) (count rest frames : ℕ) → count ≤ length sound → rest < shape.frame_bytes →
-    count + rest ≡ frames * shape.frame_bytes → HandedBy k shape run [] →
-    HandedBy k shape (record run { emitted = sound ∷ run.emitted; taken = run.taken ++ take count sound }) (take (min rest (length sound - count)) (drop count sound))
-handed-part kind.Speaker is shape run sound count rest frames most less whole h = grind arith
-handed-part kind.Microphone is shape run sound count rest frames most less whole h = grind arith
-handed-part kind.Card is shape run sound count rest frames most less whole h = record {
+pub handed-part : (k : CardKind) → k ≡ kind.Card → (shape : Shape) (sounds : List (List ℕ)) (took sound : List ℕ) (count rest frames : ℕ) → count ≤ length sound →
+    rest < shape.frame_bytes → count + rest ≡ frames * shape.frame_bytes → HandedBy k shape sounds took [] →
+    HandedBy k shape (sound ∷ sounds) (took ++ take count sound) (take (min rest (length sound - count)) (drop count sound))
+handed-part kind.Speaker is shape sounds took sound count rest frames most less whole h = grind arith
+handed-part kind.Microphone is shape sounds took sound count rest frames most less whole h = grind arith
+handed-part kind.Card is shape sounds took sound count rest frames most less whole h = record {
   passed = (
-    run.taken ++ [],
+    took ++ [],
     frames,
     h.passed,
-    append_assoc run.taken (take count sound) (take (min rest (length sound - count)) (drop count sound)) ∙
-        ap (λ xs. run.taken ++ xs) (parts-passed sound count rest frames shape.frame_bytes most whole) ∙
-        ap (λ xs. xs ++ take (frames * shape.frame_bytes) sound) (sym (append-nil run.taken)),
+    append_assoc took (take count sound) (take (min rest (length sound - count)) (drop count sound)) ∙
+        ap (λ xs. took ++ xs) (parts-passed sound count rest frames shape.frame_bytes most whole) ∙
+        ap (λ xs. xs ++ take (frames * shape.frame_bytes) sound) (sym (append-nil took)),
   );
   part = let long = length-take (min rest (length sound - count)) (drop count sound) in grind arith;
 }
@@ -112,24 +95,24 @@ handed-part kind.Card is shape run sound count rest frames most less whole h = r
 -- nothing went by so far
 pub new-run-fits : (k : CardKind) (shape : Shape) → shape.kind ≡ k → 1 ≤ shape.frame_bytes → RunFits shape new_run [] [] None
 new-run-fits kind.Speaker shape is some = record {
-  captured = subst (λ x. CapturedBy x shape new_run []) (sym is) (record { given = refl; silent = All-nil (IsSilent shape.silence); none = refl });
-  handed = subst (λ x. HandedBy x shape new_run []) (sym is) (record { all = refl; piece_at_most = grind arith });
+  captured = subst (λ x. CapturedBy x shape [] [] []) (sym is) (record { given = refl; silent = All-nil (IsSilent shape.silence); none = refl });
+  handed = subst (λ x. HandedBy x shape [] [] []) (sym is) (record { all = refl; piece_at_most = grind arith });
   in_step = tt;
 }
 new-run-fits kind.Microphone shape is some = record {
-  captured = subst (λ x. CapturedBy x shape new_run []) (sym is) (record { given = refl; whole = All-nil (HasWholeFrames shape.frame_bytes) });
-  handed = subst (λ x. HandedBy x shape new_run []) (sym is) (record { none = refl; owes = refl });
+  captured = subst (λ x. CapturedBy x shape [] [] []) (sym is) (record { given = refl; whole = All-nil (HasWholeFrames shape.frame_bytes) });
+  handed = subst (λ x. HandedBy x shape [] [] []) (sym is) (record { none = refl; owes = refl });
   in_step = tt;
 }
 new-run-fits kind.Card shape is some = record {
-  captured = subst (λ x. CapturedBy x shape new_run []) (sym is) (record { given = refl; whole = All-nil (HasWholeFrames shape.frame_bytes) });
-  handed = subst (λ x. HandedBy x shape new_run []) (sym is) (record { passed = refl; part = some });
+  captured = subst (λ x. CapturedBy x shape [] [] []) (sym is) (record { given = refl; whole = All-nil (HasWholeFrames shape.frame_bytes) });
+  handed = subst (λ x. HandedBy x shape [] [] []) (sym is) (record { passed = refl; part = some });
   in_step = tt;
 }
 
 -- less than a frame is left; also for a loudspeaker, which gives nothing
-pub less-left : (k : CardKind) (shape : Shape) (run : Run) (left : List ℕ) → 1 ≤ shape.frame_bytes → LeavesLess k shape left → CapturedBy k shape run left →
+pub less-left : (k : CardKind) (shape : Shape) (gave : List ℕ) (sounds : List (List ℕ)) (left : List ℕ) → 1 ≤ shape.frame_bytes → LeavesLess k shape left → CapturedBy k shape gave sounds left →
     length left < shape.frame_bytes
-less-left kind.Speaker shape run left some less c = let none = ap length c.none in grind arith
-less-left kind.Microphone shape run left some less c = less
-less-left kind.Card shape run left some less c = less
+less-left kind.Speaker shape gave sounds left some less c = let none = ap length c.none in grind arith
+less-left kind.Microphone shape gave sounds left some less c = less
+less-left kind.Card shape gave sounds left some less c = less

@@ -88,14 +88,14 @@ tick-whole width bytes (c ∷ cs) emitted step whole =
     (frames.0, sym step.0 ∙ frames.1)
 
 -- what is emitted to a card in a tick is whole frames
-sound-whole : (k : CardKind) → k ≡ kind.Card → (shape : Shape) (run : Run) (left sound : List ℕ) → CapturedBy k shape run left →
+sound-whole : (k : CardKind) → k ≡ kind.Card → (shape : Shape) (run : Run) (left sound : List ℕ) → CapturedBy k shape run.given run.captured left →
     IsInStep (Some (length sound)) run.captured run.emitted → (frames : ℕ) × (length sound ≡ frames * shape.frame_bytes)
 sound-whole kind.Speaker is shape run left sound captured step = grind arith
 sound-whole kind.Microphone is shape run left sound captured step = grind arith
 sound-whole kind.Card is shape run left sound captured step = tick-whole shape.frame_bytes (length sound) run.captured run.emitted step captured.whole
 
 -- what a card lost so far
-card-lost : (k : CardKind) → k ≡ kind.Card → (shape : Shape) (run : Run) (left owed : List ℕ) (tick : Option ℕ) → CapturedBy k shape run left → HandedBy k shape run owed →
+card-lost : (k : CardKind) → k ≡ kind.Card → (shape : Shape) (run : Run) (left owed : List ℕ) (tick : Option ℕ) → CapturedBy k shape run.given run.captured left → HandedBy k shape run.emitted run.taken owed →
     IsInStep tick run.captured run.emitted → (lost : ℕ) × (length (sound_of run.emitted) ≡ length run.taken + length owed + lost * shape.frame_bytes)
 card-lost kind.Speaker is shape run left owed tick captured handed step = grind arith
 card-lost kind.Microphone is shape run left owed tick captured handed step = grind arith
@@ -103,7 +103,7 @@ card-lost kind.Card is shape run left owed tick captured handed step =
     let whole = passed-whole shape.frame_bytes run.emitted (run.taken ++ owed) (step-whole shape.frame_bytes tick run.captured run.emitted step captured.whole) handed.passed in
     (whole.0, whole.1 ∙ ap (λ n. n + whole.0 * shape.frame_bytes) (length-append run.taken owed))
 
-part-of : (k : CardKind) → k ≡ kind.Card → (shape : Shape) (run : Run) (owed : List ℕ) → HandedBy k shape run owed → length owed < shape.frame_bytes
+part-of : (k : CardKind) → k ≡ kind.Card → (shape : Shape) (run : Run) (owed : List ℕ) → HandedBy k shape run.emitted run.taken owed → length owed < shape.frame_bytes
 part-of kind.Speaker is shape run owed handed = grind arith
 part-of kind.Microphone is shape run owed handed = grind arith
 part-of kind.Card is shape run owed handed = handed.part

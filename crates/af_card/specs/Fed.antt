@@ -31,20 +31,20 @@ IsSilent silence sound = sound ≡ replicate (length sound) silence
 -- Captured
 
 -- What was captured is what the program gave, in order, each byte once and in whole frames. This much of it is left.
-pub record CapturedOf (width : ℕ) (run : Run) (left : List ℕ) : Type 0 where
-  pub given : run.given ≡ sound_of run.captured ++ left
-  pub whole : All (HasWholeFrames width) run.captured
+pub record CapturedOf (width : ℕ) (gave : List ℕ) (sounds : List (List ℕ)) (left : List ℕ) : Type 0 where
+  pub given : gave ≡ sound_of sounds ++ left
+  pub whole : All (HasWholeFrames width) sounds
 
 -- a loudspeaker gives nothing, and captures silence
-pub record CapturedNone (silence : ℕ) (run : Run) (left : List ℕ) : Type 0 where
-  pub given : run.given ≡ []
-  pub silent : All (IsSilent silence) run.captured
+pub record CapturedNone (silence : ℕ) (gave : List ℕ) (sounds : List (List ℕ)) (left : List ℕ) : Type 0 where
+  pub given : gave ≡ []
+  pub silent : All (IsSilent silence) sounds
   pub none : left ≡ []
 
-abbrev pub CapturedBy : CardKind → Shape → Run → List ℕ → Type 0
-CapturedBy kind.Speaker shape run left = CapturedNone shape.silence run left
-CapturedBy kind.Microphone shape run left = CapturedOf shape.frame_bytes run left
-CapturedBy kind.Card shape run left = CapturedOf shape.frame_bytes run left
+abbrev pub CapturedBy : CardKind → Shape → List ℕ → List (List ℕ) → List ℕ → Type 0
+CapturedBy kind.Speaker shape gave sounds left = CapturedNone shape.silence gave sounds left
+CapturedBy kind.Microphone shape gave sounds left = CapturedOf shape.frame_bytes gave sounds left
+CapturedBy kind.Card shape gave sounds left = CapturedOf shape.frame_bytes gave sounds left
 
 -- Handed
 
@@ -55,24 +55,24 @@ IsPassed width (sound ∷ earlier) passed =
     (before : List ℕ) × (frames : ℕ) × IsPassed width earlier before × (passed ≡ before ++ take (frames * width) sound)
 
 -- a card is handed whole frames from the front of each sound, in order, except the part of a frame that it is owed
-pub record HandedPassed (width : ℕ) (run : Run) (owed : List ℕ) : Type 0 where
-  pub passed : IsPassed width run.emitted (run.taken ++ owed)
+pub record HandedPassed (width : ℕ) (sounds : List (List ℕ)) (took owed : List ℕ) : Type 0 where
+  pub passed : IsPassed width sounds (took ++ owed)
   pub part : length owed < width
 
 -- a loudspeaker is handed all sound, in order, except what it is owed, which is a piece at most
-pub record HandedAll (piece : ℕ) (run : Run) (owed : List ℕ) : Type 0 where
-  pub all : sound_of run.emitted ≡ run.taken ++ owed
+pub record HandedAll (piece : ℕ) (sounds : List (List ℕ)) (took owed : List ℕ) : Type 0 where
+  pub all : sound_of sounds ≡ took ++ owed
   pub piece_at_most : length owed ≤ piece
 
 -- a microphone is handed nothing
-pub record HandedNone (run : Run) (owed : List ℕ) : Type 0 where
-  pub none : run.taken ≡ []
+pub record HandedNone (took owed : List ℕ) : Type 0 where
+  pub none : took ≡ []
   pub owes : owed ≡ []
 
-abbrev pub HandedBy : CardKind → Shape → Run → List ℕ → Type 0
-HandedBy kind.Speaker shape run owed = HandedAll (piece_of shape) run owed
-HandedBy kind.Microphone shape run owed = HandedNone run owed
-HandedBy kind.Card shape run owed = HandedPassed shape.frame_bytes run owed
+abbrev pub HandedBy : CardKind → Shape → List (List ℕ) → List ℕ → List ℕ → Type 0
+HandedBy kind.Speaker shape sounds took owed = HandedAll (piece_of shape) sounds took owed
+HandedBy kind.Microphone shape sounds took owed = HandedNone took owed
+HandedBy kind.Card shape sounds took owed = HandedPassed shape.frame_bytes sounds took owed
 
 -- In step
 
@@ -95,8 +95,8 @@ IsInStep (Some bytes) (c ∷ cs) emitted = (length c ≡ bytes) × AreAsLong cs 
 -- While a program runs: what it gave and was not captured, what it is owed, and the bytes of a tick that was captured and is
 -- still to be emitted, if there is one.
 pub record RunFits (shape : Shape) (run : Run) (left owed : List ℕ) (tick : Option ℕ) : Type 0 where
-  pub captured : CapturedBy shape.kind shape run left
-  pub handed : HandedBy shape.kind shape run owed
+  pub captured : CapturedBy shape.kind shape run.given run.captured left
+  pub handed : HandedBy shape.kind shape run.emitted run.taken owed
   pub in_step : IsInStep tick run.captured run.emitted
 
 -- Once a program has ended, less than a frame of what it gave was not captured.

@@ -79,6 +79,9 @@ Accounts-changed d (Some r) change count left acts acts' is runs says rest told 
 
 -- Hook calls
 
+pub notes-called : (off : Bool) (text : List ℕ) (acts acts' : Option (List ToldAct)) → text ≡ hook_text off → Appended acts (emitted text ∷ []) acts' → Notes [] (hook_text off ∷ []) [] acts acts'
+notes-called off text acts acts' is told = notes acts acts' (emitted (hook_text off) ∷ []) (subst (λ x. Appended acts (emitted x ∷ []) acts') is told)
+
 pub Accounts-missed : (d : DialogueState) (r r' : Running) (off : Bool) (text : List ℕ) (acts acts' : Option (List ToldAct)) → d.running ≡ Some r → r'.began ≡ r.began →
     r'.is_closed ≡ true → text ≡ hook_text off → Appended acts (emitted text ∷ []) acts' → Accounts d acts → Accounts (record d { running = Some r'; off = off }) acts'
 Accounts-missed d r r' off text acts acts' runs began closed is told fits =

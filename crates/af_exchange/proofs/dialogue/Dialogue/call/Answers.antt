@@ -1,25 +1,20 @@
-use Rattle.std.proofs.Common.{refl, sym, subst, true, ◌∷◌, []}
+use Rattle.std.proofs.Common.{refl, sym, subst, true}
 use Rattle.af_exchange.specs.contracts.dialogue.Dialogue.{the_view}
-use Rattle.af_program.specs.Acts.{emitted}
-use Rattle.af_exchange.specs.Ledger.{Notes}
 use Rattle.af_exchange.specs.Dialogue.{Accounts}
-use Rattle.af_exchange.proofs.NoteLemmas.{notes}
-use Rattle.af_exchange.proofs.DialogueLemmas.{Accounts-missed, Accounts-owed}
+use Rattle.af_exchange.proofs.DialogueLemmas.{Accounts-missed, Accounts-owed, notes-called}
 use Rattle.af_exchange.proofs.dialogue.Dialogue.call.Goals as goal
 
 pub returns-in_default-clause-notes : goal.returns-in_default-clause-notes
-returns-in_default-clause-notes g c = subst (λ x. Notes [] (x ∷ []) [] (g.P.Program.acts c.args.program.now) (g.P.Program.acts c.note_emitted.new.self)) c.hook_text-text.ensures (notes (g.P.Program.acts c.args.program.now) (g.P.Program.acts c.note_emitted.new.self) (emitted c.hook_text-text.result.now ∷ []) c.note_emitted.ensures.acts)
+returns-in_default-clause-notes g c = notes-called _ _ _ _ c.hook_text-text.ensures c.note_emitted.ensures.acts
 
 pub returns-then-running-clause-notes : goal.returns-then-running-clause-notes
-returns-then-running-clause-notes g c = subst (λ x. Notes [] (x ∷ []) [] (g.P.Program.acts c.args.program.now) (g.P.Program.acts c.note_emitted.new.self)) c.hook_text-text.ensures (notes (g.P.Program.acts c.args.program.now) (g.P.Program.acts c.note_emitted.new.self) (emitted c.hook_text-text.result.now ∷ []) c.note_emitted.ensures.acts)
+returns-then-running-clause-notes g c = notes-called _ _ _ _ c.hook_text-text.ensures c.note_emitted.ensures.acts
 
 pub returns-then-as_slice-text-gt-MOST_BYTES-clause-notes : goal.returns-then-as_slice-text-gt-MOST_BYTES-clause-notes
-returns-then-as_slice-text-gt-MOST_BYTES-clause-notes g c =
-    subst (λ x. Notes [] (x ∷ []) [] (g.P.Program.acts c.args.program.now) (g.P.Program.acts c.note_emitted.new.self)) c.hook_text-text.ensures (notes (g.P.Program.acts c.args.program.now) (g.P.Program.acts c.note_emitted.new.self) (emitted c.hook_text-text.result.now ∷ []) c.note_emitted.ensures.acts)
+returns-then-as_slice-text-gt-MOST_BYTES-clause-notes g c = notes-called _ _ _ _ c.hook_text-text.ensures c.note_emitted.ensures.acts
 
 pub returns-else-as_slice-text-gt-MOST_BYTES-clause-notes : goal.returns-else-as_slice-text-gt-MOST_BYTES-clause-notes
-returns-else-as_slice-text-gt-MOST_BYTES-clause-notes g c =
-    subst (λ x. Notes [] (x ∷ []) [] (g.P.Program.acts c.args.program.now) (g.P.Program.acts c.note_emitted.new.self)) c.hook_text-text.ensures (notes (g.P.Program.acts c.args.program.now) (g.P.Program.acts c.note_emitted.new.self) (emitted c.hook_text-text.result.now ∷ []) c.note_emitted.ensures.acts)
+returns-else-as_slice-text-gt-MOST_BYTES-clause-notes g c = notes-called _ _ _ _ c.hook_text-text.ensures c.note_emitted.ensures.acts
 
 pub returns-then-running-clause-fits : goal.returns-then-running-clause-fits
 returns-then-running-clause-fits g c =

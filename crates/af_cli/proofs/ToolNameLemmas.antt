@@ -1,5 +1,6 @@
 -- The tool that the first argument names.
 use Rattle.std.proofs.Common.{◌≡◌, Bool, true, false, ◌&&◌, List, [], ◌∷◌, slice_get, is_some, option_and_then, ap, ◌∙◌, subst, refl, sym}
+use Rattle.std.proofs.Math.Bool.{and-false}
 use Rattle.std.specs.Prelude.{Option, Some, None}
 use Rattle.std.specs.Option.{option_map_or}
 use Rattle.clap.specs.Words.{Text, matches_of, takes}
@@ -33,12 +34,8 @@ none_taken (x ∷ words) e = cc
 pub untaken : (words : List Text) → is_taken words ≡ false → is_spelled words ≡ false
 untaken words t = ap (λ (b : Bool). b && is_some (job words)) t
 
-and_false : (b : Bool) → (b && false) ≡ false
-and_false true = refl
-and_false false = refl
-
 pub no_job : (words : List Text) → job words ≡ None → is_spelled words ≡ false
-no_job words e = ap (λ (o : Option Job). is_taken words && is_some o) e ∙ and_false (is_taken words)
+no_job words e = ap (λ (o : Option Job). is_taken words && is_some o) e ∙ and-false (is_taken words)
 
 -- if a command fails, and not since memory ran out, it does not take the arguments
 pub not_taken : {K : Type 0} (b : Bool) (kind memory : K) → (b ≡ true → kind ≡ memory) → (kind ≡ memory → ⊥) → b ≡ false

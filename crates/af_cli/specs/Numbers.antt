@@ -1,6 +1,6 @@
 -- Arguments as values: numbers, gains, switches, forms of files and byte orders.
 use Rattle.std.specs.Prelude.{Bool, true, false, ℕ, ℤ, pos, neg_ℤ, nat_le, ◌==◌, ◌&&◌, List, []}
-use Rattle.std.specs.Prelude.{◌∷◌, length, Option, Some, None, codes, option_map, if◌then◌else◌}
+use Rattle.std.specs.Prelude.{◌∷◌, length, Option, Some, None, codes, option_and_then, option_map, if◌then◌else◌}
 use Rattle.std.specs.Str.{all_ascii_digits, bytes_eq}
 use Rattle.std.specs.Str.Parse.{digits_value}
 use Rattle.af_sound.specs.declared.head.SoundForm.{SoundForm}
@@ -38,6 +38,11 @@ order_in text =
     if bytes_eq text (codes "big") then Some Big
     else if bytes_eq text (codes "little") then Some Little
     else None
+
+-- what comes of a value that is there; `do` writes several of these one below another
+infixl 10 ◌>>=◌
+abbrev pub ◌>>=◌ : {X Y : Type 0} → Option X → (X → Option Y) → Option Y
+found >>= next = option_and_then next found
 
 -- an optional value
 abbrev pub if_there : {X : Type 0} → (List ℕ → Option X) → Option (List ℕ) → Option (Option X)

@@ -1,6 +1,6 @@
 -- The arguments of the tools: each tool is one simple command of clap, and its job is what its matches, which clap defines,
 -- state.
-use Rattle.std.specs.Prelude.{ℕ, ◌-◌, pos, ◌&&◌, Bool, true, false, nat_le, List, [], ◌∷◌, length, Option}
+use Rattle.std.specs.Prelude.{ℕ, ℤ, ◌-◌, pos, ◌&&◌, Bool, true, false, nat_le, List, [], ◌∷◌, length, Option}
 use Rattle.std.specs.Prelude.{Some, None, codes, is_some, map, option_and_then, option_map, if◌then◌else◌}
 use Rattle.std.specs.Str.{bytes_eq}
 use Rattle.std.specs.Option.{option_map_or}
@@ -24,7 +24,7 @@ use Rattle.af_sound.specs.declared.head.SoundForm.{SoundForm}
 use Rattle.af_text.specs.Sound.{type_of}
 use Rattle.af_wire.specs.declared.order.Order.{Order}
 use Rattle.af_wire.specs.declared.order.Order.TheVariants.{Big}
-use Rattle.af_cli.specs.Numbers.{form_in, gain_in, if_there, number_in, or_default, order_in, switch_in}
+use Rattle.af_cli.specs.Numbers.{◌>>=◌, form_in, gain_in, if_there, number_in, or_default, order_in, switch_in}
 
 -- `--id VALUE` or `--id=VALUE`
 abbrev pub option_rule : Text → Rule
@@ -49,46 +49,44 @@ with_rules a (r ∷ rs) = with_rules (with_rule a r) rs
 abbrev pub command_app : Text → List Argument → App
 command_app name words = with_rules (new_app name) (map rule_for words)
 
--- the command of aplay
-unfoldable pub aplay_app : App
-aplay_app = with_rules (new_app (codes "aplay")) (
-    rule_at (codes "SERVER") Place ∷
-    rule_at (codes "order") FreeOption ∷
+-- the arguments that one tool has, with those that each tool of one server has before them
+abbrev pub with_server : List Rule → List Rule
+with_server rules = rule_at (codes "SERVER") Place ∷ rule_at (codes "order") FreeOption ∷ rules
+
+-- the same of aplay and arecord
+abbrev pub with_sound : List Rule → List Rule
+with_sound rules =
+    with_server (
     rule_at (codes "device") FreeOption ∷
     rule_at (codes "file") FreeOption ∷
     rule_at (codes "type") FreeOption ∷
     rule_at (codes "gain") FreeOption ∷
-    rule_at (codes "block") FreeOption ∷
+    rule_at (codes "block") FreeOption ∷ rules)
+
+-- the command of aplay
+unfoldable pub aplay_app : App
+aplay_app = with_rules (new_app (codes "aplay")) (with_sound (
     rule_at (codes "lead") FreeOption ∷
     rule_at (codes "time") FreeOption ∷
-    rule_at (codes "preempt") Flag ∷ [])
+    rule_at (codes "preempt") Flag ∷ []))
 
 -- the command of arecord
 unfoldable pub arecord_app : App
-arecord_app = with_rules (new_app (codes "arecord")) (
-    rule_at (codes "SERVER") Place ∷
-    rule_at (codes "order") FreeOption ∷
-    rule_at (codes "device") FreeOption ∷
-    rule_at (codes "file") FreeOption ∷
-    rule_at (codes "type") FreeOption ∷
-    rule_at (codes "gain") FreeOption ∷
-    rule_at (codes "block") FreeOption ∷
+arecord_app = with_rules (new_app (codes "arecord")) (with_sound (
     rule_at (codes "time") FreeOption ∷
     rule_at (codes "frames") NeededOption ∷
     rule_at (codes "stop-peak") FreeOption ∷
-    rule_at (codes "stop-blocks") FreeOption ∷ [])
+    rule_at (codes "stop-blocks") FreeOption ∷ []))
 
 -- the command of aset
 unfoldable pub aset_app : App
-aset_app = with_rules (new_app (codes "aset")) (
-    rule_at (codes "SERVER") Place ∷
-    rule_at (codes "order") FreeOption ∷
+aset_app = with_rules (new_app (codes "aset")) (with_server (
     rule_at (codes "device") FreeOption ∷
     rule_at (codes "input-gain") FreeOption ∷
     rule_at (codes "output-gain") FreeOption ∷
     rule_at (codes "input") FreeOption ∷
     rule_at (codes "output") FreeOption ∷
-    rule_at (codes "hook") FreeOption ∷ [])
+    rule_at (codes "hook") FreeOption ∷ []))
 
 -- the command of apass
 unfoldable pub apass_app : App
@@ -107,9 +105,7 @@ apass_app = with_rules (new_app (codes "apass")) (
 
 -- the command of list
 unfoldable pub list_app : App
-list_app = with_rules (new_app (codes "list")) (
-    rule_at (codes "SERVER") Place ∷
-    rule_at (codes "order") FreeOption ∷ [])
+list_app = with_rules (new_app (codes "list")) (with_server [])
 
 -- a number between these two, or its default
 abbrev pub number_at : Text → (default low high : ℕ) → List Row → Option ℕ
@@ -126,122 +122,123 @@ address_at id rows = option_and_then address_in (first_of id rows)
 abbrev pub order_at : List Row → Option Order
 order_at rows = or_default Big order_in (first_of (codes "order") rows)
 
--- what aplay and arecord have in common, if each value is in range
-abbrev pub basics_of : List Row → Option CommonOptions
-basics_of rows =
-    option_and_then (λ device.
-    option_and_then (λ ty.
-    option_and_then (λ gain.
-    option_and_then (λ block.
-    option_map (λ time. record { device = device; ty = ty; gain = gain; block = block; time = time })
-    (if_there (number_in 0 4294967295) (first_of (codes "time") rows)))
-    (number_at (codes "block") 1000 1 4000 rows))
-    (or_default (pos 0) gain_in (first_of (codes "gain") rows)))
-    (if_there type_of (first_of (codes "type") rows)))
-    (number_at (codes "device") 0 0 (most_devices - 1) rows)
+-- the number of a device, 0 by default
+abbrev pub device_at : Text → List Row → Option ℕ
+device_at id rows = number_at id 0 0 (most_devices - 1) rows
 
--- the form of a source; it is no file if a type is stated, since a file says its own type
-abbrev pub form_beside : Option SampleType → Option SoundForm → Option (Option SoundForm)
-form_beside ty form = if is_some form && is_some ty then None else Some form
+-- the frames of a block, 1000 by default
+abbrev pub block_at : List Row → Option ℕ
+block_at rows = number_at (codes "block") 1000 1 4000 rows
+
+-- the sample type, if one is stated
+abbrev pub type_at : List Row → Option (Option SampleType)
+type_at rows = if_there type_of (first_of (codes "type") rows)
+
+-- the gain, or none
+abbrev pub gain_at : List Row → Option ℤ
+gain_at rows = or_default (pos 0) gain_in (first_of (codes "gain") rows)
+
+-- the form of a file; without one, the bytes are samples
+abbrev pub form_at : List Row → Option (Option SoundForm)
+form_at rows = or_default None form_in (first_of (codes "file") rows)
 
 -- the flag was given
 abbrev pub is_set : Text → List Row → Bool
 is_set id rows = option_map_or (λ value. bytes_eq value (codes "true")) (first_of id rows) false
 
+-- what aplay and arecord have in common, if each value is in range
+abbrev pub basics_of : List Row → Option CommonOptions
+basics_of rows = do
+  device ← device_at (codes "device") rows
+  ty ← type_at rows
+  gain ← gain_at rows
+  block ← block_at rows
+  time ← if_there (number_in 0 4294967295) (first_of (codes "time") rows)
+  Some (record { device = device; ty = ty; gain = gain; block = block; time = time })
+
+-- the form of a source; it is no file if a type is stated, since a file says its own type
+abbrev pub form_beside : Option SampleType → Option SoundForm → Option (Option SoundForm)
+form_beside ty form = if is_some form && is_some ty then None else Some form
+
 -- the job of aplay
 abbrev pub play_job : List Row → Option PlayJob
-play_job rows =
-    option_and_then (λ (basics : CommonOptions).
-    option_and_then (λ form.
-    option_map (λ lead. record {
-      device = basics.device;
-      form = form;
-      ty = basics.ty;
-      gain = basics.gain;
-      block = basics.block;
-      lead = lead;
-      time = basics.time;
-      preempt = is_set (codes "preempt") rows;
-    })
-    (number_at (codes "lead") 100 0 60000 rows))
-    (option_and_then (form_beside basics.ty) (or_default None form_in (first_of (codes "file") rows))))
-    (basics_of rows)
+play_job rows = do
+  (basics : CommonOptions) ← basics_of rows
+  stated ← form_at rows
+  form ← form_beside basics.ty stated
+  lead ← number_at (codes "lead") 100 0 60000 rows
+  Some (record {
+    device = basics.device;
+    form = form;
+    ty = basics.ty;
+    gain = basics.gain;
+    block = basics.block;
+    lead = lead;
+    time = basics.time;
+    preempt = is_set (codes "preempt") rows;
+  })
 
 -- the job of arecord
 abbrev pub record_job : List Row → Option RecordJob
-record_job rows =
-    option_and_then (λ (basics : CommonOptions).
-    option_and_then (λ form.
-    option_and_then (λ frames.
-    option_and_then (λ stop_peak.
-    option_map (λ stop_blocks. record {
-      device = basics.device;
-      form = form;
-      ty = basics.ty;
-      gain = basics.gain;
-      block = basics.block;
-      time = basics.time;
-      frames = frames;
-      stop_peak = stop_peak;
-      stop_blocks = stop_blocks;
-    })
-    (number_at (codes "stop-blocks") 1 1 1000000 rows))
-    (number_at (codes "stop-peak") 0 0 32768 rows))
-    (option_and_then (number_in 1 2147483647) (first_of (codes "frames") rows)))
-    (or_default None form_in (first_of (codes "file") rows)))
-    (basics_of rows)
+record_job rows = do
+  (basics : CommonOptions) ← basics_of rows
+  form ← form_at rows
+  frames_text ← first_of (codes "frames") rows
+  frames ← number_in 1 2147483647 frames_text
+  stop_peak ← number_at (codes "stop-peak") 0 0 32768 rows
+  stop_blocks ← number_at (codes "stop-blocks") 1 1 1000000 rows
+  Some (record {
+    device = basics.device;
+    form = form;
+    ty = basics.ty;
+    gain = basics.gain;
+    block = basics.block;
+    time = basics.time;
+    frames = frames;
+    stop_peak = stop_peak;
+    stop_blocks = stop_blocks;
+  })
 
 -- the job of aset
 abbrev pub set_job : List Row → Option SetJob
-set_job rows =
-    option_and_then (λ device.
-    option_and_then (λ input_gain.
-    option_and_then (λ output_gain.
-    option_and_then (λ input_on.
-    option_and_then (λ output_on.
-    option_map (λ hook_off. record {
-      device = device;
-      input_gain = input_gain;
-      output_gain = output_gain;
-      input_on = input_on;
-      output_on = output_on;
-      hook_off = hook_off;
-    })
-    (if_there (switch_in (codes "off") (codes "on")) (first_of (codes "hook") rows)))
-    (if_there (switch_in (codes "on") (codes "off")) (first_of (codes "output") rows)))
-    (if_there (switch_in (codes "on") (codes "off")) (first_of (codes "input") rows)))
-    (if_there gain_in (first_of (codes "output-gain") rows)))
-    (if_there gain_in (first_of (codes "input-gain") rows)))
-    (number_at (codes "device") 0 0 (most_devices - 1) rows)
+set_job rows = do
+  device ← device_at (codes "device") rows
+  input_gain ← if_there gain_in (first_of (codes "input-gain") rows)
+  output_gain ← if_there gain_in (first_of (codes "output-gain") rows)
+  input_on ← if_there (switch_in (codes "on") (codes "off")) (first_of (codes "input") rows)
+  output_on ← if_there (switch_in (codes "on") (codes "off")) (first_of (codes "output") rows)
+  hook_off ← if_there (switch_in (codes "off") (codes "on")) (first_of (codes "hook") rows)
+  Some (record {
+    device = device;
+    input_gain = input_gain;
+    output_gain = output_gain;
+    input_on = input_on;
+    output_on = output_on;
+    hook_off = hook_off;
+  })
 
 -- the job of apass
 abbrev pub pass_job : List Row → Option PassJob
-pass_job rows =
-    option_and_then (λ from_device.
-    option_and_then (λ to_device.
-    option_and_then (λ ty.
-    option_and_then (λ gain.
-    option_and_then (λ blocks.
-    option_and_then (λ block.
-    option_and_then (λ delay.
-    option_map (λ slack. record {
-      from_device = from_device;
-      to_device = to_device;
-      ty = ty;
-      gain = gain;
-      blocks = blocks;
-      block = block;
-      delay = delay;
-      slack = slack;
-    })
-    (number_at (codes "slack") 100 0 3000 rows))
-    (number_at (codes "delay") 200 0 3000 rows))
-    (number_at (codes "block") 1000 1 4000 rows))
-    (option_and_then (number_in 1 1000000) (first_of (codes "blocks") rows)))
-    (or_default (pos 0) gain_in (first_of (codes "gain") rows)))
-    (if_there type_of (first_of (codes "type") rows)))
-    (number_at (codes "to-device") 0 0 (most_devices - 1) rows))
-    (number_at (codes "from-device") 0 0 (most_devices - 1) rows)
+pass_job rows = do
+  from_device ← device_at (codes "from-device") rows
+  to_device ← device_at (codes "to-device") rows
+  ty ← type_at rows
+  gain ← gain_at rows
+  blocks_text ← first_of (codes "blocks") rows
+  blocks ← number_in 1 1000000 blocks_text
+  block ← block_at rows
+  delay ← number_at (codes "delay") 200 0 3000 rows
+  slack ← number_at (codes "slack") 100 0 3000 rows
+  Some (record {
+    from_device = from_device;
+    to_device = to_device;
+    ty = ty;
+    gain = gain;
+    blocks = blocks;
+    block = block;
+    delay = delay;
+    slack = slack;
+  })
 
 -- what a tool is asked to do: a task with one server, or to pass blocks from one server to another; and the byte order of its
 -- connections
@@ -251,25 +248,20 @@ pub data Job : Type 0 where
 
 -- a task with one server, if nothing is missing
 abbrev pub job_with : Option Task → List Row → Option Job
-job_with found rows =
-    option_and_then (λ task.
-    option_and_then (λ server.
-    option_map (λ order. one server order task)
-    (order_at rows))
-    (address_at (codes "SERVER") rows))
-    found
+job_with found rows = do
+  task ← found
+  server ← address_at (codes "SERVER") rows
+  order ← order_at rows
+  Some (one server order task)
 
 -- a relay, if nothing is missing
 abbrev pub relay_with : Option PassJob → List Row → Option Job
-relay_with found rows =
-    option_and_then (λ job.
-    option_and_then (λ from.
-    option_and_then (λ to.
-    option_map (λ order. relay from to order job)
-    (order_at rows))
-    (address_at (codes "TO") rows))
-    (address_at (codes "FROM") rows))
-    found
+relay_with found rows = do
+  job ← found
+  from ← address_at (codes "FROM") rows
+  to ← address_at (codes "TO") rows
+  order ← order_at rows
+  Some (relay from to order job)
 
 -- the job of a tool, by the matches of its command, if each value is in range
 abbrev pub job_in : Tool → List Row → Option Job

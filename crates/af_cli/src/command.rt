@@ -21,37 +21,54 @@ pub enum ArgumentKind {
 #[derive(Clone, Copy)]
 pub struct Argument<'a>(pub &'a str, pub ArgumentKind);
 
+// The arguments that several tools have.
+const SERVER: Argument<'static> = Argument("SERVER", ArgumentKind::Place);
+
+const ORDER: Argument<'static> = Argument("order", ArgumentKind::FreeOption);
+
+const DEVICE: Argument<'static> = Argument("device", ArgumentKind::FreeOption);
+
+const FILE: Argument<'static> = Argument("file", ArgumentKind::FreeOption);
+
+const TYPE: Argument<'static> = Argument("type", ArgumentKind::FreeOption);
+
+const GAIN: Argument<'static> = Argument("gain", ArgumentKind::FreeOption);
+
+const BLOCK: Argument<'static> = Argument("block", ArgumentKind::FreeOption);
+
+const TIME: Argument<'static> = Argument("time", ArgumentKind::FreeOption);
+
 static APLAY: [Argument<'static>; 10] = [
-    Argument("SERVER", ArgumentKind::Place),
-    Argument("order", ArgumentKind::FreeOption),
-    Argument("device", ArgumentKind::FreeOption),
-    Argument("file", ArgumentKind::FreeOption),
-    Argument("type", ArgumentKind::FreeOption),
-    Argument("gain", ArgumentKind::FreeOption),
-    Argument("block", ArgumentKind::FreeOption),
+    SERVER,
+    ORDER,
+    DEVICE,
+    FILE,
+    TYPE,
+    GAIN,
+    BLOCK,
     Argument("lead", ArgumentKind::FreeOption),
-    Argument("time", ArgumentKind::FreeOption),
+    TIME,
     Argument("preempt", ArgumentKind::Flag),
 ];
 
 static ARECORD: [Argument<'static>; 11] = [
-    Argument("SERVER", ArgumentKind::Place),
-    Argument("order", ArgumentKind::FreeOption),
-    Argument("device", ArgumentKind::FreeOption),
-    Argument("file", ArgumentKind::FreeOption),
-    Argument("type", ArgumentKind::FreeOption),
-    Argument("gain", ArgumentKind::FreeOption),
-    Argument("block", ArgumentKind::FreeOption),
-    Argument("time", ArgumentKind::FreeOption),
+    SERVER,
+    ORDER,
+    DEVICE,
+    FILE,
+    TYPE,
+    GAIN,
+    BLOCK,
+    TIME,
     Argument("frames", ArgumentKind::NeededOption),
     Argument("stop-peak", ArgumentKind::FreeOption),
     Argument("stop-blocks", ArgumentKind::FreeOption),
 ];
 
 static ASET: [Argument<'static>; 8] = [
-    Argument("SERVER", ArgumentKind::Place),
-    Argument("order", ArgumentKind::FreeOption),
-    Argument("device", ArgumentKind::FreeOption),
+    SERVER,
+    ORDER,
+    DEVICE,
     Argument("input-gain", ArgumentKind::FreeOption),
     Argument("output-gain", ArgumentKind::FreeOption),
     Argument("input", ArgumentKind::FreeOption),
@@ -62,21 +79,18 @@ static ASET: [Argument<'static>; 8] = [
 static APASS: [Argument<'static>; 11] = [
     Argument("FROM", ArgumentKind::Place),
     Argument("TO", ArgumentKind::Place),
-    Argument("order", ArgumentKind::FreeOption),
+    ORDER,
     Argument("from-device", ArgumentKind::FreeOption),
     Argument("to-device", ArgumentKind::FreeOption),
-    Argument("type", ArgumentKind::FreeOption),
-    Argument("gain", ArgumentKind::FreeOption),
+    TYPE,
+    GAIN,
     Argument("blocks", ArgumentKind::NeededOption),
-    Argument("block", ArgumentKind::FreeOption),
+    BLOCK,
     Argument("delay", ArgumentKind::FreeOption),
     Argument("slack", ArgumentKind::FreeOption),
 ];
 
-static LIST: [Argument<'static>; 2] = [
-    Argument("SERVER", ArgumentKind::Place),
-    Argument("order", ArgumentKind::FreeOption),
-];
+static LIST: [Argument<'static>; 2] = [SERVER, ORDER];
 
 fn clap_argument<'a>(alloc: Global, name: &'a str, kind: ArgumentKind) -> Arg<'a>
     ensures rule { rule_of result ≡ rule_at name.entry.now kind }
@@ -132,6 +146,7 @@ pub fn matches_for<'a>(
 }
 
 // The name of a tool, and the arguments of its command.
+#[tactic(auto, unfolding(crate::specs::Words::aplay_app, crate::specs::Words::arecord_app, crate::specs::Words::aset_app, crate::specs::Words::apass_app, crate::specs::Words::list_app))]
 fn command_words<'a>(tool: Tool) -> (&'a str, &'a [Argument<'a>])
     ensures { command_app result.0.now result.1.now ≡ tool_app tool }
 {

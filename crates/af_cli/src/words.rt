@@ -1,10 +1,9 @@
 // The jobs of the tools, by their arguments.
-ghost use Rattle.std.specs.Prelude.{◌≡◌, ◌-◌, ◌≤◌, None, codes, length, option_map, pos, IfSome};
-ghost use Rattle.af_limits.specs.Limits.{most_devices, longest_address};
+ghost use Rattle.std.specs.Prelude.{◌≡◌, ◌≤◌, codes, length, option_map, IfSome};
+ghost use Rattle.af_limits.specs.Limits.{longest_address};
 ghost use Rattle.clap.specs.Words.{first_of, found_of, rows_of};
-ghost use Rattle.af_text.specs.Sound.{type_of};
-ghost use Rattle.af_cli.specs.Numbers.{form_in, gain_in, if_there, number_in, or_default, order_in, switch_in};
-ghost use Rattle.af_cli.specs.Words.{address_at, basics_of, is_set, number_at, order_at, pass_job, play_job, record_job, set_job};
+ghost use Rattle.af_cli.specs.Numbers.{gain_in, if_there, number_in, switch_in};
+ghost use Rattle.af_cli.specs.Words.{address_at, basics_of, block_at, device_at, form_at, gain_at, is_set, number_at, order_at, pass_job, play_job, record_job, set_job, type_at};
 ghost use Rattle.af_cli.specs.Ranges.{IsPaced};
 
 use crate::command::text_of;
@@ -45,7 +44,7 @@ pub fn number_at(
 
 // The frames of a block.
 fn block_at(matches: &ArgMatches<'_>) -> Option<u32>
-    ensures value { result ≡ number_at (codes "block") 1000 1 4000 (rows_of (found_of matches.now)) }
+    ensures value { result ≡ block_at (rows_of (found_of matches.now)) }
     ensures range { IfSome result (λ block. (1 ≤ block) × (block ≤ 4000)) }
 {
     number_at(matches, "block", 1000, 1, 4000)
@@ -53,7 +52,7 @@ fn block_at(matches: &ArgMatches<'_>) -> Option<u32>
 
 // The number of a device.
 fn device_at(matches: &ArgMatches<'_>, name: &str) -> Option<u8>
-    ensures { result ≡ number_at name.now 0 0 (most_devices - 1) (rows_of (found_of matches.now)) }
+    ensures { result ≡ device_at name.now (rows_of (found_of matches.now)) }
 {
     let number = number_at(matches, name, 0, 0, MOST_DEVICES as u32 - 1)?;
     Some(number as u8)
@@ -94,7 +93,7 @@ fn time_at(matches: &ArgMatches<'_>) -> Option<Option<u32>>
 
 // A sample type, if one was given.
 fn type_at(matches: &ArgMatches<'_>) -> Option<Option<SampleType>>
-    ensures { result ≡ if_there type_of (first_of (codes "type") (rows_of (found_of matches.now))) }
+    ensures { result ≡ type_at (rows_of (found_of matches.now)) }
 {
     match text_of(matches, "type") {
         Some(text) => Some(Some(sample_type(text.as_bytes())?)),
@@ -104,7 +103,7 @@ fn type_at(matches: &ArgMatches<'_>) -> Option<Option<SampleType>>
 
 // The form of a file. Without one, the bytes are samples.
 fn form_at(matches: &ArgMatches<'_>) -> Option<Option<SoundForm>>
-    ensures { result ≡ or_default None form_in (first_of (codes "file") (rows_of (found_of matches.now))) }
+    ensures { result ≡ form_at (rows_of (found_of matches.now)) }
 {
     match text_of(matches, "file") {
         Some(text) => form_in(text),
@@ -114,7 +113,7 @@ fn form_at(matches: &ArgMatches<'_>) -> Option<Option<SoundForm>>
 
 // A gain, or none.
 fn gain_at(matches: &ArgMatches<'_>) -> Option<Gain>
-    ensures { result ≡ or_default (pos 0) gain_in (first_of (codes "gain") (rows_of (found_of matches.now))) }
+    ensures { result ≡ gain_at (rows_of (found_of matches.now)) }
 {
     match text_of(matches, "gain") {
         Some(text) => gain_in(text.as_bytes()),

@@ -49,11 +49,11 @@ with_rules a (r ∷ rs) = with_rules (with_rule a r) rs
 abbrev pub command_app : Text → List Argument → App
 command_app name words = with_rules (new_app name) (map rule_for words)
 
--- the arguments that one tool has, with those that each tool of one server has before them
+-- the arguments of a tool with one server: the server, the byte order, and these
 abbrev pub with_server : List Rule → List Rule
 with_server rules = rule_at (codes "SERVER") Place ∷ rule_at (codes "order") FreeOption ∷ rules
 
--- the same of aplay and arecord
+-- the arguments of aplay or arecord: those that both have, and these
 abbrev pub with_sound : List Rule → List Rule
 with_sound rules =
     with_server (

@@ -1,5 +1,5 @@
 -- Requests that are sent, and their answers.
-use Rattle.std.proofs.Common.{◌≡◌, ◌≢◌, ℕ, List, [], ◌-◌, length, take, drop, sym, ap, ◌∙◌, subst, append-nil, Result, Ok, Err, IfOk, refl, option_and_then, option_map, None, Some, Option}
+use Rattle.std.proofs.Common.{◌≡◌, ℕ, List, [], ◌-◌, length, take, drop, sym, ap, ◌∙◌, subst, append-nil, Result, Ok, Err, IfOk, refl, option_and_then, option_map, None, Some, Option}
 use Rattle.std.proofs.lemmas.List.{take_rest}
 use Rattle.af_io.specs.Observed.{Appended}
 use Rattle.af_wire.specs.declared.order.Order.{Order}
@@ -7,7 +7,6 @@ use Rattle.af_request.specs.Answer.{Answer, setup, plain, time, played, recorded
 use Rattle.af_request.specs.Replies.{answer_in, IsReplyTo}
 use Rattle.af_request.proofs.SetupReplyLemmas.{setup_stated}
 use Rattle.af_lib.specs.declared.fault.ConnFault.{ConnFault}
-use Rattle.af_lib.specs.declared.fault.ConnFault.TheVariants as fault
 use Rattle.af_lib.specs.Ring.{RingState}
 use Rattle.af_lib.specs.Answers.{and_then, answer_to, value_or_bad}
 use Rattle.af_lib.specs.Calls.{answer_of, as_devices, device_list, recorded_as, recorded_in, value_in, Answers, Sends}
@@ -16,7 +15,6 @@ use Rattle.af_request.specs.Answer.{items_of}
 use Rattle.af_request.specs.Opcodes as opcodes
 use Rattle.af_time.specs.declared.DevTime.{DevTime}
 use Rattle.arrayvec.specs.ArrayVec.{ArrayVec}
-use Rattle.af_lib.specs.Receive.{Finds}
 use Rattle.af_lib.proofs.LinkByteLemmas.{BothTold-map}
 
 -- all was sent, and nothing after it
@@ -46,8 +44,8 @@ recorded_bad bytes into None = refl
 module _ (order : Order) where
   -- the value of the reply that was found
   pub answers_value : {X : Type 0} (value_of : Answer → Option X) (opcode opcode' sequence n : ℕ) (into : List ℕ) (ring ring' : RingState) (before after : Option (List ℕ)) (result : Result X ConnFault) →
-      ((let r : Result ℕ ConnFault = Ok n in r ≢ Err fault.LinkFault) → Finds order opcode sequence (Ok n) into ring ring' before after) →
-      opcode' ≡ opcode → result ≡ value_in order value_of opcode' (take n into) → Answers order value_of opcode sequence result ring ring' before after
+      Answers order (and_then (answer_to order opcode sequence)) (Ok (take n into)) ring ring' before after →
+      opcode' ≡ opcode → result ≡ value_in order value_of opcode' (take n into) → Answers order (answer_of order value_of opcode sequence) result ring ring' before after
   answers_value value_of opcode opcode' sequence n into ring ring' before after result finds same is _ =
       BothTold-map before after _ _ (finds (λ e. cc))
       (λ b a t. (is ∙ ap (λ (o : ℕ). value_in order value_of o (take n into)) same ∙ ap (and_then (value_in order value_of opcode)) t.0, t.1, t.2))

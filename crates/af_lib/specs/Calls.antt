@@ -4,17 +4,17 @@ use Rattle.std.specs.Prelude.{length, take, drop, slice_get, is_some, option_and
 use Rattle.std.specs.Prelude.{IsOk, IsSome, Option, None, Some}
 use Rattle.af_limits.specs.Limits.{most_events}
 use Rattle.af_time.specs.declared.DevTime.{DevTime}
-use Rattle.af_io.specs.Observed.{Appended, FaultCounted}
+use Rattle.af_io.specs.Observed.{Appended, CountsFault, FaultCounted}
 use Rattle.af_io.specs.Flow.{AppendedPrefix}
 use Rattle.af_request.specs.declared.reply.Controls.{Controls}
 use Rattle.af_request.specs.declared.reply.DeviceInfo.{DeviceInfo}
 use Rattle.af_request.specs.declared.reply.Phone.{Phone}
-use Rattle.af_request.specs.Asked.{Asked, no_op, get_time, create_ac, change_ac, free_ac, play_run, record_run}
-use Rattle.af_request.specs.Asked.{select_events, set_controls, query_controls, hook_switch, query_phone}
+use Rattle.af_request.specs.Asked.{Asked, change_ac, set_controls}
 use Rattle.af_request.specs.Answer.{Answer, setup, plain, time, played, recorded, controls, phone}
-use Rattle.af_request.specs.Fields.{flag_byte}
+use Rattle.af_request.specs.Fields.{flag_byte, u8_at}
 use Rattle.af_request.specs.Requests.{request_bytes}
 use Rattle.af_wire.specs.declared.order.Order.{Order}
+use Rattle.af_wire.specs.declared.order.Order.TheVariants.{Big}
 use Rattle.af_wire.specs.declared.event.Event.{Event}
 use Rattle.af_wire.specs.Front.{setup_bytes}
 use Rattle.arrayvec.specs.ArrayVec.{ArrayVec}
@@ -43,20 +43,9 @@ pub record ConnState (L : Type 0) : Type 0 where
 abbrev pub next_sequence : ℕ → ℕ
 next_sequence sequence = (sequence + 1) % 2 ^ 16
 
--- the opcode of a request
+-- the opcode of a request: its first byte, in either order
 abbrev pub opcode_of : Asked → ℕ
-opcode_of no_op = opcodes.no_op
-opcode_of (get_time device) = opcodes.get_time
-opcode_of (create_ac device ac ty channels preempt play_gain record_gain) = opcodes.create_ac
-opcode_of (change_ac mask ac preempt play_gain record_gain) = opcodes.change_ac
-opcode_of (free_ac ac) = opcodes.free_ac
-opcode_of (play_run quiet ac start samples) = opcodes.play
-opcode_of (record_run blocking ac start nbytes) = opcodes.record
-opcode_of (select_events device mask) = opcodes.select_events
-opcode_of (set_controls device mask input_on output_on input_gain output_gain) = opcodes.set_controls
-opcode_of (query_controls device) = opcodes.query_controls
-opcode_of (hook_switch device off) = opcodes.hook_switch
-opcode_of (query_phone device) = opcodes.query_phone
+opcode_of asked = u8_at 0 (request_bytes Big asked)
 
 -- a reply read as: the request was performed
 abbrev pub as_done : Answer → Option Unit
@@ -134,27 +123,36 @@ pub record Sends {X : Type 0} (result : Result X ConnFault) (before : Option (Li
   pub whole : result ≢ Err fault.LinkFault → Appended before bytes after
   pub part : AppendedPrefix before bytes after
 
+-- Bytes were sent over a link and an answer was awaited, with this result.
+pub record Exchanged {L X : Type 0} (left sent : L → Option (List ℕ)) (faults : L → ℕ) (bytes : List ℕ)
+    (result : Result X ConnFault) (old new : L) : Type 0 where
+  -- exactly these bytes were sent
+  pub sends : Sends result (sent old) bytes (sent new)
+  -- the result is neither Spent nor OutOfMemory
+  pub fresh : IsFresh result
+  -- bytes that are observable stay so
+  pub tells : IsSome (left old) → IsSome (left new)
+  -- LinkFault only if the link's count of faults rose
+  pub counts : CountsFault (result ≡ Err fault.LinkFault) (faults old) (faults new)
+
 -- if the link did not fail and its bytes are observable, exactly the messages up to the first that is no event were taken, the
--- events went into the ring, and the answer is what that message says
-abbrev pub Answers : {X : Type 0} → Order → (Answer → Option X) → ℕ → ℕ → Result X ConnFault → RingState → RingState →
-    Option (List ℕ) → Option (List ℕ) → Type 0
-Answers order value_of opcode sequence result ring ring' before after = result ≢ Err fault.LinkFault →
-    BothTold before after (λ b a.
-    (result ≡ answer_of order value_of opcode sequence (awaited_message order most_events ring b).found)
+-- events went into the ring, and the result is what comes of that message
+abbrev pub Answers : {X : Type 0} → Order → (Result (List ℕ) ConnFault → Result X ConnFault) → Result X ConnFault →
+    RingState → RingState → Option (List ℕ) → Option (List ℕ) → Type 0
+Answers order answer result ring ring' before after = result ≢ Err fault.LinkFault → BothTold before after (λ b a.
+    (result ≡ answer (awaited_message order most_events ring b).found)
     × (ring' ≡ (awaited_message order most_events ring b).ring) × (a ≡ (awaited_message order most_events ring b).rest))
 
 -- the same for the message itself, which is in a buffer then
 abbrev pub held_in : {X : Type 0} → Result X ConnFault → List ℕ → Result (List ℕ) ConnFault
-held_in (Ok x) bytes = Ok bytes
-held_in (Err fault) bytes = Err fault
+held_in result bytes = and_then (λ _. Ok bytes) result
 
 -- recorded samples, which are in a buffer
 abbrev pub recorded_as : List ℕ → (DevTime × ℕ) → Recorded
 recorded_as into r = record { time = r.0; samples = take r.1 into }
 
 abbrev pub recorded_in : Result (DevTime × ℕ) ConnFault → List ℕ → Result Recorded ConnFault
-recorded_in (Ok r) into = Ok (recorded_as into r)
-recorded_in (Err fault) into = Err fault
+recorded_in result into = and_then (λ r. Ok (recorded_as into r)) result
 
 -- the buffer past what was recorded stays as it was, and all of it if nothing was recorded
 abbrev pub KeepsTail : Result (DevTime × ℕ) ConnFault → List ℕ → List ℕ → Type 0
@@ -168,8 +166,7 @@ IsStoredIn None old new = new ≡ old
 
 -- devices, as the list of them
 abbrev pub device_list : Result (ArrayVec DeviceInfo) ConnFault → Result (List DeviceInfo) ConnFault
-device_list (Ok devices) = Ok devices.items
-device_list (Err fault) = Err fault
+device_list result = and_then (λ devices. Ok devices.items) result
 
 -- the channels of the device with a number among those of a server, or one if there is none
 abbrev pub channels_or_one : Option DeviceInfo → ℕ
@@ -224,7 +221,7 @@ pub record Called {L X : Type 0} (left sent : L → Option (List ℕ)) (faults :
   pub sends : old.cause ≡ None → Sends result (sent old.link) (request_bytes old.order asked) (sent new.link)
   -- exactly its answer was taken
   pub answers : old.cause ≡ None →
-      Answers old.order value_of (opcode_of asked) (next_sequence old.sequence) result old.ring new.ring
+      Answers old.order (answer_of old.order value_of (opcode_of asked) (next_sequence old.sequence)) result old.ring new.ring
       (left old.link) (left new.link)
   -- the ring gained events and nothing else, also if the link failed
   pub gained : old.cause ≡ None → Gained old.ring new.ring
@@ -234,14 +231,7 @@ pub record Called {L X : Type 0} (left sent : L → Option (List ℕ)) (faults :
   pub tells : IsSome (left old.link) → IsSome (left new.link)
   -- the order and the devices stay, and a fault is kept
   pub keeps : old.cause ≡ None →
-      new ≡ record {
-        link = new.link;
-        order = old.order;
-        devices = old.devices;
-        sequence = next_sequence old.sequence;
-        ring = new.ring;
-        cause = cause_of result;
-      }
+      new ≡ record old { link = new.link; sequence = next_sequence old.sequence; ring = new.ring; cause = cause_of result }
   -- LinkFault only if the link's count of faults rose
   pub failed : result ≡ Err fault.LinkFault → FaultCounted (faults old.link) (faults new.link)
   pub count : faults old.link ≤ faults new.link
@@ -265,14 +255,7 @@ pub record EventAwaited {L : Type 0} (left sent : L → Option (List ℕ)) (faul
   pub tells : IsSome (left old.link) → IsSome (left new.link)
   -- the ring stays empty, and a fault is kept
   pub keeps : old.cause ≡ None → slice_get old.ring.events 0 ≡ None →
-      new ≡ record {
-        link = new.link;
-        order = old.order;
-        devices = old.devices;
-        sequence = old.sequence;
-        ring = old.ring;
-        cause = cause_of result;
-      }
+      new ≡ record old { link = new.link; cause = cause_of result }
   -- nothing is sent
   pub sends : sent new.link ≡ sent old.link
   -- LinkFault only if the link's count of faults rose
@@ -285,7 +268,8 @@ pub record IsSetUp {L : Type 0} (order : Order) (left sent : L → Option (List 
   -- exactly the setup was sent
   pub sends : Sends result (sent old) (setup_bytes order) (sent new)
   -- exactly its answer was taken
-  pub answers : Answers order as_devices opcodes.setup 0 result (record { events = []; lost = 0 }) ring (left old) (left new)
+  pub answers :
+      Answers order (answer_of order as_devices opcodes.setup 0) result (record { events = []; lost = 0 }) ring (left old) (left new)
   -- it is neither Spent nor out of memory
   pub fresh : IsFresh result
   -- bytes that are observable stay so

@@ -1,6 +1,6 @@
 -- What a client takes off the bytes that a server sends, message by message.
-use Rattle.std.specs.Prelude.{ℕ, zero, suc, ◌-◌, ◌==◌, if◌then◌else◌, List, [], ◌++◌, length, take, drop, replicate, Option, Some}
-use Rattle.std.specs.Prelude.{None, Result, Ok, Err, ok_or, option_map}
+use Rattle.std.specs.Prelude.{ℕ, zero, suc, ◌-◌, ◌==◌, if◌then◌else◌, List, [], ◌++◌, length, take, drop, replicate}
+use Rattle.std.specs.Prelude.{Result, Ok, Err, ok_or, option_map}
 use Rattle.af_wire.specs.declared.order.Order.{Order}
 use Rattle.af_wire.specs.declared.event.Event.{Event}
 use Rattle.af_wire.specs.declared.message_front.MessageFront.{MessageFront}

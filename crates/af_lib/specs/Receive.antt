@@ -1,5 +1,5 @@
 -- What the steps of an exchange do to the bytes of a link, if they are observable.
-use Rattle.std.specs.Prelude.{◌≡◌, ◌<◌, ◌≤◌, ⊤, ℕ, List, [], ◌++◌, length, take, Result, Ok, Err, Option}
+use Rattle.std.specs.Prelude.{◌≡◌, ◌<◌, ◌≤◌, ⊤, ℕ, List, [], ◌++◌, length, take, Result, Ok, Option}
 use Rattle.af_limits.specs.Limits.{longest_frame, longest_message, most_events}
 use Rattle.af_io.specs.Observed.{Consumed}
 use Rattle.af_wire.specs.declared.order.Order.{Order}
@@ -14,7 +14,7 @@ use Rattle.af_lib.specs.declared.receive.Taken.{Taken}
 use Rattle.af_lib.specs.declared.receive.Taken.TheVariants as taken
 use Rattle.af_lib.specs.Ring.{RingState}
 use Rattle.af_lib.specs.Incoming.{Incoming, event, other, incoming, after_message, awaited_message}
-use Rattle.af_lib.specs.Answers.{and_then, answer_to}
+use Rattle.af_lib.specs.Answers.{and_then}
 use Rattle.af_lib.specs.Observed.{BothTold}
 
 -- a slice was filled; or fewer bytes than it has room for were left, and were all given
@@ -55,8 +55,7 @@ taken_of (taken.Other n) into = other (take n into)
 
 -- the same, if there is one
 abbrev pub taken_as : Result Taken ConnFault → List ℕ → Result Incoming ConnFault
-taken_as (Ok taken) into = Ok (taken_of taken into)
-taken_as (Err fault) into = Err fault
+taken_as result into = and_then (λ taken. Ok (taken_of taken into)) result
 
 -- a message that is no event has a header, and is n bytes long
 abbrev pub IsTakenWithin : Result Taken ConnFault → ℕ → Type 0
@@ -70,8 +69,7 @@ Takes order result into before after =
 
 -- the message that was found and is in a buffer
 abbrev pub found_as : Result ℕ ConnFault → List ℕ → Result (List ℕ) ConnFault
-found_as (Ok n) into = Ok (take n into)
-found_as (Err fault) into = Err fault
+found_as result into = and_then (λ n. Ok (take n into)) result
 
 -- the messages up to the first that is no event were taken, at most 4096 of them, and nothing after them
 abbrev pub Awaits : Order → Result ℕ ConnFault → List ℕ → RingState → RingState → Option (List ℕ) → Option (List ℕ) → Type 0
@@ -82,10 +80,3 @@ Awaits order result into ring ring' before after =
 -- room for the longest message of a server, and for the longest frame of a request
 abbrev pub HasBuffers : (input output : List ℕ) → Type 0
 HasBuffers input output = (longest_message ≤ length input) × (longest_frame ≤ length output)
-
--- a reply to the request was found, which is in a buffer, or else what came in its place
-abbrev pub Finds : Order → ℕ → ℕ → Result ℕ ConnFault → List ℕ → RingState → RingState →
-    Option (List ℕ) → Option (List ℕ) → Type 0
-Finds order opcode sequence result into ring ring' before after = BothTold before after (λ b a.
-    (found_as result into ≡ and_then (answer_to order opcode sequence) (awaited_message order most_events ring b).found)
-    × (ring' ≡ (awaited_message order most_events ring b).ring) × (a ≡ (awaited_message order most_events ring b).rest))

@@ -1,10 +1,9 @@
 // Replies as the values that they state, one impl for each kind of request.
-ghost use Rattle.std.specs.Prelude.{◌≡◌, ◌≢◌, ◌≤◌, length, option_map, Err, IfOk, IfSome, IsTrue, IsSome};
+ghost use Rattle.std.specs.Prelude.{◌≡◌, ◌≢◌, ◌≤◌, length, option_map, Err, IfOk, IfSome, IsTrue};
 ghost use Rattle.std.specs.declared.option.Option.{Option};
 ghost use Rattle.af_limits.specs.Limits.{longest_message};
-ghost use Rattle.af_io.specs.Observed.{CountsFault};
 ghost use Rattle.af_wire.specs.Front.{setup_bytes};
-ghost use Rattle.af_request.specs.Answer.{Answer, reply_meaning as answered_by, recorded, setup, items_of};
+ghost use Rattle.af_request.specs.Answer.{Answer, reply_meaning as answered_by, setup, items_of};
 ghost use Rattle.af_request.specs.Asked.{request_meaning};
 ghost use Rattle.af_request.specs.Replies.{IsReplyTo};
 ghost use Rattle.af_request.specs.Requests.{request_bytes, FitsFrame};
@@ -12,7 +11,7 @@ ghost use Rattle.af_request.specs.Opcodes as opcodes;
 ghost use Rattle.af_lib.specs.Answers.{value_or_bad};
 ghost use Rattle.af_lib.specs.Receive.{HasBuffers};
 ghost use Rattle.af_lib.specs.Ring.{Gained};
-ghost use Rattle.af_lib.specs.Calls.{as_controls, as_devices, as_done, as_phone, as_recorded, as_time, device_list, opcode_of, recorded_as, recorded_in, value_in, Answers, IsFresh, KeepsTail, IsStoredIn, Sends};
+ghost use Rattle.af_lib.specs.Calls.{answer_of, as_controls, as_devices, as_done, as_phone, as_recorded, as_time, device_list, opcode_of, recorded_as, recorded_in, value_in, Answers, Exchanged, IsFresh, KeepsTail, IsStoredIn};
 
 use crate::exchange::{Exchange, ask, await_setup, opcode_of};
 use crate::fault::ConnFault;
@@ -113,14 +112,11 @@ pub fn ask_value<T: FromReply, L: Link + Drop>(
 ) -> Result<T, ConnFault>
     requires samples { FitsFrame (request_meaning request.now) }
     requires room { HasBuffers exchange.old.input.items exchange.old.output.items }
-    ensures answers { Answers order T.value_of (opcode_of (request_meaning request.now)) sequence result
+    ensures answers { Answers order (answer_of order T.value_of (opcode_of (request_meaning request.now)) sequence) result
         exchange.old.ring exchange.new.ring (L.left exchange.old.link) (L.left exchange.new.link) }
     ensures gained { Gained exchange.old.ring exchange.new.ring }
-    ensures fresh { IsFresh result }
-    ensures sends { Sends result (L.sent exchange.old.link) (request_bytes order (request_meaning request.now))
-        (L.sent exchange.new.link) }
-    ensures tells { IsSome (L.left exchange.old.link) → IsSome (L.left exchange.new.link) }
-    ensures faults { CountsFault (result ≡ Err ConnFault.LinkFault) (L.faults exchange.old.link) (L.faults exchange.new.link) }
+    ensures exchanged { Exchanged L.left L.sent L.faults (request_bytes order (request_meaning request.now)) result
+        exchange.old.link exchange.new.link }
     ensures room { HasBuffers exchange.new.input.items exchange.new.output.items }
 {
     match ask(order, exchange, request, sequence) {
@@ -129,37 +125,22 @@ pub fn ask_value<T: FromReply, L: Link + Drop>(
     }
 }
 
-// Stores recorded samples, if they are as many as were asked for. A request that does not block may get fewer.
-fn stored(
-    time: DevTime,
-    samples: &[u8],
-    blocking: bool,
-    into: &mut [u8],
-) -> Option<(DevTime, usize)>
-    ensures value { option_map (recorded_as into.new) result
-        ≡ as_recorded blocking (length into.old) (recorded time.0 samples.now) }
-    ensures kept { IsStoredIn result into.old into.new }
-    ensures within { IfSome result (λ r. r.1 ≤ length into.old) }
-    ensures all { IfSome result (λ r. IsTrue blocking → r.1 ≡ length into.old) }
-{
-    let count = samples.len();
-    if count > into.len() || blocking && count < into.len() {
-        return None;
-    }
-    into[..count].copy_from_slice(samples);
-    Some((time, count))
-}
-
+// Stores the recorded samples of a reply, if they are as many as were asked for. A request that does not block may get fewer.
 fn recorded_of(reply: &Reply<'_>, blocking: bool, into: &mut [u8]) -> Option<(DevTime, usize)>
     ensures value { option_map (recorded_as into.new) result ≡ as_recorded blocking (length into.old) (answered_by reply.now) }
     ensures kept { IsStoredIn result into.old into.new }
     ensures within { IfSome result (λ r. r.1 ≤ length into.old) }
     ensures all { IfSome result (λ r. IsTrue blocking → r.1 ≡ length into.old) }
 {
-    match reply {
-        Reply::Recorded { time, samples } => stored(*time, samples, blocking, into),
-        _ => None,
+    let Reply::Recorded { time, samples } = reply else {
+        return None;
+    };
+    let count = samples.len();
+    if count > into.len() || blocking && count < into.len() {
+        return None;
     }
+    into[..count].copy_from_slice(samples);
+    Some((*time, count))
 }
 
 fn recorded_in(
@@ -194,17 +175,15 @@ pub fn ask_recorded<L: Link + Drop>(
 ) -> Result<(DevTime, usize), ConnFault>
     requires samples { FitsFrame (request_meaning request.now) }
     requires room { HasBuffers exchange.old.input.items exchange.old.output.items }
-    ensures answers { Answers order (as_recorded blocking (length into.old)) (opcode_of (request_meaning request.now)) sequence
+    ensures answers { Answers order
+        (answer_of order (as_recorded blocking (length into.old)) (opcode_of (request_meaning request.now)) sequence)
         (recorded_in result into.new) exchange.old.ring exchange.new.ring (L.left exchange.old.link) (L.left exchange.new.link) }
     ensures gained { Gained exchange.old.ring exchange.new.ring }
     ensures kept { KeepsTail result into.old into.new }
     ensures within { IfOk result (λ r. r.1 ≤ length into.old) }
     ensures all { IfOk result (λ r. IsTrue blocking → r.1 ≡ length into.old) }
-    ensures fresh { IsFresh result }
-    ensures sends { Sends (recorded_in result into.new)
-        (L.sent exchange.old.link) (request_bytes order (request_meaning request.now)) (L.sent exchange.new.link) }
-    ensures tells { IsSome (L.left exchange.old.link) → IsSome (L.left exchange.new.link) }
-    ensures faults { CountsFault (result ≡ Err ConnFault.LinkFault) (L.faults exchange.old.link) (L.faults exchange.new.link) }
+    ensures exchanged { Exchanged L.left L.sent L.faults (request_bytes order (request_meaning request.now))
+        (recorded_in result into.new) exchange.old.link exchange.new.link }
     ensures room { HasBuffers exchange.new.input.items exchange.new.output.items }
 {
     match ask(order, exchange, request, sequence) {
@@ -249,13 +228,10 @@ pub fn set_up<L: Link>(
     input: &mut [u8],
 ) -> Result<Devices, ConnFault>
     requires { longest_message ≤ length input.old }
-    ensures answers { Answers order as_devices opcodes.setup 0 (device_list result) ring.old ring.new
+    ensures answers { Answers order (answer_of order as_devices opcodes.setup 0) (device_list result) ring.old ring.new
         (L.left link.old) (L.left link.new) }
     ensures stated { IfOk result (λ devices. IsReplyTo opcodes.setup (setup devices.items)) }
-    ensures fresh { IsFresh result }
-    ensures sends { Sends (device_list result) (L.sent link.old) (setup_bytes order) (L.sent link.new) }
-    ensures tells { IsSome (L.left link.old) → IsSome (L.left link.new) }
-    ensures faults { CountsFault (result ≡ Err ConnFault.LinkFault) (L.faults link.old) (L.faults link.new) }
+    ensures exchanged { Exchanged L.left L.sent L.faults (setup_bytes order) (device_list result) link.old link.new }
 {
     match await_setup(order, link, ring, input) {
         Ok(length) => devices_in(order, &input[..length]),

@@ -7,9 +7,9 @@ ghost use Rattle.af_wire.specs.Front.{setup_bytes};
 ghost use Rattle.af_request.specs.Asked.{request_meaning};
 ghost use Rattle.af_request.specs.Requests.{request_bytes, FitsFrame};
 ghost use Rattle.af_request.specs.Opcodes as opcodes;
-ghost use Rattle.af_lib.specs.Answers.{answer_to, refused_in};
-ghost use Rattle.af_lib.specs.Calls.{cause_of, held_in, opcode_of, IsFresh, Sends};
-ghost use Rattle.af_lib.specs.Receive.{Finds, HasBuffers};
+ghost use Rattle.af_lib.specs.Answers.{and_then, answer_to, refused_in};
+ghost use Rattle.af_lib.specs.Calls.{cause_of, held_in, opcode_of, Answers, Exchanged, IsFresh};
+ghost use Rattle.af_lib.specs.Receive.{found_as, HasBuffers};
 ghost use Rattle.af_lib.specs.Ring.{Gained};
 ghost use Rattle.af_lib.specs.Observed.{OnlyRead};
 
@@ -111,8 +111,8 @@ pub fn await_answer<L: Link>(
     sequence: u16,
 ) -> Result<usize, ConnFault>
     requires { longest_message ≤ length input.old }
-    ensures finds { result ≢ Err ConnFault.LinkFault →
-        Finds order opcode sequence result input.new ring.old ring.new (L.left link.old) (L.left link.new) }
+    ensures finds { Answers order (and_then (answer_to order opcode sequence)) (found_as result input.new)
+        ring.old ring.new (L.left link.old) (L.left link.new) }
     ensures gained { Gained ring.old ring.new }
     ensures within { IfOk result (λ n. (8 ≤ n) × (n ≤ longest_message)) }
     ensures fresh { IsFresh result }
@@ -148,15 +148,13 @@ pub fn ask<L: Link + Drop>(
 ) -> Result<usize, ConnFault>
     requires samples { FitsFrame (request_meaning request.now) }
     requires room { HasBuffers exchange.old.input.items exchange.old.output.items }
-    ensures finds { result ≢ Err ConnFault.LinkFault → Finds order (opcode_of (request_meaning request.now)) sequence result
-        exchange.new.input.items exchange.old.ring exchange.new.ring (L.left exchange.old.link) (L.left exchange.new.link) }
+    ensures finds { Answers order (and_then (answer_to order (opcode_of (request_meaning request.now)) sequence))
+        (found_as result exchange.new.input.items) exchange.old.ring exchange.new.ring
+        (L.left exchange.old.link) (L.left exchange.new.link) }
     ensures gained { Gained exchange.old.ring exchange.new.ring }
     ensures within { IfOk result (λ n. (8 ≤ n) × (n ≤ longest_message)) }
-    ensures fresh { IsFresh result }
-    ensures sends { Sends result (L.sent exchange.old.link) (request_bytes order (request_meaning request.now))
-        (L.sent exchange.new.link) }
-    ensures tells { IsSome (L.left exchange.old.link) → IsSome (L.left exchange.new.link) }
-    ensures faults { CountsFault (result ≡ Err ConnFault.LinkFault) (L.faults exchange.old.link) (L.faults exchange.new.link) }
+    ensures exchanged { Exchanged L.left L.sent L.faults (request_bytes order (request_meaning request.now)) result
+        exchange.old.link exchange.new.link }
     ensures room { HasBuffers exchange.new.input.items exchange.new.output.items }
 {
     match send(order, &mut exchange.link, &mut exchange.output, request) {
@@ -180,13 +178,10 @@ pub fn await_setup<L: Link>(
     input: &mut [u8],
 ) -> Result<usize, ConnFault>
     requires { longest_message ≤ length input.old }
-    ensures finds { result ≢ Err ConnFault.LinkFault →
-        Finds order opcodes.setup 0 result input.new ring.old ring.new (L.left link.old) (L.left link.new) }
+    ensures finds { Answers order (and_then (answer_to order opcodes.setup 0)) (found_as result input.new)
+        ring.old ring.new (L.left link.old) (L.left link.new) }
     ensures within { IfOk result (λ n. (8 ≤ n) × (n ≤ longest_message)) }
-    ensures fresh { IsFresh result }
-    ensures sends { Sends result (L.sent link.old) (setup_bytes order) (L.sent link.new) }
-    ensures tells { IsSome (L.left link.old) → IsSome (L.left link.new) }
-    ensures faults { CountsFault (result ≡ Err ConnFault.LinkFault) (L.faults link.old) (L.faults link.new) }
+    ensures exchanged { Exchanged L.left L.sent L.faults (setup_bytes order) result link.old link.new }
 {
     match link.write(&order.setup()) {
         Put::Done => await_answer(order, link, ring, input, opcode::SETUP, 0),

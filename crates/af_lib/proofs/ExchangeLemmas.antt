@@ -9,11 +9,9 @@ use Rattle.af_request.proofs.SetupReplyLemmas.{setup_stated}
 use Rattle.af_lib.specs.declared.fault.ConnFault.{ConnFault}
 use Rattle.af_lib.specs.Ring.{RingState}
 use Rattle.af_lib.specs.Answers.{and_then, answer_to, value_or_bad}
-use Rattle.af_lib.specs.Calls.{answer_of, as_devices, device_list, recorded_as, recorded_in, value_in, Answers, Sends}
+use Rattle.af_lib.specs.Calls.{answer_of, as_devices, device_list, value_in, Answers, Sends}
 use Rattle.af_request.specs.declared.reply.DeviceInfo.{DeviceInfo}
-use Rattle.af_request.specs.Answer.{items_of}
 use Rattle.af_request.specs.Opcodes as opcodes
-use Rattle.af_time.specs.declared.DevTime.{DevTime}
 use Rattle.arrayvec.specs.ArrayVec.{ArrayVec}
 use Rattle.af_lib.proofs.LinkByteLemmas.{BothTold-map}
 
@@ -23,9 +21,10 @@ sends_all {before} {bytes = bytes} appended same =
     let all = subst (λ (sent : Option (List ℕ)). Appended before bytes sent) (sym same) appended in
     record { whole = λ _. all; part = record { front = bytes; rest = []; whole = sym (append-nil bytes); appended = all } }
 
-pub listed_bad : (bytes : List ℕ) (value : Option (ArrayVec DeviceInfo)) → device_list (value_or_bad bytes value) ≡ value_or_bad bytes (option_map items_of value)
-listed_bad bytes (Some devices) = refl
-listed_bad bytes None = refl
+-- a value that is seen as another one, or a bad reply
+pub seen_or_bad : {X Y : Type 0} (view : X → Y) (bytes : List ℕ) (value : Option X) → and_then (λ x. Ok (view x)) (value_or_bad bytes value) ≡ value_or_bad bytes (option_map view value)
+seen_or_bad view bytes (Some x) = refl
+seen_or_bad view bytes None = refl
 
 only_setup : (bytes : List ℕ) (answer : Option Answer) (devices : List DeviceInfo) → value_or_bad bytes (option_and_then as_devices answer) ≡ Ok devices → answer ≡ Some (setup devices)
 only_setup bytes (Some (setup ds)) devices is = let same : ds ≡ devices = cc in ap (λ (l : List DeviceInfo). Some (setup l)) same
@@ -36,10 +35,6 @@ only_setup bytes (Some (recorded now samples)) devices is = cc
 only_setup bytes (Some (controls c)) devices is = cc
 only_setup bytes (Some (phone p)) devices is = cc
 only_setup bytes None devices is = cc
-
-pub recorded_bad : (bytes into : List ℕ) (value : Option (DevTime × ℕ)) → recorded_in (value_or_bad bytes value) into ≡ value_or_bad bytes (option_map (recorded_as into) value)
-recorded_bad bytes into (Some r) = refl
-recorded_bad bytes into None = refl
 
 module _ (order : Order) where
   -- the value of the reply that was found

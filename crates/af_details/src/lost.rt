@@ -1,7 +1,10 @@
 // Frames that were lost.
 ghost use Rattle.std.specs.Prelude.{◌≡◌, ◌≤◌, ◌*◌, ◌^◌};
 
+use crate::shown::Counted;
 use af_time::DevTime;
+use std::fmt;
+use std::fmt::{Formatter, Write};
 
 /// How many frames were lost, and in how many blocks. Both counts stand still at 2^64 - 1.
 #[derive(Clone, Copy, Debug, PartialEq, Eq)]
@@ -35,6 +38,33 @@ impl Lost {
             self.frames = self.frames.saturating_add(u64::from(lost));
             self.blocks = self.blocks.saturating_add(1);
             self.latest = self.latest.max(before);
+        }
+    }
+}
+
+impl fmt::Display for Lost {
+    fn fmt<W: Write>(&self, f: &mut Formatter<W>) -> fmt::Result {
+        let frames = Counted(self.frames, "frame");
+        let blocks = Counted(self.blocks, "block");
+        write!(f, "{frames} in {blocks}")
+    }
+}
+
+/// Tells that frames were lost since they came too late.
+pub fn tell_late(rt: &impl Eprint, late: Lost) {
+    let _ = eprintln!(rt; "af: {late} came too late to be heard");
+}
+
+/// Tells that a greater value of an option helps against that, and which one would have been enough.
+pub fn tell_greater(rt: &impl Eprint, option: &str, millis: u32, enough: Option<u64>) {
+    match enough {
+        Some(enough) => {
+            let _ = eprintln!(rt;
+                "af: a greater --{option} helps; it was {millis} milliseconds, and {enough} would have been enough"
+            );
+        }
+        None => {
+            let _ = eprintln!(rt; "af: a greater --{option} helps; it was {millis} milliseconds");
         }
     }
 }

@@ -14,14 +14,25 @@ pub struct OptionRow<'a> {
     pub what: &'a str,
 }
 
+// The options that several tools have in the same words.
+const DEVICE: OptionRow<'static> = OptionRow {
+    name: "device",
+    values: Values::Number(0, 7),
+    needed: false,
+    default: "0",
+    what: "the device",
+};
+
+const ORDER: OptionRow<'static> = OptionRow {
+    name: "order",
+    values: Values::OneOf("big|little"),
+    needed: false,
+    default: "big",
+    what: "which byte of a number comes first on the connection",
+};
+
 static APLAY: [OptionRow<'static>; 9] = [
-    OptionRow {
-        name: "device",
-        values: Values::Number(0, 7),
-        needed: false,
-        default: "0",
-        what: "the device",
-    },
+    DEVICE,
     OptionRow {
         name: "file",
         values: Values::OneOf("raw|au|wave"),
@@ -71,13 +82,7 @@ static APLAY: [OptionRow<'static>; 9] = [
         default: "",
         what: "replaces what was played before for the same times",
     },
-    OptionRow {
-        name: "order",
-        values: Values::OneOf("big|little"),
-        needed: false,
-        default: "big",
-        what: "which byte of a number comes first on the connection",
-    },
+    ORDER,
 ];
 
 static ARECORD: [OptionRow<'static>; 10] = [
@@ -88,13 +93,7 @@ static ARECORD: [OptionRow<'static>; 10] = [
         default: "",
         what: "frames that are recorded at most",
     },
-    OptionRow {
-        name: "device",
-        values: Values::Number(0, 7),
-        needed: false,
-        default: "0",
-        what: "the device",
-    },
+    DEVICE,
     OptionRow {
         name: "file",
         values: Values::OneOf("raw|au|wave"),
@@ -144,23 +143,11 @@ static ARECORD: [OptionRow<'static>; 10] = [
         default: "1",
         what: "quiet blocks in a row that end the recording",
     },
-    OptionRow {
-        name: "order",
-        values: Values::OneOf("big|little"),
-        needed: false,
-        default: "big",
-        what: "which byte of a number comes first on the connection",
-    },
+    ORDER,
 ];
 
 static ASET: [OptionRow<'static>; 7] = [
-    OptionRow {
-        name: "device",
-        values: Values::Number(0, 7),
-        needed: false,
-        default: "0",
-        what: "the device",
-    },
+    DEVICE,
     OptionRow {
         name: "input",
         values: Values::OneOf("on|off"),
@@ -196,13 +183,7 @@ static ASET: [OptionRow<'static>; 7] = [
         default: "as it is",
         what: "whether the telephone is on the hook",
     },
-    OptionRow {
-        name: "order",
-        values: Values::OneOf("big|little"),
-        needed: false,
-        default: "big",
-        what: "which byte of a number comes first on the connection",
-    },
+    ORDER,
 ];
 
 static APASS: [OptionRow<'static>; 9] = [
@@ -309,13 +290,7 @@ static ANSWER: [OptionRow<'static>; 5] = [
     },
 ];
 
-static LIST: [OptionRow<'static>; 1] = [OptionRow {
-    name: "order",
-    values: Values::OneOf("big|little"),
-    needed: false,
-    default: "big",
-    what: "which byte of a number comes first on the connection",
-}];
+static LIST: [OptionRow<'static>; 1] = [ORDER];
 
 static ONE: [&str; 1] = ["SERVER"];
 

@@ -1,6 +1,7 @@
 // Details of a play: a file that does not fit, and frames that came too late.
 use crate::asked::channels_text;
 use crate::file::{Unplayable, ending};
+use crate::lost::{tell_greater, tell_late};
 use crate::shown::Counted;
 use crate::source::WatchedSource;
 use crate::talk::Talk;
@@ -78,21 +79,6 @@ fn tell_remedy(rt: &impl Eprint, job: &PlayJob, form: SoundForm, talk: &Talk) {
     }
 }
 
-// Tells that a greater lead helps, and which one would have been enough.
-fn tell_lead(rt: &impl Eprint, job: &PlayJob, talk: &Talk) {
-    let lead = job.lead;
-    match talk.enough_millis(job.device, lead, LONGEST_LEAD) {
-        Some(enough) => {
-            let _ = eprintln!(rt;
-                "af: a greater --lead helps; it was {lead} milliseconds, and {enough} would have been enough"
-            );
-        }
-        None => {
-            let _ = eprintln!(rt; "af: a greater --lead helps; it was {lead} milliseconds");
-        }
-    }
-}
-
 /// Tells which frames were not heard, and of a file that has sound though its header says none.
 pub fn tell_played<S: Read + Drop>(
     rt: &impl Eprint,
@@ -102,9 +88,7 @@ pub fn tell_played<S: Read + Drop>(
     source: &mut WatchedSource<S>,
 ) {
     if talk.late.frames > 0 {
-        let frames = Counted(talk.late.frames, "frame");
-        let blocks = Counted(talk.late.blocks, "block");
-        let _ = eprintln!(rt; "af: {frames} in {blocks} came too late to be heard");
+        tell_late(rt, talk.late);
         match job.time {
             Some(time) => {
                 let enough = time.wrapping_add(talk.late.latest);
@@ -112,7 +96,10 @@ pub fn tell_played<S: Read + Drop>(
                     "af: a later --time helps; it was {time}, and {enough} would have been enough"
                 );
             }
-            None => tell_lead(rt, job, talk),
+            None => {
+                let enough = talk.enough_millis(job.device, job.lead, LONGEST_LEAD);
+                tell_greater(rt, "lead", job.lead, enough);
+            }
         }
     }
     let silent = end == ToolEnd::Done && job.form.is_some() && talk.passage.blocks == 0;

@@ -1,5 +1,6 @@
 // Details of a relay.
 use crate::links::tell_no_device;
+use crate::lost::{tell_greater, tell_late};
 use crate::shown::Counted;
 use crate::talk::Talk;
 use af_cli::PassJob;
@@ -61,21 +62,6 @@ fn tell_missing(rt: &impl Eprint, job: &PassJob, from: &Talk, to: &Talk) {
     }
 }
 
-// Tells that a greater delay helps, and which one would have been enough.
-fn tell_delay(rt: &impl Eprint, job: &PassJob, to: &Talk) {
-    let delay = job.delay;
-    match to.enough_millis(job.to_device, delay, LONGEST_DELAY) {
-        Some(enough) => {
-            let _ = eprintln!(rt;
-                "af: a greater --delay helps; it was {delay} milliseconds, and {enough} would have been enough"
-            );
-        }
-        None => {
-            let _ = eprintln!(rt; "af: a greater --delay helps; it was {delay} milliseconds");
-        }
-    }
-}
-
 /// Tells how many blocks were passed, how often the relay resynchronised, and what was lost.
 pub fn tell_passed(rt: &impl Eprint, job: &PassJob, from: &Talk, to: &Talk) {
     let passed = Counted(to.passage.blocks, "block");
@@ -92,16 +78,14 @@ pub fn tell_passed(rt: &impl Eprint, job: &PassJob, from: &Talk, to: &Talk) {
         }
     }
     if to.late.frames > 0 {
-        let frames = Counted(to.late.frames, "frame");
-        let blocks = Counted(to.late.blocks, "block");
-        let _ = eprintln!(rt; "af: {frames} in {blocks} came too late to be heard");
-        tell_delay(rt, job, to);
+        let enough = to.enough_millis(job.to_device, job.delay, LONGEST_DELAY);
+        tell_late(rt, to.late);
+        tell_greater(rt, "delay", job.delay, enough);
     }
     if from.gone.frames > 0 {
-        let frames = Counted(from.gone.frames, "frame");
-        let blocks = Counted(from.gone.blocks, "block");
+        let gone = from.gone;
         let _ = eprintln!(rt;
-            "af: {frames} in {blocks} had left the server before they were asked for: silence was passed in their place"
+            "af: {gone} had left the server before they were asked for: silence was passed in their place"
         );
     }
 }

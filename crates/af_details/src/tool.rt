@@ -5,7 +5,6 @@ use crate::links::{
 };
 use crate::play::{tell_played, tell_sound};
 use crate::relay::{tell_pair, tell_passed};
-use crate::shown::Counted;
 use crate::source::WatchedSource;
 use crate::talk::Talk;
 use crate::usage::tell_usage;
@@ -107,10 +106,9 @@ fn tell_recorded(rt: &impl Eprint, job: &RecordJob, talk: &Talk) {
     if talk.gone.frames == 0 {
         return;
     }
-    let frames = Counted(talk.gone.frames, "frame");
-    let blocks = Counted(talk.gone.blocks, "block");
+    let gone = talk.gone;
     let _ = eprintln!(rt;
-        "af: {frames} in {blocks} had left the server before they were asked for: silence stands in their place"
+        "af: {gone} had left the server before they were asked for: silence stands in their place"
     );
     if job.time.is_some() {
         let _ = eprintln!(rt;

@@ -182,28 +182,18 @@ chunks_end (suc most) (a ∷ b ∷ c ∷ d ∷ bytes) format place few e =
           ]
       sized rest shorter no_format no_data f next = inl (inside_of _ place f refl)
 
+      begun : (text : List ℕ) → true ≡ bytes_eq name text → BeginsWith text (a ∷ b ∷ c ∷ d ∷ bytes)
+      begun text is = record { rest = bytes; is = ap (λ (l : List ℕ). l ++ bytes) (same_text name text is) }
+
+      at_once : BeginsWith (codes "data") (a ∷ b ∷ c ∷ d ∷ bytes) ⊎ BeginsWith (codes "fmt ") (a ∷ b ∷ c ∷ d ∷ bytes) → Skips format (a ∷ b ∷ c ∷ d ∷ bytes) place
+      at_once begins = record { chunks = []; rest = a ∷ b ∷ c ∷ d ∷ bytes; is = refl; others = tt; reaches = e; begins = begins }
+
       by : (t : Bool) → bytes_eq name (codes "fmt ") ≡ t → (u : Bool) → bytes_eq name (codes "data") ≡ u →
           place_after_bytes (after_name (if t then kind.Format else if u then kind.Data else kind.Other) format) bytes ≡ Some place →
           ((l : List ℕ) → length l ≤ most → place_after_bytes (at_name format) l ≡ Some place → (is_inside place ≡ true) ⊎ Skips format l place) →
           (is_inside place ≡ true) ⊎ Skips format (a ∷ b ∷ c ∷ d ∷ bytes) place
-      by true is_format u test f next =
-          inr (record {
-            chunks = [];
-            rest = a ∷ b ∷ c ∷ d ∷ bytes;
-            is = refl;
-            others = tt;
-            reaches = e;
-            begins = inr (record { rest = bytes; is = ap (λ (l : List ℕ). l ++ bytes) (same_text (a ∷ b ∷ c ∷ d ∷ []) (codes "fmt ") (sym is_format)) });
-          })
-      by false no_format true is_data f next =
-          inr (record {
-            chunks = [];
-            rest = a ∷ b ∷ c ∷ d ∷ bytes;
-            is = refl;
-            others = tt;
-            reaches = e;
-            begins = inl (record { rest = bytes; is = ap (λ (l : List ℕ). l ++ bytes) (same_text (a ∷ b ∷ c ∷ d ∷ []) (codes "data") (sym is_data)) });
-          })
+      by true is_format u test f next = inr (at_once (inr (begun (codes "fmt ") (sym is_format))))
+      by false no_format true is_data f next = inr (at_once (inl (begun (codes "data") (sym is_data))))
       by false no_format false no_data f next =
           sized bytes (omega arith) (other_text name (codes "fmt ") (sym no_format)) (other_text name (codes "data") (sym no_data)) f next
 chunks_end most bytes format place few e = inl (inside_of _ place e refl)

@@ -130,28 +130,25 @@ more_inside (Head head) said = cc
 more_inside (Bad fault) said = cc
 
 module _ (form : SoundForm) (bytes : List ℕ) (n : ℕ) where
+  -- what holds of the bytes up to where a front reports something
+  reported : (says : HeadStep) (P : List ℕ → Type 0) → ((taken : List ℕ) (place : Place) → place_after_bytes (start form) taken ≡ Some place → step_at place ≡ says → P taken) →
+      front_of form bytes ≡ front says n → (n ≤ length bytes) × P (take n bytes)
+  unfolding front_of
+  reported says P holds e =
+      let d = decided (start form) 0 bytes in
+      let said : step_at d.to ≡ says = sym d.is_said ∙ ap (λ (f : Front). f.says) e in
+      let counted = d.is_size in
+      let told : (front_from (start form) 0 bytes).size ≡ n = ap (λ (f : Front). f.size) e in
+      let size : d.count ≡ n = omega arith in
+      let within = d.within in
+      (omega arith, subst (λ (k : ℕ). P (take k bytes)) size (holds (take d.count bytes) d.to d.is_reached said))
+
   -- a header that is reported is one, and a fault shows there
   pub front_is_head : (head : SoundHead) → front_of form bytes ≡ front (step.Head head) n → (n ≤ length bytes) × IsHead form (take n bytes) head
-  unfolding front_of
-  front_is_head head e =
-      let d = decided (start form) 0 bytes in
-      let said : step_at d.to ≡ step.Head head = sym d.is_said ∙ ap (λ (f : Front). f.says) e in
-      let counted = d.is_size in
-      let told : (front_from (start form) 0 bytes).size ≡ n = ap (λ (f : Front). f.size) e in
-      let size : d.count ≡ n = omega arith in
-      let within = d.within in
-      (omega arith, subst (λ (k : ℕ). IsHead form (take k bytes) head) size ((head_exactly form (take d.count bytes) d.to head d.is_reached).0 said))
+  front_is_head head = reported (step.Head head) (λ taken. IsHead form taken head) (λ taken place reached said. (head_exactly form taken place head reached).0 said)
 
   pub front_has_fault : (fault : SoundFault) → front_of form bytes ≡ front (step.Bad fault) n → (n ≤ length bytes) × HasFault form (take n bytes) fault
-  unfolding front_of
-  front_has_fault fault e =
-      let d = decided (start form) 0 bytes in
-      let said : step_at d.to ≡ step.Bad fault = sym d.is_said ∙ ap (λ (f : Front). f.says) e in
-      let counted = d.is_size in
-      let told : (front_from (start form) 0 bytes).size ≡ n = ap (λ (f : Front). f.size) e in
-      let size : d.count ≡ n = omega arith in
-      let within = d.within in
-      (omega arith, subst (λ (k : ℕ). HasFault form (take k bytes) fault) size ((fault_exactly form (take d.count bytes) d.to fault d.is_reached).0 said))
+  front_has_fault fault = reported (step.Bad fault) (λ taken. HasFault form taken fault) (λ taken place reached said. (fault_exactly form taken place fault reached).0 said)
 
   -- bytes that end within a header are all taken
   pub front_is_whole : front_of form bytes ≡ front step.More n → n ≡ length bytes

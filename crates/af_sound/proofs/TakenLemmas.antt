@@ -46,38 +46,36 @@ fault_exactly form bytes place fault e = (
   λ has. let same : place ≡ Bad fault = same_place place (Bad fault) (sym e ∙ fault_read form bytes fault has) in ap step_at same,
 )
 
+-- where a fault was found nothing is read on
+after_fault : (form : SoundForm) (bytes rest : List ℕ) (fault : SoundFault) (place : Place) → HasFault form bytes fault → place_after_bytes (start form) (bytes ++ rest) ≡ Some place → (rest ≡ []) × (Bad fault ≡ place)
+after_fault form bytes rest fault place has reached =
+    bad_ends fault rest place (sym (reached_more bytes rest (start form) (Bad fault) (fault_read form bytes fault has)) ∙ reached)
+
+-- nor is it where a header ended
+after_head : (form : SoundForm) (bytes rest : List ℕ) (head : SoundHead) (place : Place) → IsHead form bytes head → place_after_bytes (start form) (bytes ++ rest) ≡ Some place → (rest ≡ []) × (Head head ≡ place)
+after_head form bytes rest head place has reached =
+    head_ends head rest place (sym (reached_more bytes rest (start form) (Head head) (head_read form bytes head has)) ∙ reached)
+
 -- no header begins with bytes that end with a fault
 pub no_head : (form : SoundForm) (bytes rest : List ℕ) (fault : SoundFault) (head : SoundHead) → HasFault form bytes fault → IsHead form (bytes ++ rest) head → ⊥
 no_head form bytes rest fault head has is =
-    let goes_on : place_after_bytes (Bad fault) rest ≡ Some (Head head) =
-    sym (reached_more bytes rest (start form) (Bad fault) (fault_read form bytes fault has)) ∙ head_read form (bytes ++ rest) head is in
-    let ends : (rest ≡ []) × (Bad fault ≡ Head head) = bad_ends fault rest (Head head) goes_on in
-    let same : Bad fault ≡ Head head = ends.1 in
-    absurd cc
+    let same : Bad fault ≡ Head head = (after_fault form bytes rest fault (Head head) has (head_read form (bytes ++ rest) head is)).1 in absurd cc
 
 -- and no fault but that one
 pub one_fault : (form : SoundForm) (bytes rest : List ℕ) (fault other : SoundFault) → HasFault form bytes fault → HasFault form (bytes ++ rest) other → (rest ≡ []) × (other ≡ fault)
 one_fault form bytes rest fault other has is =
-    let goes_on : place_after_bytes (Bad fault) rest ≡ Some (Bad other) =
-    sym (reached_more bytes rest (start form) (Bad fault) (fault_read form bytes fault has)) ∙ fault_read form (bytes ++ rest) other is in
-    let ends : (rest ≡ []) × (Bad fault ≡ Bad other) = bad_ends fault rest (Bad other) goes_on in
+    let ends = after_fault form bytes rest fault (Bad other) has (fault_read form (bytes ++ rest) other is) in
     let same : Bad fault ≡ Bad other = ends.1 in
     (ends.0, cc)
 
 -- a header begins with no other header
 pub one_head : (form : SoundForm) (bytes rest : List ℕ) (head other : SoundHead) → IsHead form bytes head → IsHead form (bytes ++ rest) other → (rest ≡ []) × (other ≡ head)
 one_head form bytes rest head other has is =
-    let goes_on : place_after_bytes (Head head) rest ≡ Some (Head other) =
-    sym (reached_more bytes rest (start form) (Head head) (head_read form bytes head has)) ∙ head_read form (bytes ++ rest) other is in
-    let ends : (rest ≡ []) × (Head head ≡ Head other) = head_ends head rest (Head other) goes_on in
+    let ends = after_head form bytes rest head (Head other) has (head_read form (bytes ++ rest) other is) in
     let same : Head head ≡ Head other = ends.1 in
     (ends.0, cc)
 
 -- nor with a fault
 pub no_fault : (form : SoundForm) (bytes rest : List ℕ) (head : SoundHead) (fault : SoundFault) → IsHead form bytes head → HasFault form (bytes ++ rest) fault → ⊥
 no_fault form bytes rest head fault has is =
-    let goes_on : place_after_bytes (Head head) rest ≡ Some (Bad fault) =
-    sym (reached_more bytes rest (start form) (Head head) (head_read form bytes head has)) ∙ fault_read form (bytes ++ rest) fault is in
-    let ends : (rest ≡ []) × (Head head ≡ Bad fault) = head_ends head rest (Bad fault) goes_on in
-    let same : Head head ≡ Bad fault = ends.1 in
-    absurd cc
+    let same : Head head ≡ Bad fault = (after_head form bytes rest head (Bad fault) has (fault_read form (bytes ++ rest) fault is)).1 in absurd cc

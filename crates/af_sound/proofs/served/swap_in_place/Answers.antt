@@ -1,4 +1,4 @@
-use Rattle.std.proofs.Common.{arith, refl, ◌≡◌, ◌*◌, length}
+use Rattle.std.proofs.Common.{arith, refl}
 use Rattle.af_sound.proofs.SwappedLemmas.{swapped_on, swapped_run}
 use Rattle.af_sound.proofs.served.swap_in_place.Goals as goal
 

@@ -8,7 +8,6 @@ use Rattle.af_sample.specs.declared.sample_type.SampleType.{SampleType}
 use Rattle.af_sample.specs.Rates.{is_listed_rate, IsListedRate}
 use Rattle.af_sample.specs.Channels.{IsChannelCount}
 use Rattle.af_phone.specs.Lines.{is_digit}
-use Rattle.af_phone.specs.declared.line.LineChange.{LineChange}
 use Rattle.af_phone.specs.declared.line.LineChange.TheVariants as change
 use Rattle.af_world.specs.declared.script.DeviceSpec.{DeviceSpec}
 use Rattle.af_world.specs.declared.script.Step.{Step}
@@ -20,7 +19,7 @@ use Rattle.hex.specs.Hex.{decode_of}
 use Rattle.af_script.specs.declared.statement.LineKind.{LineKind}
 use Rattle.af_script.specs.declared.statement.LineKind.TheVariants as kind
 use Rattle.af_script.specs.Words.{number_of, number_within, only_if, then_some, bytes_within}
-use Rattle.af_script.specs.Statement.{last_link, line_kind_of, is_device_kind, type_of, rate_of, channels_stated, after_channels, line_stated, device_at, device_with, device_of, link_of, device_number, line_number, switch_of, digit_of, with_link, send_of, room_stated, room_of, capture_of, tick_of, switch_step, dial_of, with_number, fail_hook_of, idle_of, step_of_kind, step_of, is_device_line}
+use Rattle.af_script.specs.Statement.{last_link, line_kind_of, is_device_kind, type_of, rate_of, channels_stated, after_channels, line_stated, device_at, device_with, device_of, link_of, device_number, line_number, switch_of, digit_of, with_number, with_value, room_stated, capture_of, tick_of, idle_of, step_of_kind, step_of, is_device_line}
 use Rattle.af_script.specs.Script.{StatedScript, ScriptLine, most_devices, device_lines, with_first, each_says, first_number, with_steps, with_config, script_by, script_of, entries}
 use Rattle.af_script.specs.Lines.{lines}
 
@@ -98,14 +97,28 @@ device_from (name ∷ arguments) d e =
       | false ↦ λ h. cc h
     ]) e
 
--- a step that names only a link
-with_link_from : (config : List DeviceSpec) (make : ℕ → Step) (arguments : List (List ℕ)) (s : Step) → ((k : ℕ) → k < most_links → IsStep config (make k)) → with_link make arguments ≡ Some s → IsStep config s
-with_link_from config make [] s fits e = cc e
-with_link_from config make (link ∷ w ∷ ws) s fits e = cc e
-with_link_from config make (link ∷ []) s fits e =
-    let a = map_from make (link_of link) s e in
-    let n = number_from 0 last_link link a.0 a.1 in
-    subst (IsStep config) a.2 (fits a.0 (omega (arith, n.1)))
+-- a step of a number alone
+with_number_from : (number_in : List ℕ → Option ℕ) (make : ℕ → Step) (config : List DeviceSpec) (arguments : List (List ℕ)) (s : Step) → ((word : List ℕ) (n : ℕ) → number_in word ≡ Some n → IsStep config (make n)) →
+    with_number number_in make arguments ≡ Some s → IsStep config s
+with_number_from number_in make config [] s fits e = cc e
+with_number_from number_in make config (number ∷ w ∷ ws) s fits e = cc e
+with_number_from number_in make config (number ∷ []) s fits e =
+    let a = map_from make (number_in number) s e in
+    subst (IsStep config) a.2 (fits number a.0 a.1)
+
+-- a step of a number and a value
+with_value_from : {X : Type 0} (number_in : List ℕ → Option ℕ) (value_in : List ℕ → Option X) (make : ℕ → X → Step) (config : List DeviceSpec) (arguments : List (List ℕ)) (s : Step) →
+    ((number value : List ℕ) (n : ℕ) (x : X) → number_in number ≡ Some n → value_in value ≡ Some x → IsStep config (make n x)) → with_value number_in value_in make arguments ≡ Some s → IsStep config s
+with_value_from number_in value_in make config [] s fits e = cc e
+with_value_from number_in value_in make config (number ∷ []) s fits e = cc e
+with_value_from number_in value_in make config (number ∷ value ∷ w ∷ ws) s fits e = cc e
+with_value_from number_in value_in make config (number ∷ value ∷ []) s fits e =
+    let a = and_then_from (λ n. option_map (make n) (value_in value)) (number_in number) s e in
+    let b = map_from (make a.0) (value_in value) s a.2 in
+    subst (IsStep config) b.2 (fits number value a.0 b.0 a.1 b.1)
+
+link_from : (word : List ℕ) (k : ℕ) → link_of word ≡ Some k → k < most_links
+link_from word k e = let n = number_from 0 last_link word k e in omega (arith, n.1)
 
 size_within : (low high m n : ℕ) → m ≡ n → nat_le low m ≡ true → nat_le m high ≡ true → (low ≤ n) × (n ≤ high)
 size_within low high m n e above below = (grind (arith, nat_tests), grind (arith, nat_tests))
@@ -117,17 +130,6 @@ bytes_from low high word bytes e =
     let both = and_parts (nat_le low (length a.0)) (nat_le (length a.0) high) b.0 in
     size_within low high (length a.0) (length bytes) (ap length b.1) both.0 both.1
 
-send_from : (config : List DeviceSpec) (arguments : List (List ℕ)) (s : Step) → send_of arguments ≡ Some s → IsStep config s
-send_from config [] s e = cc e
-send_from config (link ∷ []) s e = cc e
-send_from config (link ∷ hex ∷ w ∷ ws) s e = cc e
-send_from config (link ∷ hex ∷ []) s e =
-    let a = and_then_from (λ k. option_map (step.Send k) (bytes_within 1 longest_send hex)) (link_of link) s e in
-    let b = map_from (step.Send a.0) (bytes_within 1 longest_send hex) s a.2 in
-    let n = number_from 0 last_link link a.0 a.1 in
-    let size = bytes_from 1 longest_send hex b.0 b.1 in
-    subst (IsStep config) b.2 (omega (arith, n.1), size.0, size.1)
-
 room_stated_from : (word : List ℕ) (room : Option ℕ) → room_stated word ≡ Some room → IsRoom room
 room_stated_from word room e =
     (elim (bytes_eq word (codes "all")) as (λ t. cond t (Some None) (option_map Some (number_within 0 4294967295 word)) ≡ Some room → IsRoom room) [
@@ -137,16 +139,6 @@ room_stated_from word room e =
           let n = number_from 0 4294967295 word a.0 a.1 in
           subst IsRoom a.2 (omega (arith, n.1))
     ]) e
-
-room_from : (config : List DeviceSpec) (arguments : List (List ℕ)) (s : Step) → room_of arguments ≡ Some s → IsStep config s
-room_from config [] s e = cc e
-room_from config (link ∷ []) s e = cc e
-room_from config (link ∷ room ∷ w ∷ ws) s e = cc e
-room_from config (link ∷ room ∷ []) s e =
-    let a = and_then_from (λ k. option_map (step.Room k) (room_stated room)) (link_of link) s e in
-    let b = map_from (step.Room a.0) (room_stated room) s a.2 in
-    let n = number_from 0 last_link link a.0 a.1 in
-    subst (IsStep config) b.2 (omega (arith, n.1), room_stated_from room b.0 b.1)
 
 device_number_from : (config : List DeviceSpec) (word : List ℕ) (d : ℕ) → device_number config word ≡ Some d → d < length config
 device_number_from config word d e =
@@ -177,14 +169,6 @@ tick_from config (device ∷ frames ∷ capture) s e =
     let n = number_from 1 longest_tick frames b.0 b.1 in
     tick_is config a.0 b.0 c.0 s c.2 (device_number_from config device a.0 a.1) n.0 n.1 (capture_from (b.0 * frame_bytes_at config a.0) capture c.0 c.1)
 
--- a step that names only a device
-with_number_from : (config : List DeviceSpec) (make : ℕ → Step) (arguments : List (List ℕ)) (s : Step) → ((d : ℕ) → d < length config → IsStep config (make d)) → with_number make config arguments ≡ Some s → IsStep config s
-with_number_from config make [] s fits e = cc e
-with_number_from config make (device ∷ w ∷ ws) s fits e = cc e
-with_number_from config make (device ∷ []) s fits e =
-    let a = map_from make (device_number config device) s e in
-    subst (IsStep config) a.2 (fits a.0 (device_number_from config device a.0 a.1))
-
 line_number_from : (config : List DeviceSpec) (word : List ℕ) (d : ℕ) → line_number config word ≡ Some d → IsTrue (spec_has_line config d)
 line_number_from config word d e =
     let a = and_then_from (only_if (spec_has_line config)) (device_number config word) d e in
@@ -198,32 +182,6 @@ digit_from (c ∷ []) code e =
     let b = only_if_from is_digit c code e in
     subst (λ k. IsTrue (is_digit k)) b.1 b.0
 
--- a change that is switched on or off fits each line
-switched_from : (change : Bool → LineChange) (config : List DeviceSpec) (arguments : List (List ℕ)) (s : Step) → ((d : ℕ) (b : Bool) → IsTrue (spec_has_line config d) → IsStep config (step.Line d (change b))) → switch_step change config arguments ≡ Some s → IsStep config s
-switched_from change config [] s fits e = cc e
-switched_from change config (device ∷ []) s fits e = cc e
-switched_from change config (device ∷ on ∷ w ∷ ws) s fits e = cc e
-switched_from change config (device ∷ on ∷ []) s fits e =
-    let a = and_then_from (λ d. option_map (λ b. step.Line d (change b)) (switch_of on)) (line_number config device) s e in
-    let b = map_from (λ b. step.Line a.0 (change b)) (switch_of on) s a.2 in
-    subst (IsStep config) b.2 (fits a.0 b.0 (line_number_from config device a.0 a.1))
-
-dial_from : (config : List DeviceSpec) (arguments : List (List ℕ)) (s : Step) → dial_of config arguments ≡ Some s → IsStep config s
-dial_from config [] s e = cc e
-dial_from config (device ∷ []) s e = cc e
-dial_from config (device ∷ digit ∷ w ∷ ws) s e = cc e
-dial_from config (device ∷ digit ∷ []) s e =
-    let a = and_then_from (λ d. option_map (λ c. step.Line d (change.Digit c)) (digit_of digit)) (line_number config device) s e in
-    let b = map_from (λ c. step.Line a.0 (change.Digit c)) (digit_of digit) s a.2 in
-    subst (IsStep config) b.2 (line_number_from config device a.0 a.1, digit_from digit b.0 b.1)
-
-fail_hook_from : (config : List DeviceSpec) (arguments : List (List ℕ)) (s : Step) → fail_hook_of config arguments ≡ Some s → IsStep config s
-fail_hook_from config [] s e = cc e
-fail_hook_from config (device ∷ w ∷ ws) s e = cc e
-fail_hook_from config (device ∷ []) s e =
-    let a = map_from step.FailHook (line_number config device) s e in
-    subst (IsStep config) a.2 (line_number_from config device a.0 a.1)
-
 idle_from : (config : List DeviceSpec) (arguments : List (List ℕ)) (s : Step) → idle_of arguments ≡ Some s → IsStep config s
 idle_from config [] s e = subst (IsStep config) (some_same e) tt
 idle_from config (w ∷ ws) s e = cc e
@@ -231,19 +189,26 @@ idle_from config (w ∷ ws) s e = cc e
 step_by_kind : (config : List DeviceSpec) (k : Option LineKind) (arguments : List (List ℕ)) (s : Step) → step_of_kind config k arguments ≡ Some s → IsStep config s
 step_by_kind config None arguments s e = cc e
 step_by_kind config (Some kind.Device) arguments s e = cc e
-step_by_kind config (Some kind.Open) arguments s e = with_link_from config step.Open arguments s (λ k below. below) e
-step_by_kind config (Some kind.Send) arguments s e = send_from config arguments s e
-step_by_kind config (Some kind.End) arguments s e = with_link_from config step.End arguments s (λ k below. below) e
-step_by_kind config (Some kind.Room) arguments s e = room_from config arguments s e
+step_by_kind config (Some kind.Open) arguments s e = with_number_from link_of step.Open config arguments s link_from e
+step_by_kind config (Some kind.Send) arguments s e =
+    with_value_from link_of (bytes_within 1 longest_send) step.Send config arguments s
+    (λ link hex k bytes is_link is_hex. (let size = bytes_from 1 longest_send hex bytes is_hex in (link_from link k is_link, size.0, size.1))) e
+step_by_kind config (Some kind.End) arguments s e = with_number_from link_of step.End config arguments s link_from e
+step_by_kind config (Some kind.Room) arguments s e =
+    with_value_from link_of room_stated step.Room config arguments s (λ link room k n is_link is_room. (link_from link k is_link, room_stated_from room n is_room)) e
 step_by_kind config (Some kind.Tick) arguments s e = tick_from config arguments s e
-step_by_kind config (Some kind.Ring) arguments s e = switched_from change.Ring config arguments s (λ d b line. (line, refl)) e
-step_by_kind config (Some kind.Loop) arguments s e = switched_from change.Current config arguments s (λ d b line. (line, refl)) e
-step_by_kind config (Some kind.Digit) arguments s e = dial_from config arguments s e
-step_by_kind config (Some kind.FailRead) arguments s e = with_link_from config step.FailRead arguments s (λ k below. below) e
-step_by_kind config (Some kind.FailWrite) arguments s e = with_link_from config step.FailWrite arguments s (λ k below. below) e
-step_by_kind config (Some kind.FailCapture) arguments s e = with_number_from config step.FailCapture arguments s (λ d there. there) e
-step_by_kind config (Some kind.FailEmit) arguments s e = with_number_from config step.FailEmit arguments s (λ d there. there) e
-step_by_kind config (Some kind.FailHook) arguments s e = fail_hook_from config arguments s e
+step_by_kind config (Some kind.Ring) arguments s e =
+    with_value_from (line_number config) switch_of (λ d b. step.Line d (change.Ring b)) config arguments s (λ device on d b is_line is_on. (line_number_from config device d is_line, refl)) e
+step_by_kind config (Some kind.Loop) arguments s e =
+    with_value_from (line_number config) switch_of (λ d b. step.Line d (change.Current b)) config arguments s (λ device on d b is_line is_on. (line_number_from config device d is_line, refl)) e
+step_by_kind config (Some kind.Digit) arguments s e =
+    with_value_from (line_number config) digit_of (λ d c. step.Line d (change.Digit c)) config arguments s
+    (λ device digit d c is_line is_digit. (line_number_from config device d is_line, digit_from digit c is_digit)) e
+step_by_kind config (Some kind.FailRead) arguments s e = with_number_from link_of step.FailRead config arguments s link_from e
+step_by_kind config (Some kind.FailWrite) arguments s e = with_number_from link_of step.FailWrite config arguments s link_from e
+step_by_kind config (Some kind.FailCapture) arguments s e = with_number_from (device_number config) step.FailCapture config arguments s (device_number_from config) e
+step_by_kind config (Some kind.FailEmit) arguments s e = with_number_from (device_number config) step.FailEmit config arguments s (device_number_from config) e
+step_by_kind config (Some kind.FailHook) arguments s e = with_number_from (line_number config) step.FailHook config arguments s (line_number_from config) e
 step_by_kind config (Some kind.Idle) arguments s e = idle_from config arguments s e
 
 step_from : (config : List DeviceSpec) (ws : List (List ℕ)) (s : Step) → step_of config ws ≡ Some s → IsStep config s

@@ -108,23 +108,27 @@ device_number config word = option_and_then (only_if (λ d. nat_lt d (length con
 abbrev pub line_number : List DeviceSpec → List ℕ → Option ℕ
 line_number config word = option_and_then (only_if (spec_has_line config)) (device_number config word)
 
--- a step that names only a link, by the words that follow its name
-abbrev pub with_link : (ℕ → Step) → List (List ℕ) → Option Step
-with_link step (link ∷ []) = option_map step (link_of link)
-with_link step _ = None
+-- a step of a number alone, as that of a link or of a device, by the words that follow its name
+abbrev pub with_number : (List ℕ → Option ℕ) → (ℕ → Step) → List (List ℕ) → Option Step
+with_number number_in step (number ∷ []) = option_map step (number_in number)
+with_number number_in step _ = None
+
+-- a step of a number and a value, by the words that follow its name
+abbrev pub with_value : {X : Type 0} → (List ℕ → Option ℕ) → (List ℕ → Option X) → (ℕ → X → Step) → List (List ℕ) → Option Step
+with_value number_in value_in step (number ∷ value ∷ []) = option_and_then (λ n. option_map (step n) (value_in value)) (number_in number)
+with_value number_in value_in step _ = None
 
 -- the step of `open K`
 abbrev pub open_of : List (List ℕ) → Option Step
-open_of arguments = with_link step.Open arguments
+open_of arguments = with_number link_of step.Open arguments
 
 -- the step of `send K HEX`
 abbrev pub send_of : List (List ℕ) → Option Step
-send_of (link ∷ hex ∷ []) = option_and_then (λ k. option_map (step.Send k) (bytes_within 1 longest_send hex)) (link_of link)
-send_of _ = None
+send_of arguments = with_value link_of (bytes_within 1 longest_send) step.Send arguments
 
 -- the step of `end K`
 abbrev pub end_of : List (List ℕ) → Option Step
-end_of arguments = with_link step.End arguments
+end_of arguments = with_number link_of step.End arguments
 
 -- how many bytes the last word of `room K N` states that a link takes, or every byte, if it is `all`
 abbrev pub room_stated : List ℕ → Option (Option ℕ)
@@ -132,8 +136,7 @@ room_stated word = if bytes_eq word (codes "all") then Some None else option_map
 
 -- the step of `room K N` or `room K all`
 abbrev pub room_of : List (List ℕ) → Option Step
-room_of (link ∷ room ∷ []) = option_and_then (λ k. option_map (step.Room k) (room_stated room)) (link_of link)
-room_of _ = None
+room_of arguments = with_value link_of room_stated step.Room arguments
 
 -- what `tick D N` is stated to capture, by the words that follow it: n bytes, or nothing
 abbrev pub capture_of : ℕ → List (List ℕ) → Option (Option (List ℕ))
@@ -159,49 +162,41 @@ abbrev pub digit_of : List ℕ → Option ℕ
 digit_of (code ∷ []) = only_if is_digit code
 digit_of _ = None
 
--- what `on` or `off` changes on a device's line, by the words that follow its name
-abbrev pub switch_step : (Bool → LineChange) → List DeviceSpec → List (List ℕ) → Option Step
-switch_step change config (device ∷ on ∷ []) = option_and_then (λ d. option_map (λ b. step.Line d (change b)) (switch_of on)) (line_number config device)
-switch_step change config _ = None
+-- a step of a device's line and of what a value changes on it, by the words that follow its name
+abbrev pub with_change : {X : Type 0} → (List ℕ → Option X) → (X → LineChange) → List DeviceSpec → List (List ℕ) → Option Step
+with_change value_in change config arguments = with_value (line_number config) value_in (λ d x. step.Line d (change x)) arguments
 
 -- the step of `ring D on` or `ring D off`
 abbrev pub ring_of : List DeviceSpec → List (List ℕ) → Option Step
-ring_of config arguments = switch_step change.Ring config arguments
+ring_of config arguments = with_change switch_of change.Ring config arguments
 
 -- the step of `loop D on` or `loop D off`
 abbrev pub loop_of : List DeviceSpec → List (List ℕ) → Option Step
-loop_of config arguments = switch_step change.Current config arguments
+loop_of config arguments = with_change switch_of change.Current config arguments
 
 -- the step of `digit D C`
 abbrev pub dial_of : List DeviceSpec → List (List ℕ) → Option Step
-dial_of config (device ∷ digit ∷ []) = option_and_then (λ d. option_map (λ c. step.Line d (change.Digit c)) (digit_of digit)) (line_number config device)
-dial_of config _ = None
+dial_of config arguments = with_change digit_of change.Digit config arguments
 
 -- the step of `failread K`
 abbrev pub fail_read_of : List (List ℕ) → Option Step
-fail_read_of arguments = with_link step.FailRead arguments
+fail_read_of arguments = with_number link_of step.FailRead arguments
 
 -- the step of `failwrite K`
 abbrev pub fail_write_of : List (List ℕ) → Option Step
-fail_write_of arguments = with_link step.FailWrite arguments
-
--- a step that names only a device, by the words that follow its name
-abbrev pub with_number : (ℕ → Step) → List DeviceSpec → List (List ℕ) → Option Step
-with_number step config (device ∷ []) = option_map step (device_number config device)
-with_number step config _ = None
+fail_write_of arguments = with_number link_of step.FailWrite arguments
 
 -- the step of `failcapture D`
 abbrev pub fail_capture_of : List DeviceSpec → List (List ℕ) → Option Step
-fail_capture_of config arguments = with_number step.FailCapture config arguments
+fail_capture_of config arguments = with_number (device_number config) step.FailCapture arguments
 
 -- the step of `failemit D`
 abbrev pub fail_emit_of : List DeviceSpec → List (List ℕ) → Option Step
-fail_emit_of config arguments = with_number step.FailEmit config arguments
+fail_emit_of config arguments = with_number (device_number config) step.FailEmit arguments
 
 -- the step of `failhook D`
 abbrev pub fail_hook_of : List DeviceSpec → List (List ℕ) → Option Step
-fail_hook_of config (device ∷ []) = option_map step.FailHook (line_number config device)
-fail_hook_of config _ = None
+fail_hook_of config arguments = with_number (line_number config) step.FailHook arguments
 
 -- the step of `idle`
 abbrev pub idle_of : List (List ℕ) → Option Step

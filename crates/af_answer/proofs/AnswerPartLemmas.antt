@@ -1,11 +1,15 @@
 -- Parts of an answering machine, one after the other.
-use Rattle.std.proofs.Common.{◌≡◌, ℕ, List, [], ◌++◌, sym, ap, ◌∙◌, append_assoc, append-nil, refl, subst, Some}
+use Rattle.std.proofs.Common.{◌≡◌, true, false, List, sym, ap, ◌∙◌, append_assoc, append-nil, refl, inl, inr, subst}
+use Rattle.std.specs.Prelude.{Result, Ok, Err}
+use Rattle.af_dialogue.specs.Parts.{IsProgramKind, Stopped, followed, goes_on, has_value}
+use Rattle.af_dialogue.proofs.PartLemmas.{Reached, front_followed, goes_stop, goes_value, reached_goes, reached_here, reached_on}
 use Rattle.af_io.proofs.AppendedLemmas.{appended_none, appended_on}
 use Rattle.af_answer.specs.declared.end.AnswerEnd.{AnswerEnd}
 use Rattle.af_answer.specs.declared.end.AnswerEnd.TheVariants as end
-use Rattle.af_answer.specs.AnswerTrace.{ToCome, AnswerFinish, AnswerTrace, Deeds, Work, all_answered, both_deeds, both_works, child_starved, deeds_of_work, machine_end, no_work, stops, with_deeds}
-use Rattle.af_answer.specs.AnswerParts.{Added, Came, Ended, MatchesAnswer, Seen, Stand}
+use Rattle.af_answer.specs.AnswerTrace.{AnswerFinish, AnswerTrace, MachineDeeds, MachineOutcome, MachinePart, ToCome, Work, both_works, doing, no_work, stops, trace_of}
+use Rattle.af_answer.specs.AnswerParts.{Added, MatchesAnswer, Seen, Stand, Went, answering, is_from_outside}
 use Rattle.af_answer.specs.Children.{ChildRun}
+use Rattle.af_answer.specs.Outcomes.{is_of_calls}
 
 -- work and deeds, one after the other
 pub works_on : (a b c : Work) → both_works (both_works a b) c ≡ both_works a (both_works b c)
@@ -14,8 +18,11 @@ works_on a b c = simp append_assoc
 pub works_end : (w : Work) → both_works w no_work ≡ w
 works_end w = simp append-nil
 
-pub deeds_on : (a b c : Deeds) → both_deeds (both_deeds a b) c ≡ both_deeds a (both_deeds b c)
+pub deeds_on : (a b c : MachineDeeds) → doing.joined (doing.joined a b) c ≡ doing.joined a (doing.joined b c)
 deeds_on a b c = simp append_assoc
+
+pub deeds_end : (d : MachineDeeds) → doing.joined d doing.nothing ≡ d
+deeds_end d = simp append-nil
 
 -- no work was added, and some after some
 pub added_none : (s : Seen) → Added s no_work s
@@ -28,49 +35,82 @@ added_on {a} {b} {c} {w} {v} f g = record {
   sink = appended_on a.held b.held c.held w.output v.output f.sink g.sink;
 }
 
+pub is_answering : IsProgramKind answering
+is_answering = record {
+  nothing_first = λ d. refl;
+  joined_twice = deeds_on;
+  shows_nothing = λ p. added_none p.seen;
+  shows_joined = λ p q r d e shows more. added_on shows more;
+}
+
+-- a machine has come to another part, which is what is left of the first
+pub record GotTo {X : Type 0} (part now : MachinePart X) (old new : List ChildRun → Stand) : Type 0 where
+  pub runs : (later : List ChildRun) → List ChildRun
+  pub reached : (later : List ChildRun) → Reached answering part now (old (runs later)) (new later)
+
+pub went_here : {X : Type 0} {part : MachinePart X} {p : List ChildRun → Stand} → GotTo part part p p
+went_here = record { runs = λ later. later; reached = λ later. reached_here is_answering }
+
+-- it comes further, or it ends there
+pub went_on : {X Y : Type 0} {part : MachinePart Y} {first : MachinePart X} (next : X → MachinePart Y) {x : X} {p q r : List ChildRun → Stand} → GotTo part (goes_on doing first next) p q → Went first (Ok x) q r → GotTo part (next x) p r
+went_on next g w = record { runs = λ later. g.runs (w.runs later); reached = λ later. reached_on is_answering next (g.reached (w.runs later)) (w.goes later) }
+
+pub went_by : {X : Type 0} {part now : MachinePart X} {result : Result X AnswerEnd} {p q r : List ChildRun → Stand} → GotTo part now p q → Went now result q r → Went part result p r
+went_by {result} g w = record { runs = λ later. g.runs (w.runs later); goes = λ later. reached_goes is_answering result (g.reached (w.runs later)) (w.goes later) }
+
+pub went_through : {X Y : Type 0} {part : MachinePart X} (next : X → MachinePart Y) {x : X} {result : Result Y AnswerEnd} {p q r : List ChildRun → Stand} → Went part (Ok x) p q → Went (next x) result q r → Went (goes_on doing part next) result p r
+went_through next f g = went_by (went_on next went_here f) g
+
+pub went_stop : {X Y : Type 0} {part : MachinePart X} (next : X → MachinePart Y) {how : AnswerEnd} {result : Result Y AnswerEnd} {p q : List ChildRun → Stand} → result ≡ Err how → Went {X = X} part (Err how) p q → Went (goes_on doing part next) result p q
+went_stop next same w = record { runs = w.runs; goes = λ later. goes_stop is_answering next same (w.goes later) }
+
+-- a part that does nothing
+pub went_value : {X : Type 0} (x : X) {p : List ChildRun → Stand} → Went (has_value doing x) (Ok x) p p
+went_value x = record { runs = λ later. later; goes = λ later. goes_value is_answering x }
+
+pub went_stops : {X : Type 0} (finish : AnswerFinish) {how : AnswerEnd} {p : List ChildRun → Stand} → answering.Reports how finish → Went {X = X} (stops finish) (Err how) p p
+went_stops finish {p} reports = record { runs = λ later. later; goes = λ later. record { came = λ a stands. (doing.nothing, inr (finish, reports, refl), added_none (p later).seen) } }
+
+-- within its calls only a link that failed ends a machine from outside
+outer_of_calls : (how : AnswerEnd) → is_of_calls how ≡ true → is_from_outside how ≡ true → how ≡ end.LinkFault
+outer_of_calls end.LinkFault way outer = refl
+outer_of_calls end.DialFault way outer = cc way
+outer_of_calls end.SinkFault way outer = cc way
+outer_of_calls how way outer = cc outer
+
+-- a machine that ended within the first of its parts
+pub stopped_matches : {X : Type 0} (o : MachineOutcome X) (next : X × ToCome → MachineOutcome (Unit {0})) (how : AnswerEnd) (did : MachineDeeds) → is_of_calls how ≡ true → Stopped answering o how did → MatchesAnswer (trace_of (followed doing o.did o.end next)) how did
+stopped_matches o next how did way (inl within) =
+    let front = front_followed is_answering did o.did o.end next within.1 in
+    let failed = outer_of_calls how way within.0 in
+    record {
+      undone = front.0;
+      all = front.1;
+      whole = λ inner. (let bad : true ≡ false = sym within.0 ∙ inner in cc bad);
+      acted = λ other. absurd (other failed);
+      starved = λ e. (let bad : end.LinkFault ≡ end.OutOfMemory = sym failed ∙ e in cc bad);
+      reported = λ e. (let bad : end.LinkFault ≡ end.SinkFault = sym failed ∙ e in cc bad);
+    }
+stopped_matches {X} o next how did way (inr ended) =
+    subst (λ (x : MachineOutcome X). MatchesAnswer (trace_of (followed doing x.did x.end next)) how did) (sym ended.2) (record {
+      undone = doing.nothing;
+      all = sym (deeds_end did);
+      whole = λ inner. (ended.1.0, refl);
+      acted = λ other. (refl, refl);
+      starved = ended.1.1;
+      reported = λ e. (let bad : true ≡ false = sym way ∙ ap is_of_calls e in cc bad);
+    })
+
 -- a machine that ends after what was done
-pub matches_after : (d : Deeds) {done : Deeds} {c t : AnswerTrace} {how : AnswerEnd} → t ≡ with_deeds d c → MatchesAnswer c how done → MatchesAnswer t how (both_deeds d done)
-matches_after d {done} {t} {how} is m = subst (λ (x : AnswerTrace). MatchesAnswer x how (both_deeds d done)) (sym is) (record {
+abbrev pub after_done : MachineDeeds → AnswerTrace → AnswerTrace
+after_done d t = record { deeds = doing.joined d t.deeds; finish = t.finish }
+
+pub matches_after : (d : MachineDeeds) {done : MachineDeeds} {c t : AnswerTrace} {how : AnswerEnd} → t ≡ after_done d c → MatchesAnswer c how done → MatchesAnswer t how (doing.joined d done)
+matches_after d {done} {t} {how} is m = subst (λ (x : AnswerTrace). MatchesAnswer x how (doing.joined d done)) (sym is) (record {
   undone = m.undone;
-  all = ap (λ (e : Deeds). both_deeds d e) m.all ∙ sym (deeds_on d done m.undone);
+  all = ap (λ (e : MachineDeeds). doing.joined d e) m.all ∙ sym (deeds_on d done m.undone);
   whole = m.whole;
   acted = m.acted;
   starved = m.starved;
   reported = m.reported;
 })
-
--- a trace that equals another
-pub came_same : {trace later : ToCome → AnswerTrace} {input : List ℕ} {p : Stand} → p.left ≡ Some input → ((a : ToCome) → trace a ≡ later a) → Came trace later input p p
-came_same {input} {p} told same = record { done = deeds_of_work no_work; runs = []; rest = input; is_left = told; goes = λ more. same _; added = added_none p.seen }
-
-module _ {trace later : ToCome → AnswerTrace} {input : List ℕ} {p q : Stand} (f : Came trace later input p q) where
-  goes_here : (runs more : List ChildRun) → trace (record { wire = p.wire input; runs = (f.runs ++ runs) ++ more }) ≡ with_deeds f.done (later (record { wire = q.wire f.rest; runs = runs ++ more }))
-  goes_here runs more = ap (λ (l : List ChildRun). trace (record { wire = p.wire input; runs = l })) (append_assoc f.runs runs more) ∙ f.goes (runs ++ more)
-
-  -- the machine came further, or it ended
-  pub came_on : {last : ToCome → AnswerTrace} {r : Stand} → Came later last f.rest q r → Came trace last input p r
-  came_on {last} {r} g = record {
-    done = both_deeds f.done g.done;
-    runs = f.runs ++ g.runs;
-    rest = g.rest;
-    is_left = g.is_left;
-    goes = λ more.
-        let end = last (record { wire = r.wire g.rest; runs = more }) in
-        goes_here g.runs more ∙ ap (λ (t : AnswerTrace). with_deeds f.done t) (g.goes more)
-        ∙ ap (λ (d : Deeds). (let t : AnswerTrace = record { deeds = d; finish = end.finish } in t)) (sym (deeds_on f.done g.done end.deeds));
-    added = added_on f.added g.added;
-  }
-
-  pub ended_on : {how : AnswerEnd} {r : Stand} → Ended later how f.rest q r → Ended trace how input p r
-  ended_on g = record { done = both_deeds f.done g.done; runs = f.runs ++ g.runs; matches = λ more. matches_after f.done (goes_here g.runs more) (g.matches more); added = added_on f.added g.added }
-
--- a machine that stops where it came to
-pub came_stop : {trace : ToCome → AnswerTrace} {finish : AnswerFinish} {how : AnswerEnd} {input : List ℕ} {p q : Stand} → Came trace (λ a. stops finish) input p q →
-    how ≡ machine_end finish → (how ≡ end.OutOfMemory → finish ≡ child_starved) → (how ≡ end.SinkFault → finish ≡ all_answered) → Ended trace how input p q
-came_stop {finish} {how} f same starved reported = record {
-  done = f.done;
-  runs = f.runs;
-  matches = λ more. subst (λ (t : AnswerTrace). MatchesAnswer t how f.done) (sym (f.goes more))
-      (record { undone = deeds_of_work no_work; all = refl; whole = λ inner. (same, refl); acted = λ other. (refl, refl); starved = starved; reported = reported });
-  added = f.added;
-}

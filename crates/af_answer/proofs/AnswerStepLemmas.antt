@@ -1,8 +1,9 @@
 -- The steps of an answering machine: a request, an event that is waited for, and a child.
-use Rattle.std.proofs.Common.{◌≡◌, ℕ, zero, suc, List, [], ◌∷◌, slice_get, sym, ap, ap₂, ◌∙◌, refl, subst, Result, Ok, Err, Option, None, Some}
+use Rattle.std.proofs.Common.{◌≡◌, ◌≢◌, ℕ, zero, suc, List, ◌∷◌, slice_get, sym, ap, ap₂, ◌∙◌, refl, subst, Result, Ok, Err, Option, None, Some, inl, inr}
 use Rattle.af_wire.specs.declared.event.Event.{Event}
 use Rattle.af_io.specs.Observed.{Appended}
 use Rattle.af_io.proofs.AppendedLemmas.{appended_none}
+use Rattle.af_dialogue.specs.Parts.{Came, IsFront, called}
 use Rattle.af_process.specs.Acts.{Told}
 use Rattle.af_request.specs.Asked.{Asked, hook_switch}
 use Rattle.af_request.specs.Requests.{request_bytes}
@@ -19,10 +20,10 @@ use Rattle.af_answer.specs.declared.child.ChildEnd.{ChildEnd}
 use Rattle.af_answer.specs.declared.child.ChildEnd.TheVariants as ended
 use Rattle.af_answer.specs.declared.end.AnswerEnd.{AnswerEnd}
 use Rattle.af_answer.specs.declared.job.AnswerJob.{AnswerJob}
-use Rattle.af_answer.specs.AnswerTrace.{ToCome, AnswerTrace, AnswerFinish, after_event, awaits_event, both_deeds, by_answer, connection_end, deeds_of_event, deeds_of_work, exchanges, leaves_message, machine_end, met_fault, next_event, refusal, requests, running, runs_child, sending, with_deeds}
-use Rattle.af_answer.specs.AnswerParts.{Came, MatchesAnswer, Stand, Went, stand, stand_on}
-use Rattle.af_answer.specs.Children.{ChildRun, LeavesMessage, RunsChild, shell_words, told_of_run}
-use Rattle.af_answer.proofs.AnswerPartLemmas.{added_none, came_on, came_same, came_stop, deeds_on}
+use Rattle.af_answer.specs.AnswerTrace.{AnswerFinish, MachineDeeds, MachineOutcome, ToCome, after_event, awaits_event, by_answer, connection_end, deeds_of_work, doing, exchanged, heard_of, leaves_message, machine_end, met_fault, next_event, refusal, requests, running, runs_child, sending}
+use Rattle.af_answer.specs.AnswerParts.{Added, GoesBy, Seen, Stand, Went, answering, seen_as, stand}
+use Rattle.af_answer.specs.Children.{LeavesMessage, RunsChild, shell_words, told_of_run}
+use Rattle.af_answer.proofs.AnswerPartLemmas.{added_none, went_value}
 
 -- an answer of a connection, as that of a part
 abbrev pub part_of : {X : Type 0} → Result X ConnFault → Result X AnswerEnd
@@ -35,51 +36,51 @@ refusal_end (hook_switch device zero) f = refl
 refusal_end (hook_switch device (suc off)) f = refl
 refusal_end asked f = refl
 
--- a message is sent, and what follows goes by its answer
-module _ {X : Type 0} (reason : ConnFault → AnswerFinish) (ends_by : (f : ConnFault) → connection_end f ≡ machine_end (reason f)) (bytes : List ℕ) (answer : Result X ConnFault) (after : ClientState)
-    (trace : ToCome → AnswerTrace) (next : X → ToCome → AnswerTrace) (input : List ℕ) (p : Stand) {left : Option (List ℕ)} {wire : List ℕ → ClientState} {sent : Option (List ℕ)}
-    (is : (runs : List ChildRun) → trace (record { wire = p.wire input; runs = runs }) ≡ exchanges bytes reason answer after runs next) where
-  answered : (result : Result X ConnFault) → Appended p.seen.sent bytes sent → ((a : List ℕ) × (left ≡ Some a) × (result ≡ answer) × (wire a ≡ after)) → Came trace (λ a. by_answer reason result a next) input p (stand left wire sent p.seen.acts p.seen.held)
-  answered result added k = record {
-    done = deeds_of_work (sending bytes);
-    runs = [];
-    rest = k.0;
-    is_left = k.1;
-    goes = λ more.
-        is more ∙ ap (λ (r : Result X ConnFault). exchanges bytes reason r after more next) (sym k.2) ∙ ap (λ (w : ClientState). exchanges bytes reason result w more next) (sym k.3);
-    added = record { link = added; children = appended_none p.seen.acts; sink = appended_none p.seen.held };
-  }
+-- what was done by an answer: all of that, or the first of it if the link failed
+abbrev Does : {X : Type 0} → (Result X ConnFault → MachineDeeds) → (result answer : Result X ConnFault) → (old new : Seen) → Type 0
+Does did result answer old new = (result ≢ Err fault.LinkFault → Added old (did result).work new) × ((front : MachineDeeds) × IsFront doing front (did answer) × Added old front.work new)
 
-  pub exchange_went : (result : Result X ConnFault) → IsFresh result → Sends result p.seen.sent bytes sent → Known answer after left wire result → Went trace (part_of result) next input p (stand left wire sent p.seen.acts p.seen.held)
-  exchange_went (Ok x) fresh sends known = answered (Ok x) (sends.whole (λ e. cc e)) (known (λ e. cc e))
-  exchange_went (Err fault.LinkFault) fresh sends known = record {
-    done = deeds_of_work (sending sends.part.front);
-    runs = [];
-    matches = λ more.
-        let later = by_answer reason answer (record { wire = after; runs = more }) next in
-        let undone = both_deeds (deeds_of_work (sending sends.part.rest)) later.deeds in
-        subst (λ (t : AnswerTrace). MatchesAnswer t (connection_end fault.LinkFault) (deeds_of_work (sending sends.part.front))) (sym (is more)) (record {
-          undone = undone;
-          all = ap (λ l. both_deeds (deeds_of_work (sending l)) later.deeds) sends.part.whole ∙ deeds_on (deeds_of_work (sending sends.part.front)) (deeds_of_work (sending sends.part.rest)) later.deeds;
-          whole = λ inner. cc inner;
-          acted = λ other. absurd (other refl);
-          starved = λ e. cc e;
-          reported = λ e. cc e;
-        });
-    added = record { link = sends.part.appended; children = appended_none p.seen.acts; sink = appended_none p.seen.held };
-  }
-  exchange_went (Err fault.OutOfMemory) fresh sends known = absurd fresh
-  exchange_went (Err (fault.Spent first)) fresh sends known = absurd fresh
-  exchange_went (Err f) fresh sends known = came_stop (answered (Err f) (sends.whole (λ e. cc e)) (known (λ e. cc e))) (ends_by f) (λ e. cc e) (λ e. cc e)
+-- a call of a connection is a part of a machine
+call_came : {X : Type 0} (did : Result X ConnFault → MachineDeeds) (reason : ConnFault → AnswerFinish) (ends_by : (f : ConnFault) → connection_end f ≡ machine_end (reason f)) (answer : Result X ConnFault) (after : ClientState) (p q : Stand)
+    (result : Result X ConnFault) → IsFresh result → Does did result answer p.seen q.seen → Known answer after q.left q.client result →
+    Came answering (called (did answer) (by_answer reason answer) (record { wire = after; runs = q.runs })) (part_of result) p q
+call_came {X} did reason ends_by answer after p q (Ok x) fresh does known =
+    let k = known (λ e. cc e) in
+    let at = λ (w : ClientState). (let a : ToCome = record { wire = w; runs = q.runs } in a) in
+    let o = λ (r : Result X ConnFault). (let o : MachineOutcome X = called (did r) (by_answer reason r) (at after) in o) in
+    (at after, (k.0, k.1, ap at (sym k.3)), did (Ok x), ap o (sym k.2), does.0 (λ e. cc e))
+call_came did reason ends_by answer after p q (Err fault.LinkFault) fresh does known = (does.1.0, inl (refl, does.1.1), does.1.2)
+call_came did reason ends_by answer after p q (Err fault.OutOfMemory) fresh does known = absurd fresh
+call_came did reason ends_by answer after p q (Err (fault.Spent first)) fresh does known = absurd fresh
+call_came {X} did reason ends_by answer after p q (Err f) fresh does known =
+    let at : ToCome = record { wire = after; runs = q.runs } in
+    let o = λ (r : Result X ConnFault). (let o : MachineOutcome X = called (did r) (by_answer reason r) at in o) in
+    (did (Err f), inr (reason f, (ends_by f, λ e. cc e), ap o (sym (known (λ e. cc e)).2)), does.0 (λ e. cc e))
 
--- a request and its answer are a part of a machine
-pub requested_went : {L : Type 0} {left sent : L → Option (List ℕ)} {faults : L → ℕ} {asked : Asked} {old new : ConnState L} (next : Unit {0} → ToCome → AnswerTrace) (input : List ℕ) (acts : Option (List Told)) (held : Option (List ℕ)) {result : Result (Unit {0}) ConnFault} →
-    Called left sent faults asked as_done old new result → old.cause ≡ None → left old.link ≡ Some input → Went (λ a. requests asked a next) (part_of result) next input (stand_on left sent old acts held) (stand_on left sent new acts held)
-unfolding requests
-requested_went {left} {sent} {faults} {asked} {old} {new} next input acts held {result} called usable told =
-    let w = client_of old input in
-    exchange_went (refusal asked) (refusal_end asked) (request_bytes w.order asked) (answer_on asked as_done w) (after_reply w) (λ a. requests asked a next) next input (stand_on left sent old acts held) (λ runs. refl) result (called.fresh usable) (called.sends usable)
-    (asked_known left sent faults asked as_done old new input result called usable told)
+-- and so is a message that is sent and answered
+pub exchange_came : {X : Type 0} (reason : ConnFault → AnswerFinish) (ends_by : (f : ConnFault) → connection_end f ≡ machine_end (reason f)) (bytes : List ℕ) (answer : Result X ConnFault) (after : ClientState) (p q : Stand)
+    (result : Result X ConnFault) → IsFresh result → q.seen ≡ record p.seen { sent = q.seen.sent } → Sends result p.seen.sent bytes q.seen.sent → Known answer after q.left q.client result →
+    Came answering (exchanged bytes reason answer (record { wire = after; runs = q.runs })) (part_of result) p q
+exchange_came {X} reason ends_by bytes answer after p q result fresh same sends known =
+    let sent = λ (b : List ℕ) (added : Appended p.seen.sent b q.seen.sent). (
+    let a : Added p.seen (sending b) (record p.seen { sent = q.seen.sent }) = record { link = added; children = appended_none p.seen.acts; sink = appended_none p.seen.held } in
+    subst (λ (s : Seen). Added p.seen (sending b) s) (sym same) a) in
+    call_came (λ _. deeds_of_work (sending bytes)) reason ends_by answer after p q result fresh
+    (λ sound. sent bytes (sends.whole sound), (deeds_of_work (sending sends.part.front), (deeds_of_work (sending sends.part.rest), ap (λ (l : List ℕ). deeds_of_work (sending l)) sends.part.whole), sent sends.part.front sends.part.appended)) known
+
+module _ {L : Type 0} {left sent : L → Option (List ℕ)} {faults : L → ℕ} {old new : ConnState L} (acts : Option (List Told)) where
+  -- a request and its answer
+  pub requested_went : {asked : Asked} {result : Result (Unit {0}) ConnFault} → Called left sent faults asked as_done old new result → old.cause ≡ None → GoesBy left sent old new acts acts (requests asked) (part_of result)
+  unfolding requests
+  requested_went {asked} {result} called usable held = record {
+    runs = λ later. later;
+    goes = λ later. record {
+      came = λ a stands. rw stands.2 (
+          let w = client_of old stands.0 in
+          exchange_came (refusal asked) (refusal_end asked) (request_bytes w.order asked) (answer_on asked as_done w) (after_reply w) _ _ result (called.fresh usable) refl (called.sends usable)
+          (asked_known left sent faults asked as_done old new stands.0 result called usable stands.1));
+    };
+  }
 
 -- what is known of an event that was waited for
 event_known : {L : Type 0} (left sent : L → Option (List ℕ)) (faults : L → ℕ) (old new : ConnState L) (input : List ℕ) (result : Result Event ConnFault) (first : Option Event) → slice_get old.ring.events 0 ≡ first →
@@ -98,43 +99,44 @@ is_fresh (Err fault.OutOfMemory) is = absurd is
 is_fresh (Err (fault.Spent first)) is = absurd is
 is_fresh _ is = tt
 
--- an event that is handed out is heard
-heard : (e : Event) {later : ToCome → AnswerTrace} {input : List ℕ} {p : Stand} → p.left ≡ Some input → Came (λ a. with_deeds (deeds_of_event e) (later a)) later input p p
-heard e {input} {p} told = record { done = deeds_of_event e; runs = []; rest = input; is_left = told; goes = λ more. refl; added = added_none p.seen }
+-- a machine that hears an event, or none, works nothing
+heard_none : (result : Result Event ConnFault) (s : Seen) → Added s (heard_of result).work s
+heard_none (Ok e) s = added_none s
+heard_none (Err f) s = added_none s
 
 -- an event that is waited for is a part of a machine
-module _ {L : Type 0} {left sent : L → Option (List ℕ)} {faults : L → ℕ} {old new : ConnState L} (next : Event → ToCome → AnswerTrace) (input : List ℕ) (acts : Option (List Told)) (held : Option (List ℕ)) where
-  handed : (result : Result Event ConnFault) → EventAwaited left sent faults old new result → old.cause ≡ None → left old.link ≡ Some input →
-      Went (λ a. awaits_event a next) (part_of result) (λ e a. with_deeds (deeds_of_event e) (next e a)) input (stand_on left sent old acts held) (stand_on left sent new acts held)
-  unfolding awaits_event
-  handed result awaited usable told =
-      let w = client_of old input in
-      let none : Appended (sent old.link) [] (sent new.link) = subst (λ (x : Option (List ℕ)). Appended (sent old.link) [] x) (sym awaited.sends) (appended_none (sent old.link)) in
-      exchange_went met_fault (λ f. refl) [] (next_event w) (after_event w) (λ a. awaits_event a next) (λ e a. with_deeds (deeds_of_event e) (next e a)) input (stand_on left sent old acts held) (λ runs. refl) result (is_fresh result (awaited.answer usable))
-      (record { whole = λ sound. none; part = record { front = []; rest = []; whole = refl; appended = none } }) (event_known left sent faults old new input result (slice_get old.ring.events 0) refl awaited usable told)
+pub awaited_went : {L : Type 0} {left sent : L → Option (List ℕ)} {faults : L → ℕ} {old new : ConnState L} (acts : Option (List Told)) (result : Result Event ConnFault) → EventAwaited left sent faults old new result → old.cause ≡ None →
+    GoesBy left sent old new acts acts awaits_event (part_of result)
+unfolding awaits_event
+awaited_went {left} {sent} {faults} {old} {new} acts result awaited usable held = record {
+  runs = λ later. later;
+  goes = λ later. record {
+    came = λ a stands. rw (stands.2, awaited.sends) (
+        let s = seen_as (sent old.link) acts held in
+        call_came heard_of met_fault (λ f. refl) (next_event (client_of old stands.0)) (after_event (client_of old stands.0)) _ _ result (is_fresh result (awaited.answer usable))
+        (λ sound. heard_none result s, (doing.nothing, (heard_of (next_event (client_of old stands.0)), refl), added_none s))
+        (event_known left sent faults old new stands.0 result (slice_get old.ring.events 0) refl awaited usable stands.1));
+  };
+}
 
-  pub awaited_went : (result : Result Event ConnFault) → EventAwaited left sent faults old new result → old.cause ≡ None → left old.link ≡ Some input →
-      Went (λ a. awaits_event a next) (part_of result) next input (stand_on left sent old acts held) (stand_on left sent new acts held)
-  awaited_went (Ok e) awaited usable told = let f = handed (Ok e) awaited usable told in came_on f (heard e f.is_left)
-  awaited_went (Err f) awaited usable told = handed (Err f) awaited usable told
-
-module _ {left : Option (List ℕ)} {wire : List ℕ → ClientState} {sent : Option (List ℕ)} {acts acts' : Option (List Told)} {held : Option (List ℕ)} (next : ChildEnd → ToCome → AnswerTrace) (input : List ℕ) (told : left ≡ Some input) where
-  -- a child is a part of a machine
-  pub child_went : (text : List ℕ) {how : ChildEnd} → RunsChild (shell_words text) how acts acts' → Came (λ a. runs_child text a next) (next how) input (stand left wire sent acts held) (stand left wire sent acts' held)
+-- a child is a part of a machine, and so is the message
+module _ {left : Option (List ℕ)} {client : List ℕ → ClientState} {sent : Option (List ℕ)} {acts acts' : Option (List Told)} {held : Option (List ℕ)} where
+  pub child_went : (text : List ℕ) {how : ChildEnd} → RunsChild (shell_words text) how acts acts' → Went (runs_child text) (Ok how) (stand left client sent acts held) (stand left client sent acts' held)
   unfolding runs_child
   child_went text {how} r = record {
-    done = deeds_of_work (running (told_of_run (shell_words text) r.run));
-    runs = r.run ∷ [];
-    rest = input;
-    is_left = told;
-    goes = λ more. ap (λ (e : ChildEnd). with_deeds (deeds_of_work (running (told_of_run (shell_words text) r.run))) (next e (record { wire = wire input; runs = more }))) r.ended;
-    added = record { link = appended_none sent; children = r.told; sink = appended_none held };
+    runs = λ later. r.run ∷ later;
+    goes = λ later. record {
+      came = λ a stands. rw stands.2 (
+          let there : ToCome = record { wire = client stands.0; runs = later } in
+          let did = deeds_of_work (running (told_of_run (shell_words text) r.run)) in
+          let o = λ (e : ChildEnd). (let o : MachineOutcome ChildEnd = called did (Ok e) there in o) in
+          (there, (stands.0, stands.1, refl), did, ap o r.ended, record { link = appended_none sent; children = r.told; sink = appended_none held }));
+    };
   }
 
-  -- and so is the message
-  pub message_went : (job : AnswerJob) (greeting : ChildEnd) {how : ChildEnd} → LeavesMessage job greeting how acts acts' → Came (λ a. leaves_message job greeting a next) (next how) input (stand left wire sent acts held) (stand left wire sent acts' held)
+  pub message_went : (job : AnswerJob) (greeting : ChildEnd) {how : ChildEnd} → LeavesMessage job greeting how acts acts' → Went (leaves_message job greeting) (Ok how) (stand left client sent acts held) (stand left client sent acts' held)
   message_went job ended.Good m = child_went job.message.bytes m
-  message_went job greeting m = rw (m.0, m.1) (came_same told (λ a. refl))
+  message_went job greeting m = rw (m.0, m.1) (went_value greeting)
 
 -- a connection that handed out an event can still be used
 event_stays_at : {L : Type 0} {left sent : L → Option (List ℕ)} {faults : L → ℕ} {old new : ConnState L} {e : Event} (first : Option Event) → slice_get old.ring.events 0 ≡ first →

@@ -6,6 +6,8 @@ use Rattle.af_wire.specs.declared.order.Order.{Order}
 use Rattle.af_wire.specs.declared.event.Event.{Event}
 use Rattle.af_request.specs.Asked.{hook_switch, select_events}
 use Rattle.af_request.specs.Requests.{request_bytes}
+use Rattle.af_dialogue.specs.Parts.{called, followed, goes_on}
+use Rattle.af_dialogue.proofs.PartLemmas.{goes_on_twice, value_first}
 use Rattle.af_lib.specs.declared.fault.ConnFault.{ConnFault}
 use Rattle.af_lib.specs.Calls.{as_done}
 use Rattle.af_toolkit.specs.Trace.{ClientState, after_reply, answer_on}
@@ -14,10 +16,10 @@ use Rattle.af_answer.specs.declared.child.ChildEnd.TheVariants as ended
 use Rattle.af_answer.specs.declared.job.AnswerJob.{AnswerJob}
 use Rattle.af_answer.specs.declared.tally.Tally.{Tally}
 use Rattle.af_answer.specs.Acts.{MachineAct, acts_after, acts_after_greeting, acts_from, acts_of_call, greet, leaves_off, no_calls, off_after, off_hook, on_hook, record_message, rings_after, tally_after, write_tally}
-use Rattle.af_answer.specs.AnswerTrace.{ToCome, AnswerTrace, AnswerFinish, Work, after_event, attends, attends_all, awaits_call, awaits_event, both_works, by_answer, child_starved, deeds_of_event, exchanges, first_run, leaves_message, met_fault, most_for_a_call, next_event, no_work, off_hook_fault, refusal, requests, runs_child, sending, stops, takes_call, with_deeds, writes_tally}
+use Rattle.af_answer.specs.AnswerTrace.{ToCome, AnswerTrace, AnswerFinish, MachineOutcome, MachinePart, Work, after_event, attends, attends_all, awaits_call, awaits_event, both_works, by_answer, child_starved, doing, exchanged, first_run, heard_of, leaves_message, met_fault, most_for_a_call, next_event, no_work, off_hook_fault, refusal, requests, runs_child, sending, stops, takes_call, trace_of, writes_tally}
 use Rattle.af_answer.specs.Answered.{StopsAtOffHook, SwitchesHook, acts_asked, later_runs, work_of, work_of_act, work_of_job}
 use Rattle.af_answer.specs.Children.{ChildRun, is_starved, run_end, start_failed}
-use Rattle.af_answer.proofs.AnswerPartLemmas.{works_end, works_on}
+use Rattle.af_answer.proofs.AnswerPartLemmas.{is_answering, works_end, works_on}
 
 -- The work of a trace that finishes so is the first of what is to be done, and all of it unless a HookSwitch was answered with a
 -- fault. Where an OffHook was, it stops at that.
@@ -69,142 +71,199 @@ module _ (order : Order) (off : Bool) (job : AnswerJob) (act : MachineAct) (acts
     stops = stopped;
   }
 
+-- what follows one of two parts, and a machine that has stopped
+branch_first : {X Y : Type 0} (b : Bool) (one other : MachinePart X) (next : X → MachinePart Y) → goes_on doing (if b then one else other) next ≡ (if b then goes_on doing one next else goes_on doing other next)
+branch_first true one other next = refl
+branch_first false one other next = refl
+
+stop_first : {X Y : Type 0} (finish : AnswerFinish) (next : X → MachinePart Y) → goes_on doing (stops finish) next ≡ stops finish
+unfolding goes_on
+stop_first finish next = refl
+
+-- what follows a part, as a trace
+abbrev trace_by : {X : Type 0} → MachineOutcome X → (X → MachinePart (Unit {0})) → AnswerTrace
+trace_by o next = trace_of (followed doing o.did o.end (λ y. next y.0 y.1))
+
 -- what follows the answer to a HookSwitch: the hook is taken off, or put on
-module _ (w : ClientState) (job : AnswerJob) (acts : List Event → List MachineAct) (runs : List ChildRun) (next : Unit {0} → ToCome → AnswerTrace) where
+module _ (w : ClientState) (job : AnswerJob) (acts : List Event → List MachineAct) (runs : List ChildRun) (next : Unit {0} → MachinePart (Unit {0})) where
   abbrev here : ToCome
   here = record { wire = after_reply w; runs = runs }
 
-  abbrev switched_by : ℕ → Result (Unit {0}) ConnFault → AnswerTrace
-  switched_by off r = exchanges (request_bytes w.order (hook_switch job.device off)) (refusal (hook_switch job.device off)) r (after_reply w) runs next
+  abbrev later : AnswerTrace
+  later = trace_of (next tt here)
 
-  taken_off : (r : Result (Unit {0}) ConnFault) → KeepsTo w.order true job (acts (next tt here).deeds.heard) runs (next tt here) → (let t = switched_by 1 r in KeepsTo w.order false job (off_hook ∷ acts t.deeds.heard) runs t)
+  abbrev switched_by : ℕ → Result (Unit {0}) ConnFault → AnswerTrace
+  switched_by off r = trace_by (exchanged (request_bytes w.order (hook_switch job.device off)) (refusal (hook_switch job.device off)) r here) next
+
+  taken_off : (r : Result (Unit {0}) ConnFault) → KeepsTo w.order true job (acts later.deeds.heard) runs later → (let t = switched_by 1 r in KeepsTo w.order false job (off_hook ∷ acts t.deeds.heard) runs t)
   taken_off (Ok u) k = did w.order false job off_hook _ runs k
   taken_off (Err f) k = refused w.order false job off_hook (acts []) runs (λ switched. switched.1 f refl) (λ f met. record { before = []; later = acts []; are = refl; sent = refl; on = refl })
 
-  put_on : (r : Result (Unit {0}) ConnFault) → KeepsTo w.order false job (acts (next tt here).deeds.heard) runs (next tt here) → (let t = switched_by 0 r in KeepsTo w.order true job (on_hook ∷ acts t.deeds.heard) runs t)
+  put_on : (r : Result (Unit {0}) ConnFault) → KeepsTo w.order false job (acts later.deeds.heard) runs later → (let t = switched_by 0 r in KeepsTo w.order true job (on_hook ∷ acts t.deeds.heard) runs t)
   put_on (Ok u) k = did w.order true job on_hook _ runs k
   put_on (Err f) k = refused w.order true job on_hook (acts []) runs (λ switched. switched.0 f refl) (λ f met. cc met)
 
 -- A call keeps to its acts where what follows it keeps to those that come then, by how it ended.
-module _ (job : AnswerJob) (next : ChildEnd → ToCome → AnswerTrace) (more : List Event → ChildEnd → List ChildEnd → List MachineAct) where
-  abbrev hangs : ChildEnd → ToCome → AnswerTrace
-  hangs how a = requests (hook_switch job.device 0) a (λ _ a. next how a)
+module _ (job : AnswerJob) (next : ChildEnd → MachinePart (Unit {0})) (more : List Event → ChildEnd → List ChildEnd → List MachineAct) where
+  abbrev hangs : ChildEnd → MachinePart (Unit {0})
+  hangs how = goes_on doing (requests (hook_switch job.device 0)) (λ _. next how)
+
+  abbrev greets : Unit {0} → MachinePart (Unit {0})
+  greets u = goes_on doing (runs_child job.greeting.bytes) (λ greeting. goes_on doing (leaves_message job greeting) hangs)
 
   abbrev KeepsLater : ClientState → Type 0
-  KeepsLater w = (how : ChildEnd) (runs : List ChildRun) → (let t = next how (record { wire = w; runs = runs }) in KeepsTo w.order false job (more t.deeds.heard how (map run_end runs)) runs t)
+  KeepsLater w = (how : ChildEnd) (runs : List ChildRun) → (let t = trace_of (next how (record { wire = w; runs = runs })) in KeepsTo w.order false job (more t.deeds.heard how (map run_end runs)) runs t)
 
   hung_up : (w : ClientState) (how : ChildEnd) (runs : List ChildRun) → KeepsLater (after_reply w) →
-      (let t = hangs how (record { wire = w; runs = runs }) in KeepsTo w.order true job (on_hook ∷ more t.deeds.heard how (map run_end runs)) runs t)
-  unfolding requests
-  hung_up w how runs later = put_on w job (λ events. more events how (map run_end runs)) runs (λ _ a. next how a) (answer_on (hook_switch job.device 0) as_done w) (later how runs)
+      (let t = trace_of (hangs how (record { wire = w; runs = runs })) in KeepsTo w.order true job (on_hook ∷ more t.deeds.heard how (map run_end runs)) runs t)
+  unfolding requests goes_on
+  hung_up w how runs later = put_on w job (λ events. more events how (map run_end runs)) runs (λ _. next how) (answer_on (hook_switch job.device 0) as_done w) (later how runs)
 
   greeted : (w : ClientState) (greeting : ChildEnd) (runs : List ChildRun) → KeepsLater (after_reply w) →
-      (let t = leaves_message job greeting (record { wire = w; runs = runs }) hangs in KeepsTo w.order true job (acts_after_greeting greeting (map run_end runs) (more t.deeds.heard)) runs t)
-  unfolding runs_child
+      (let t = trace_of (goes_on doing (leaves_message job greeting) hangs (record { wire = w; runs = runs })) in KeepsTo w.order true job (acts_after_greeting greeting (map run_end runs) (more t.deeds.heard)) runs t)
+  unfolding runs_child goes_on
   greeted w ended.Good [] later = did w.order true job record_message _ [] (hung_up w (run_end start_failed) [] later)
   greeted w ended.Good (run ∷ runs) later = did w.order true job record_message _ (run ∷ runs) (hung_up w (run_end run) runs later)
   greeted w greeting runs later = hung_up w greeting runs later
 
+  played : (w : ClientState) (runs : List ChildRun) → KeepsLater (after_reply w) →
+      (let t = trace_of (greets tt (record { wire = w; runs = runs })) in KeepsTo w.order true job (greet ∷ acts_after_greeting (get_or (map run_end runs) 0 ended.Bad) (drop 1 (map run_end runs)) (more t.deeds.heard)) runs t)
+  unfolding runs_child goes_on
+  played w [] later = did w.order true job greet _ [] (greeted w ended.Bad [] later)
+  played w (run ∷ runs) later = did w.order true job greet _ (run ∷ runs) (greeted w (run_end run) runs later)
+
+  answered : (w : ClientState) (runs : List ChildRun) → KeepsLater (after_reply (after_reply w)) →
+      (let t = trace_of (goes_on doing (requests (hook_switch job.device 1)) greets (record { wire = w; runs = runs })) in KeepsTo w.order false job (acts_of_call (map run_end runs) (more t.deeds.heard)) runs t)
+  unfolding requests goes_on
+  answered w runs later =
+      taken_off w job (λ events. greet ∷ acts_after_greeting (get_or (map run_end runs) 0 ended.Bad) (drop 1 (map run_end runs)) (more events)) runs greets (answer_on (hook_switch job.device 1) as_done w) (played (after_reply w) runs later)
+
+  call_first : goes_on doing (takes_call job) next ≡ goes_on doing (requests (hook_switch job.device 1)) greets
+  unfolding takes_call
+  call_first = simp (goes_on_twice is_answering, value_first is_answering)
+
   pub call_keeps : (w : ClientState) (runs : List ChildRun) → KeepsLater (after_reply (after_reply w)) →
-      (let t = takes_call job (record { wire = w; runs = runs }) next in KeepsTo w.order false job (acts_of_call (map run_end runs) (more t.deeds.heard)) runs t)
-  unfolding takes_call requests runs_child
-  call_keeps w [] later =
-      taken_off w job (λ events. greet ∷ acts_after_greeting ended.Bad [] (more events)) [] (λ _ a. runs_child job.greeting.bytes a (λ greeting a. leaves_message job greeting a hangs)) (answer_on (hook_switch job.device 1) as_done w)
-      (did w.order true job greet _ [] (greeted (after_reply w) ended.Bad [] later))
-  call_keeps w (run ∷ runs) later =
-      taken_off w job (λ events. greet ∷ acts_after_greeting (run_end run) (map run_end runs) (more events)) (run ∷ runs) (λ _ a. runs_child job.greeting.bytes a (λ greeting a. leaves_message job greeting a hangs)) (answer_on (hook_switch job.device 1) as_done w)
-      (did w.order true job greet _ (run ∷ runs) (greeted (after_reply w) (run_end run) runs later))
+      (let t = trace_of (goes_on doing (takes_call job) next (record { wire = w; runs = runs })) in KeepsTo w.order false job (acts_of_call (map run_end runs) (more t.deeds.heard)) runs t)
+  call_keeps w runs later = rw call_first (answered w runs later)
 
 -- the acts after a call, by the events to come, how it ended and the ends of the children to come
 abbrev later_acts : AnswerJob → Tally → List Event → ChildEnd → List ChildEnd → List MachineAct
 later_acts job t events how ends = acts_after how job.calls (tally_after how t) (acts_from job 0 (tally_after how t) events ends)
 
 -- What a call comes to keeps to the acts from that ring on, and so does what is awaited before it.
-module _ (job : AnswerJob) (t : Tally) (runs : List ChildRun) (taken : ToCome → AnswerTrace)
-    (keeps : (w : ClientState) → (let x = taken (record { wire = w; runs = runs }) in KeepsTo w.order false job (acts_of_call (map run_end runs) (later_acts job t x.deeds.heard)) runs x)) where
+module _ (job : AnswerJob) (t : Tally) (runs : List ChildRun) (taken : MachinePart (Unit {0}))
+    (keeps : (w : ClientState) → (let x = trace_of (taken (record { wire = w; runs = runs })) in KeepsTo w.order false job (acts_of_call (map run_end runs) (later_acts job t x.deeds.heard)) runs x)) where
   -- a trace keeps to the acts from so many rings on; and so does waiting on for n events
   abbrev KeepsFrom : Order → ℕ → AnswerTrace → Type 0
   KeepsFrom order rings x = KeepsTo order false job (acts_from job rings t x.deeds.heard (map run_end runs)) runs x
 
   abbrev KeepsWaiting : ℕ → ClientState → Type 0
-  KeepsWaiting n w = (rings : ℕ) → KeepsFrom w.order rings (awaits_call n job rings (record { wire = w; runs = runs }) (λ _ a. taken a))
+  KeepsWaiting n w = (rings : ℕ) → KeepsFrom w.order rings (trace_of (goes_on doing (awaits_call n job rings) (λ _. taken) (record { wire = w; runs = runs })))
 
   -- what follows an event
-  abbrev rung : ℕ → ℕ → Event → ToCome → AnswerTrace
-  rung n rings e a = if rings_after job rings e == job.rings then taken a else awaits_call n job (rings_after job rings e) a (λ _ a. taken a)
+  abbrev rung : ℕ → ℕ → Event → MachinePart (Unit {0})
+  rung n rings e = if rings_after job rings e == job.rings then taken else goes_on doing (awaits_call n job (rings_after job rings e)) (λ _. taken)
 
-  rung_keeps : (n rings : ℕ) (e : Event) (w : ClientState) → KeepsWaiting n w → KeepsFrom w.order rings (with_deeds (deeds_of_event e) (rung n rings e (record { wire = w; runs = runs })))
+  none_left : (order : Order) (rings : ℕ) {finish : AnswerFinish} → ((f : ConnFault) → finish ≢ off_hook_fault f) → KeepsFrom order rings (record { deeds = doing.nothing; finish = finish })
   unfolding acts_from
-  rung_keeps n rings e w more =
-      let a : ToCome = record { wire = w; runs = runs } in
+  none_left order rings other = keeps_all other
+
+  handed_keeps : (n rings : ℕ) (r : Result Event ConnFault) (w : ClientState) → KeepsWaiting n w → KeepsFrom w.order rings (trace_by (called (heard_of r) (by_answer met_fault r) (record { wire = w; runs = runs })) (rung n rings))
+  unfolding acts_from
+  handed_keeps n rings (Ok e) w more =
       let ends = map run_end runs in
-      let x : Bool → AnswerTrace = λ y. if y then taken a else awaits_call n job (rings_after job rings e) a (λ _ a. taken a) in
+      let x : Bool → AnswerTrace = λ y. trace_of ((if y then taken else goes_on doing (awaits_call n job (rings_after job rings e)) (λ _. taken)) (record { wire = w; runs = runs })) in
       elim (rings_after job rings e == job.rings) as (λ y. KeepsTo w.order false job (if y then acts_of_call ends (later_acts job t (x y).deeds.heard) else acts_from job (rings_after job rings e) t (x y).deeds.heard ends) runs (x y)) [
         | true ↦ keeps w
         | false ↦ more (rings_after job rings e)
       ]
-
-  none_left : (order : Order) (rings : ℕ) {finish : AnswerFinish} → ((f : ConnFault) → finish ≢ off_hook_fault f) → KeepsFrom order rings (stops finish)
-  unfolding acts_from
-  none_left order rings other = keeps_all other
-
-  handed_keeps : (n rings : ℕ) (r : Result Event ConnFault) (w : ClientState) → KeepsWaiting n w → KeepsFrom w.order rings (by_answer met_fault r (record { wire = w; runs = runs }) (λ e a. with_deeds (deeds_of_event e) (rung n rings e a)))
-  handed_keeps n rings (Ok e) w more = rung_keeps n rings e w more
   handed_keeps n rings (Err f) w more = none_left w.order rings (λ x e. cc e)
 
+  waited_keeps : (n rings : ℕ) (w : ClientState) → KeepsWaiting n (after_event w) → KeepsFrom w.order rings (trace_of (goes_on doing awaits_event (rung n rings) (record { wire = w; runs = runs })))
+  unfolding awaits_event goes_on
+  waited_keeps n rings w more = handed_keeps n rings (next_event w) (after_event w) more
+
+  flooded_keeps : (w : ClientState) → KeepsWaiting zero w
+  unfolding awaits_call goes_on
+  flooded_keeps w rings = none_left w.order rings (λ x e. cc e)
+
+  wait_first : (n rings : ℕ) → goes_on doing (awaits_call (suc n) job rings) (λ _. taken) ≡ goes_on doing awaits_event (rung n rings)
+  unfolding awaits_call
+  wait_first n rings = simp (goes_on_twice is_answering, branch_first, value_first is_answering)
+
   pub awaited_keeps : (n : ℕ) (w : ClientState) → KeepsWaiting n w
-  unfolding awaits_call awaits_event
-  awaited_keeps zero w rings = none_left w.order rings (λ x e. cc e)
-  awaited_keeps (suc n) w rings = handed_keeps n rings (next_event w) (after_event w) (awaited_keeps n (after_event w))
+  awaited_keeps zero w rings = flooded_keeps w rings
+  awaited_keeps (suc n) w rings = rw (wait_first n rings) (waited_keeps n rings w (awaited_keeps n (after_event w)))
 
 -- the acts after so many calls that were not starved
 abbrev acts_at : AnswerJob → Tally → List Event → List ChildEnd → List MachineAct
 acts_at job t events ends = acts_after ended.Good job.calls t (acts_from job 0 t events ends)
 
 abbrev AttendsKept : AnswerJob → ℕ → Tally → Type 0
-AttendsKept job n t = (w : ClientState) (runs : List ChildRun) → (let x = attends n job t (record { wire = w; runs = runs }) writes_tally in KeepsTo w.order false job (acts_at job t x.deeds.heard (map run_end runs)) runs x)
+AttendsKept job n t = (w : ClientState) (runs : List ChildRun) →
+    (let x = trace_of (goes_on doing (attends n job t) writes_tally (record { wire = w; runs = runs })) in KeepsTo w.order false job (acts_at job t x.deeds.heard (map run_end runs)) runs x)
 
 counts_one : (how : ChildEnd) (t : Tally) (n calls : ℕ) → t.answered + suc n ≡ calls → (tally_after how t).answered + n ≡ calls
 counts_one ended.Good t n calls is = omega (arith, is)
 counts_one how t n calls is = omega (arith, is)
 
 -- what follows a call, by how it ended
-later_keeps : (job : AnswerJob) (n : ℕ) (t : Tally) (w : ClientState) → ((how : ChildEnd) → AttendsKept job n (tally_after how t)) →
-    KeepsLater job (λ how a. if is_starved how then stops child_starved else attends n job (tally_after how t) a writes_tally) (later_acts job t) w
+abbrev after_call : AnswerJob → ℕ → Tally → ChildEnd → MachinePart (Unit {0})
+after_call job n t how = if is_starved how then stops child_starved else goes_on doing (attends n job (tally_after how t)) writes_tally
+
+later_keeps : (job : AnswerJob) (n : ℕ) (t : Tally) (w : ClientState) → ((how : ChildEnd) → AttendsKept job n (tally_after how t)) → KeepsLater job (after_call job n t) (later_acts job t) w
 later_keeps job n t w kept ended.NoMemory runs = keeps_all (λ x e. cc e)
 later_keeps job n t w kept how runs = kept how w runs
 
-attends_keeps : (job : AnswerJob) (n : ℕ) (t : Tally) → t.answered + n ≡ job.calls → AttendsKept job n t
+attends_last : (job : AnswerJob) (t : Tally) → goes_on doing (attends zero job t) writes_tally ≡ writes_tally t
 unfolding attends
+attends_last job t = value_first is_answering t writes_tally
+
+attends_first : (job : AnswerJob) (n : ℕ) (t : Tally) → goes_on doing (attends (suc n) job t) writes_tally ≡ goes_on doing (awaits_call most_for_a_call job 0) (λ _. goes_on doing (takes_call job) (after_call job n t))
+unfolding attends
+attends_first job n t = simp (goes_on_twice is_answering, branch_first, stop_first)
+
+attends_keeps : (job : AnswerJob) (n : ℕ) (t : Tally) → t.answered + n ≡ job.calls → AttendsKept job n t
 attends_keeps job zero t all w runs =
-    subst (λ (l : List MachineAct). KeepsTo w.order false job l runs (writes_tally t (record { wire = w; runs = runs })))
+    rw (attends_last job t) (subst (λ (l : List MachineAct). KeepsTo w.order false job l runs (trace_of (writes_tally t (record { wire = w; runs = runs }))))
     (sym (ap (λ (x : Bool). if x then write_tally t ∷ [] else acts_from job 0 t [] (map run_end runs)) (eq-eqb t.answered job.calls (omega (arith, all)))))
-    (record { undone = no_work; all = refl; whole = λ switched. refl; stops = λ f met. cc met })
+    (record { undone = no_work; all = refl; whole = λ switched. refl; stops = λ f met. cc met }))
 attends_keeps job (suc n) t all w runs =
-    let next : ChildEnd → ToCome → AnswerTrace = λ how a. if is_starved how then stops child_starved else attends n job (tally_after how t) a writes_tally in
-    let x : AnswerTrace = awaits_call most_for_a_call job 0 (record { wire = w; runs = runs }) (λ _ a. takes_call job a next) in
-    subst (λ (l : List MachineAct). KeepsTo w.order false job l runs x)
+    let taken = goes_on doing (takes_call job) (after_call job n t) in
+    let x : AnswerTrace = trace_of (goes_on doing (awaits_call most_for_a_call job 0) (λ _. taken) (record { wire = w; runs = runs })) in
+    rw (attends_first job n t) (subst (λ (l : List MachineAct). KeepsTo w.order false job l runs x)
     (sym (ap (λ (y : Bool). if y then write_tally t ∷ [] else acts_from job 0 t x.deeds.heard (map run_end runs)) (ne_eqb t.answered job.calls (λ same. absurd (omega (arith, all, same))))))
-    (awaited_keeps job t runs (λ a. takes_call job a next)
-    (λ v. call_keeps job next (later_acts job t) v runs (later_keeps job n t (after_reply (after_reply v)) (λ how. attends_keeps job n (tally_after how t) (counts_one how t n job.calls all)))) most_for_a_call w 0)
+    (awaited_keeps job t runs taken
+    (λ v. call_keeps job (after_call job n t) (later_acts job t) v runs (later_keeps job n t (after_reply (after_reply v)) (λ how. attends_keeps job n (tally_after how t) (counts_one how t n job.calls all)))) most_for_a_call w 0))
 
 -- Rings and hooks are asked for first: a trace keeps to all that a machine is to do.
 abbrev pub KeepsAll : Order → AnswerJob → AnswerTrace → List ChildRun → Type 0
 KeepsAll order job t runs = Keeps (work_of_job order job (acts_asked job t runs) runs) (StopsAtOffHook order job (acts_asked job t runs) runs) t.deeds.work t.finish
 
-asked_keeps : (job : AnswerJob) (w : ClientState) (runs : List ChildRun) (r : Result (Unit {0}) ConnFault) → AttendsKept job job.calls no_calls → (0 == job.calls) ≡ false →
-    KeepsAll w.order job (exchanges (request_bytes w.order (select_events job.device 3)) (refusal (select_events job.device 3)) r (after_reply w) runs (λ _ a. attends job.calls job no_calls a writes_tally)) runs
-unfolding acts_from
-asked_keeps job w runs (Ok u) k some =
-    let x = attends job.calls job no_calls (record { wire = after_reply w; runs = runs }) writes_tally in
-    keeps_after (sending (request_bytes w.order (select_events job.device 3)))
-    (λ sends s. record { before = s.before; later = s.later; are = s.are; sent = ap (λ l. request_bytes w.order (select_events job.device 3) ++ l) s.sent; on = s.on })
-    (subst (λ (l : List MachineAct). KeepsTo w.order false job l runs x) (ap (λ (y : Bool). if y then write_tally no_calls ∷ [] else acts_from job 0 no_calls x.deeds.heard (map run_end runs)) some) (k (after_reply w) runs))
-asked_keeps job w runs (Err f) k some = keeps_all (λ x e. cc e)
+module _ (job : AnswerJob) (w : ClientState) (runs : List ChildRun) (some : (0 == job.calls) ≡ false) where
+  abbrev calls : Unit {0} → MachinePart (Unit {0})
+  calls u = goes_on doing (attends job.calls job no_calls) writes_tally
 
-pub line_keeps : (job : AnswerJob) (w : ClientState) (runs : List ChildRun) → (0 == job.calls) ≡ false → KeepsAll w.order job (attends_all job (record { wire = w; runs = runs }) writes_tally) runs
-unfolding attends_all requests
-line_keeps job w runs some = asked_keeps job w runs (answer_on (select_events job.device 3) as_done w) (attends_keeps job job.calls no_calls (omega arith)) some
+  asked_keeps : (r : Result (Unit {0}) ConnFault) →
+      KeepsAll w.order job (trace_by (exchanged (request_bytes w.order (select_events job.device 3)) (refusal (select_events job.device 3)) r (record { wire = after_reply w; runs = runs })) calls) runs
+  unfolding acts_from
+  asked_keeps (Ok u) =
+      let x = trace_of (calls tt (record { wire = after_reply w; runs = runs })) in
+      keeps_after (sending (request_bytes w.order (select_events job.device 3)))
+      (λ sends s. record { before = s.before; later = s.later; are = s.are; sent = ap (λ l. request_bytes w.order (select_events job.device 3) ++ l) s.sent; on = s.on })
+      (subst (λ (l : List MachineAct). KeepsTo w.order false job l runs x) (ap (λ (y : Bool). if y then write_tally no_calls ∷ [] else acts_from job 0 no_calls x.deeds.heard (map run_end runs)) some) (attends_keeps job job.calls no_calls (omega arith) (after_reply w) runs))
+  asked_keeps (Err f) = keeps_all (λ x e. cc e)
+
+  first_keeps : KeepsAll w.order job (trace_of (goes_on doing (requests (select_events job.device 3)) calls (record { wire = w; runs = runs }))) runs
+  unfolding requests goes_on
+  first_keeps = asked_keeps (answer_on (select_events job.device 3) as_done w)
+
+  all_first : goes_on doing (attends_all job) writes_tally ≡ goes_on doing (requests (select_events job.device 3)) calls
+  unfolding attends_all
+  all_first = goes_on_twice is_answering _ _ _
+
+  pub line_keeps : KeepsAll w.order job (trace_of (goes_on doing (attends_all job) writes_tally (record { wire = w; runs = runs }))) runs
+  line_keeps = rw all_first first_keeps
 
 -- Whatever a machine hears, its acts leave the hook on.
 

@@ -5,6 +5,7 @@ use Rattle.std.specs.Prelude.{option_map}
 use Rattle.std.proofs.lemmas.Option.{slice_get_cases, slice_get_past}
 use Rattle.af_io.specs.Flow.{AppendedPrefix}
 use Rattle.af_io.proofs.AppendedLemmas.{appended_none}
+use Rattle.af_dialogue.specs.Parts.{followed, goes_on}
 use Rattle.af_wire.specs.declared.order.Order.{Order}
 use Rattle.af_process.specs.Acts.{Told}
 use Rattle.af_request.specs.declared.reply.DeviceInfo.{DeviceInfo}
@@ -16,12 +17,12 @@ use Rattle.af_answer.specs.declared.end.AnswerEnd.TheVariants as end
 use Rattle.af_answer.specs.declared.job.AnswerJob.{AnswerJob}
 use Rattle.af_answer.specs.declared.tally.Tally.{Tally}
 use Rattle.af_answer.specs.Acts.{MachineAct, no_calls}
-use Rattle.af_answer.specs.AnswerTrace.{ToCome, AnswerTrace, AnswerFinish, Deeds, Work, all_answered, attends_all, both_works, child_starved, connection_end, deeds_of_work, device_missing, if_line, line_at, line_missing, machine_end, met_fault, no_work, off_hook_fault, on_hook_fault, rang_too_little, stops, tally_text, writes_tally, writing}
-use Rattle.af_answer.specs.AnswerParts.{Came, Ended, MatchesAnswer, Seen, Stand, WritesTo, is_from_outside, stand}
+use Rattle.af_answer.specs.AnswerTrace.{ToCome, AnswerTrace, AnswerFinish, MachineDeeds, MachineOutcome, Work, all_answered, attends_all, both_works, child_starved, connection_end, deeds_of_work, device_missing, doing, if_line, line_at, line_missing, machine_end, met_fault, off_hook_fault, on_hook_fault, rang_too_little, stops, tally_text, trace_of, writes_tally, writing}
+use Rattle.af_answer.specs.AnswerParts.{Added, MatchesAnswer, Seen, Went, WritesTo, is_from_outside, seen_as, stand}
 use Rattle.af_answer.specs.Answered.{AnswerRan, HangsUp, HasLine, IsReplied, KeepsToActs, LacksItsDevice, LeavesHook, PutsOn, RanAs, StopsAtOffHook, SwitchesHook, acts_asked, line_or_end, work_of_job}
 use Rattle.af_answer.specs.Children.{ChildRun, run_end}
 use Rattle.af_answer.specs.Outcomes.{is_of_calls, is_of_line}
-use Rattle.af_answer.proofs.AnswerPartLemmas.{added_none, ended_on, works_end, works_on}
+use Rattle.af_answer.proofs.AnswerPartLemmas.{added_none, added_on, matches_after, stopped_matches, works_end, works_on}
 use Rattle.af_answer.proofs.KeptActLemmas.{KeepsAll, acts_leave_on, line_keeps}
 
 pub line_of_calls : (how : AnswerEnd) → is_of_calls how ≡ true → is_of_line how ≡ true
@@ -59,15 +60,15 @@ refused_by (on_hook_fault x) puts_on = absurd (puts_on x refl)
 refused_by finish puts_on = inl (λ f e. cc e, λ f e. cc e)
 
 -- a machine on a line, by what of its trace was done
-module _ (order : Order) (job : AnswerJob) (t : AnswerTrace) (runs : List ChildRun) (k : KeepsAll order job t runs) (done : Deeds) where
+module _ (order : Order) (job : AnswerJob) (t : AnswerTrace) (runs : List ChildRun) (k : KeepsAll order job t runs) (done : MachineDeeds) where
   abbrev acts : List MachineAct
   acts = acts_asked job t runs
 
   all_sent : {how : AnswerEnd} → MatchesAnswer t how done → how ≢ end.LinkFault → t.deeds.work.sends ≡ done.work.sends
-  all_sent m acting = ap (λ (d : Deeds). d.work.sends) m.all ∙ ap (λ l. done.work.sends ++ l) (m.acted acting).0 ∙ append-nil done.work.sends
+  all_sent m acting = ap (λ (d : MachineDeeds). d.work.sends) m.all ∙ ap (λ l. done.work.sends ++ l) (m.acted acting).0 ∙ append-nil done.work.sends
 
   all_told : {how : AnswerEnd} → MatchesAnswer t how done → how ≢ end.LinkFault → t.deeds.work.told ≡ done.work.told
-  all_told m acting = ap (λ (d : Deeds). d.work.told) m.all ∙ ap (λ l. done.work.told ++ l) (m.acted acting).1 ∙ append-nil done.work.told
+  all_told m acting = ap (λ (d : MachineDeeds). d.work.told) m.all ∙ ap (λ l. done.work.told ++ l) (m.acted acting).1 ∙ append-nil done.work.told
 
   hangs : {how : AnswerEnd} → MatchesAnswer t how done → how ≢ end.LinkFault → SwitchesHook t.finish → HangsUp order job acts runs done.work
   hangs m acting switched =
@@ -97,71 +98,90 @@ module _ (order : Order) (job : AnswerJob) (t : AnswerTrace) (runs : List ChildR
     kept_acts : KeepsToActs order job acts runs how done.work
     kept_acts = record {
       undone = both_works m.undone.work k.undone;
-      all = k.all ∙ ap (λ (d : Deeds). both_works d.work k.undone) m.all ∙ works_on done.work m.undone.work k.undone;
+      all = k.all ∙ ap (λ (d : MachineDeeds). both_works d.work k.undone) m.all ∙ works_on done.work m.undone.work k.undone;
       whole = λ is.
           let w = m.whole (ap is_from_outside is) in
-          ap₂ both_works (ap (λ (d : Deeds). d.work) w.1) (k.whole (switched_where_done t.finish (sym is ∙ w.0)));
+          ap₂ both_works (ap (λ (d : MachineDeeds). d.work) w.1) (k.whole (switched_where_done t.finish (sym is ∙ w.0)));
     }
 
     -- it ended as its trace does, unless something from outside ended it
     by_cause : {A : Type 0} → (is_from_outside how ≡ true → A) → (how ≡ machine_end t.finish → A) → A
     by_cause {A} outside inside = elim (is_from_outside how) as (λ b. is_from_outside how ≡ b → A) [ true ↦ λ outer. outside outer | false ↦ λ inner. inside (m.whole inner).0 ] refl
 
--- a machine on a line ran as its trace
-pub ended_ran : (job : AnswerJob) (devices : List DeviceInfo) {how : AnswerEnd} {input : List ℕ} {old new : Stand} → 1 ≤ job.calls → HasLine job devices → is_of_line how ≡ true → Ended (λ a. attends_all job a writes_tally) how input old new →
-    AnswerRan job devices (old.wire input) how old.seen new.seen
-ended_ran job devices {how} {input} {old} {new} some line way e =
-    let w = old.wire input in
-    let runs = e.runs ++ [] in
-    let a : ToCome = record { wire = w; runs = runs } in
-    let t = attends_all job a writes_tally in
-    let m = e.matches [] in
-    let k = line_keeps job w runs (ne_eqb 0 job.calls (λ none. absurd (omega (arith, some, none)))) in
-    let ran : RanAs w.order job devices t runs how old.seen new.seen = record {
-      done = e.done;
-      added = e.added;
-      followed = m;
-      answered = λ _. kept_acts w.order job t runs k e.done how m;
-      hung_up = hook_left w.order job t runs k e.done how way m;
-      starves = λ is. by_cause w.order job t runs k e.done how m (λ outer. inr outer) (λ ends. inl (ends ∙ ap machine_end is));
-      complete = λ _ served enough. by_cause w.order job t runs k e.done how m (λ outer. inr (inr outer)) (λ ends. by_finish t.finish how ends way served enough);
-    } in
-    record { runs = runs; ran = subst (λ (x : AnswerTrace). RanAs w.order job devices x runs how old.seen new.seen) (sym (ap (λ (x : Option Bool). if_line job x (length devices) a) line)) ran }
+-- the line was written, or a part of it
+module _ (tally : Tally) (a : ToCome) (s : Seen) (held : Option (List ℕ)) where
+  abbrev Written : AnswerEnd → Type 0
+  Written how = (front : List ℕ) × MatchesAnswer (trace_of (writes_tally tally a)) how (deeds_of_work (writing front)) × Added s (writing front) (record s { held = held })
 
--- The line was written, or a part of it.
-module _ (tally : Tally) {input : List ℕ} {left : Option (List ℕ)} {wire : List ℕ → ClientState} {sent : Option (List ℕ)} {acts : Option (List Told)} {held held' : Option (List ℕ)} where
-  writes : (how : AnswerEnd) (p : AppendedPrefix held (tally_text tally) held') → (is_from_outside how ≡ false → (how ≡ end.Done) × (p.rest ≡ [])) → how ≢ end.OutOfMemory → Ended (writes_tally tally) how input (stand left wire sent acts held) (stand left wire sent acts held')
-  writes how p only other = record {
-    done = deeds_of_work (writing p.front);
-    runs = [];
-    matches = λ more. record {
+  writes : (how : AnswerEnd) (p : AppendedPrefix s.held (tally_text tally) held) → (is_from_outside how ≡ false → (how ≡ end.Done) × (p.rest ≡ [])) → how ≢ end.OutOfMemory → Written how
+  writes how p only other = (
+    p.front,
+    record {
       undone = deeds_of_work (writing p.rest);
       all = ap (λ l. deeds_of_work (writing l)) p.whole;
       whole = λ inner. ((only inner).0, ap (λ l. deeds_of_work (writing l)) (only inner).1);
       acted = λ _. (refl, refl);
       starved = λ e. absurd (other e);
       reported = λ e. refl;
-    };
-    added = record { link = appended_none sent; children = appended_none acts; sink = p.appended };
-  }
+    },
+    record { link = appended_none s.sent; children = appended_none s.acts; sink = p.appended },
+  )
 
-  written : (how : AnswerEnd) → WritesTo (tally_text tally) how held held' → Ended (writes_tally tally) how input (stand left wire sent acts held) (stand left wire sent acts held')
+  written : (how : AnswerEnd) → WritesTo (tally_text tally) how s.held held → Written how
   written end.Done wrote = writes end.Done (record { front = tally_text tally; rest = []; whole = sym (append-nil (tally_text tally)); appended = wrote }) (λ inner. (refl, refl)) (λ e. cc e)
   written end.SinkFault wrote = writes end.SinkFault wrote (λ inner. cc inner) (λ e. cc e)
   written how wrote = absurd wrote
 
-pub reported : (tally : Tally) {trace : ToCome → AnswerTrace} {how : AnswerEnd} {input : List ℕ} {old : Stand} {left : Option (List ℕ)} {wire : List ℕ → ClientState} {sent : Option (List ℕ)} {acts : Option (List Told)} {held held' : Option (List ℕ)} →
-    WritesTo (tally_text tally) how held held' → Came trace (writes_tally tally) input old (stand left wire sent acts held) → Ended trace how input old (stand left wire sent acts held')
-reported tally {how} wrote f = ended_on f (written tally how wrote)
+-- a machine on a line, by how it came through its calls
+module _ (job : AnswerJob) (devices : List DeviceInfo) (some : 1 ≤ job.calls) (line : HasLine job devices) where
+  abbrev line_trace : ToCome → AnswerTrace
+  line_trace a = trace_of (goes_on doing (attends_all job) writes_tally a)
+
+  -- it ran as its trace
+  ended_ran : (w : ClientState) (runs : List ChildRun) {how : AnswerEnd} {s s' : Seen} (done : MachineDeeds) → is_of_line how ≡ true → MatchesAnswer (line_trace (record { wire = w; runs = runs })) how done → Added s done.work s' → AnswerRan job devices w how s s'
+  ended_ran w runs {how} {s} {s'} done way m added =
+      let a : ToCome = record { wire = w; runs = runs } in
+      let t = line_trace a in
+      let k = line_keeps job w runs (ne_eqb 0 job.calls (λ none. absurd (omega (arith, some, none)))) in
+      let ran : RanAs w.order job devices t runs how s s' = record {
+        done = done;
+        added = added;
+        followed = m;
+        answered = λ _. kept_acts w.order job t runs k done how m;
+        hung_up = hook_left w.order job t runs k done how way m;
+        starves = λ is. by_cause w.order job t runs k done how m (λ outer. inr outer) (λ ends. inl (ends ∙ ap machine_end is));
+        complete = λ _ served enough. by_cause w.order job t runs k done how m (λ outer. inr (inr outer)) (λ ends. by_finish t.finish how ends way served enough);
+      } in
+      record { runs = runs; ran = subst (λ (x : AnswerTrace). RanAs w.order job devices x runs how s s') (sym (ap (λ (x : Option Bool). trace_of (if_line job x (length devices) a)) line)) ran }
+
+  module _ {left left' : Option (List ℕ)} {client client' : List ℕ → ClientState} {sent sent' : Option (List ℕ)} {acts acts' : Option (List Told)} {held : Option (List ℕ)} {input : List ℕ} (told : left ≡ Some input) {how : AnswerEnd} where
+    -- it ended within them
+    pub stopped_ran : is_of_calls how ≡ true → Went {X = Tally} (attends_all job) (Err how) (stand left client sent acts held) (stand left' client' sent' acts' held) → AnswerRan job devices (client input) how (seen_as sent acts held) (seen_as sent' acts' held)
+    unfolding goes_on
+    stopped_ran way w =
+        let a : ToCome = record { wire = client input; runs = w.runs [] } in
+        let c = (w.goes []).came a (input, told, refl) in
+        ended_ran (client input) (w.runs []) c.0 (line_of_calls how way) (stopped_matches (attends_all job a) (λ y. writes_tally y.0 y.1) how c.0 way c.1) c.2
+
+    -- it took them all, and wrote the line, or a part of it
+    pub reported_ran : {tally : Tally} {held' : Option (List ℕ)} → Went (attends_all job) (Ok tally) (stand left client sent acts held) (stand left' client' sent' acts' held) → is_of_line how ≡ true → WritesTo (tally_text tally) how held held' →
+        AnswerRan job devices (client input) how (seen_as sent acts held) (seen_as sent' acts' held')
+    unfolding goes_on
+    reported_ran {tally} {held'} w way wrote =
+        let a : ToCome = record { wire = client input; runs = w.runs [] } in
+        let c = (w.goes []).came a (input, told, refl) in
+        let t = written tally c.0 (seen_as sent' acts' held) held' how wrote in
+        let whole = λ (o : MachineOutcome Tally). trace_of (followed doing o.did o.end (λ y. writes_tally y.0 y.1)) in
+        ended_ran (client input) (w.runs []) (doing.joined c.2 (deeds_of_work (writing t.0))) way (matches_after c.2 (ap whole c.3) t.1) (added_on c.4 t.2)
 
 -- a machine whose device is missing, or has no line
 module _ (job : AnswerJob) (devices : List DeviceInfo) (w : ClientState) (s : Seen) (none : HasLine job devices → ⊥) where
   lacking_by : (finish : AnswerFinish) → machine_end finish ≢ end.OutOfMemory → machine_end finish ≢ end.SinkFault → finish ≢ child_starved → ((hung_up refused_off : Type 0) → LeavesHook (machine_end finish) finish hung_up refused_off []) →
-      RanAs w.order job devices (stops finish) [] (machine_end finish) s s
+      RanAs w.order job devices (trace_of (stops finish (record { wire = w; runs = [] }))) [] (machine_end finish) s s
   lacking_by finish fed wrote starved untouched = record {
-    done = deeds_of_work no_work;
+    done = doing.nothing;
     added = added_none s;
-    followed = record { undone = deeds_of_work no_work; all = refl; whole = λ inner. (refl, refl); acted = λ other. (refl, refl); starved = λ e. absurd (fed e); reported = λ e. absurd (wrote e) };
+    followed = record { undone = doing.nothing; all = refl; whole = λ inner. (refl, refl); acted = λ other. (refl, refl); starved = λ e. absurd (fed e); reported = λ e. absurd (wrote e) };
     answered = λ l. absurd (none l);
     hung_up = untouched _ _;
     starves = λ e. absurd (starved e);
@@ -169,7 +189,7 @@ module _ (job : AnswerJob) (devices : List DeviceInfo) (w : ClientState) (s : Se
   }
 
 lacking_at : (job : AnswerJob) (devices : List DeviceInfo) (w : ClientState) {how : AnswerEnd} (s : Seen) (line : Option Bool) → line_at job devices ≡ line → line_or_end job line (length devices) ≡ Err how →
-    RanAs w.order job devices (if_line job line (length devices) (record { wire = w; runs = [] })) [] how s s
+    RanAs w.order job devices (trace_of (if_line job line (length devices) (record { wire = w; runs = [] }))) [] how s s
 lacking_at job devices w s (Some true) at is = cc is
 lacking_at job devices w {how} s (Some false) at is =
     let same : how ≡ end.NoLine job.device = cc in

@@ -1,5 +1,5 @@
 -- A machine on a link that is set up first.
-use Rattle.std.proofs.Common.{◌≡◌, ◌≢◌, ◌⊎◌, inl, inr, ℕ, List, [], ◌∷◌, ◌++◌, refl, sym, ap, ◌∙◌, subst, Result, Ok, Err, Option, Some}
+use Rattle.std.proofs.Common.{◌≡◌, ◌≢◌, ◌⊎◌, inl, inr, ℕ, true, List, [], ◌∷◌, refl, sym, ap, ◌∙◌, subst, Result, Ok, Err, Option, Some}
 use Rattle.clap.specs.Words.{Text}
 use Rattle.af_io.specs.Observed.{Appended}
 use Rattle.af_io.specs.Flow.{AppendedPrefix}
@@ -7,6 +7,7 @@ use Rattle.af_io.specs.Dial.{AppendedBack, IsFirstOf, ToldLink}
 use Rattle.af_io.proofs.AppendedLemmas.{appended_none}
 use Rattle.af_wire.specs.declared.order.Order.TheVariants.{Big}
 use Rattle.af_wire.specs.Front.{setup_bytes}
+use Rattle.af_dialogue.specs.Parts.{followed}
 use Rattle.af_process.specs.Acts.{Told}
 use Rattle.af_request.specs.declared.reply.DeviceInfo.{DeviceInfo}
 use Rattle.af_lib.specs.declared.fault.ConnFault.{ConnFault}
@@ -18,13 +19,19 @@ use Rattle.af_toolkit.specs.Ends.{client_of}
 use Rattle.af_toolkit.proofs.TracePartLemmas.{client_begun, setup_known}
 use Rattle.af_answer.specs.declared.end.AnswerEnd.{AnswerEnd}
 use Rattle.af_answer.specs.declared.job.AnswerJob.{AnswerJob}
-use Rattle.af_answer.specs.AnswerTrace.{answer_trace, both_deeds, connection_end, deeds_of_work, exchanges, met_fault, sending}
+use Rattle.af_answer.specs.AnswerTrace.{MachineOutcome, answer_trace, answers, connection_end, deeds_of_work, doing, exchanged, met_fault, sending, trace_of}
 use Rattle.af_answer.specs.AnswerParts.{seen_as, stand}
 use Rattle.af_answer.specs.Answered.{AnswerRan, RanAs}
 use Rattle.af_answer.specs.AnswerWords.{AnswerWords, answer_words, words_of_job}
-use Rattle.af_answer.specs.AnswerRun.{AskedForServer, Attended, FailedSetup, LinkRan, NotDialled, RanAsked, RanFirst, RanOver, Surroundings, whole_trace}
-use Rattle.af_answer.proofs.AnswerPartLemmas.{added_on, matches_after}
-use Rattle.af_answer.proofs.AnswerStepLemmas.{exchange_went}
+use Rattle.af_answer.specs.AnswerRun.{AskedForServer, Attended, FailedSetup, LinkRan, NotDialled, RanAsked, RanFirst, RanOver, Surroundings, sets_up, whole_trace}
+use Rattle.af_answer.specs.Outcomes.{is_of_calls}
+use Rattle.af_answer.proofs.AnswerPartLemmas.{added_on, matches_after, stopped_matches}
+use Rattle.af_answer.proofs.AnswerStepLemmas.{exchange_came}
+
+-- a fault of a connection is an end of calls
+fault_of_calls : (f : ConnFault) → is_of_calls (connection_end f) ≡ true
+fault_of_calls fault.LinkFault = refl
+fault_of_calls f = refl
 
 -- a link that was not set up was answered with a fault, unless it failed
 setup_failed : (input : List ℕ) (f : ConnFault) {sent sent' : Option (List ℕ)} {acts : Option (List Told)} {held : Option (List ℕ)} → AppendedPrefix sent (setup_bytes Big) sent' →
@@ -38,9 +45,15 @@ pub not_set_up_ran : {L : Type 0} {left sent : L → Option (List ℕ)} {faults 
 unfolding whole_trace
 not_set_up_ran {left} {sent} {faults} job {input} {old} {new} {ring} {f} {acts} {held} is told =
     let known = setup_known Big left sent faults old new ring input (Err f) is told in
-    let e = exchange_went met_fault (λ f. refl) (setup_bytes Big) (setup_answer Big input) (client_after_setup Big input) (λ a. whole_trace job input a.runs) (answer_trace job) input
-    (stand (left old) (new_client Big ring) (sent old) acts held) (λ runs. refl) (Err f) is.fresh is.sends known in
-    record { runs = e.runs ++ []; done = e.done; added = e.added; followed = e.matches []; attended = λ devices set. inl (setup_failed input f is.sends.part (λ sound. (known sound).2) devices set) }
+    let c = exchange_came met_fault (λ f. refl) (setup_bytes Big) (setup_answer Big input) (client_after_setup Big input)
+    (stand (left old) (new_client Big ring) (sent old) acts held []) (stand (left new) (new_client Big ring) (sent new) acts held []) (Err f) is.fresh refl is.sends known in
+    record {
+      runs = [];
+      done = c.0;
+      added = c.2;
+      followed = stopped_matches (sets_up input []) (λ y. answers job y.0 y.1) (connection_end f) c.0 (fault_of_calls f) c.1;
+      attended = λ devices set. inl (setup_failed input f is.sends.part (λ sound. (known sound).2) devices set);
+    }
 
 -- one that was
 pub set_up_ran : {L : Type 0} {left sent : L → Option (List ℕ)} {faults : L → ℕ} (job : AnswerJob) {input : List ℕ} {far : L} (conn : ConnState L) {how : AnswerEnd} {s' : Option (List ℕ)} {a a' : Option (List Told)} {h h' : Option (List ℕ)} →
@@ -54,11 +67,14 @@ set_up_ran {left} {sent} {faults} job {input} {far} conn {how} {s'} {a} {a'} {h}
     let ran = subst (λ (v : ClientState). RanAs v.order job conn.devices (answer_trace job conn.devices (record { wire = v; runs = r.runs })) r.runs how (seen_as (sent conn.link) a h) (seen_as s' a' h')) place r.ran in
     let set : Appended (sent far) (setup_bytes Big) (sent conn.link) = is.sends.whole (λ e. cc e) in
     let setup = deeds_of_work (sending (setup_bytes Big)) in
+    let whole = λ (x : Result (List DeviceInfo) ConnFault).
+    let o : MachineOutcome (List DeviceInfo) = exchanged (setup_bytes Big) met_fault x (record { wire = client_after_setup Big input; runs = r.runs }) in
+    trace_of (followed doing o.did o.end (λ y. answers job y.0 y.1)) in
     record {
       runs = r.runs;
-      done = both_deeds setup ran.done;
+      done = doing.joined setup ran.done;
       added = added_on {b = seen_as (sent conn.link) a h} {w = sending (setup_bytes Big)} {v = ran.done.work} (record { link = set; children = appended_none a; sink = appended_none h }) ran.added;
-      followed = matches_after setup (ap (λ (x : Result (List DeviceInfo) ConnFault). exchanges (setup_bytes Big) met_fault x (client_after_setup Big input) r.runs (answer_trace job)) (sym k.2)) ran.followed;
+      followed = matches_after setup (ap whole (sym k.2)) ran.followed;
       attended = λ devices same.
           let both : (let x : Result (List DeviceInfo) ConnFault = Ok conn.devices in x ≡ Ok devices) = k.2 ∙ same in
           let devices_are : conn.devices ≡ devices = cc in

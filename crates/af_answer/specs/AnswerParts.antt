@@ -1,5 +1,6 @@
 -- How far a part of an answering machine came in its trace.
-use Rattle.std.specs.Prelude.{◌≡◌, ◌≢◌, ℕ, Bool, true, false, List, [], ◌++◌, Result, Ok, Err, Option, Some}
+use Rattle.std.specs.Prelude.{◌≡◌, ◌≢◌, ℕ, Bool, true, false, List, [], Result, Option, Some}
+use Rattle.af_dialogue.specs.Parts.{Goes, ProgramKind}
 use Rattle.af_io.specs.Observed.{Appended}
 use Rattle.af_io.specs.Flow.{AppendedPrefix}
 use Rattle.af_process.specs.Acts.{Told}
@@ -8,8 +9,8 @@ use Rattle.af_toolkit.specs.Trace.{ClientState}
 use Rattle.af_toolkit.specs.Ends.{client_of}
 use Rattle.af_answer.specs.declared.end.AnswerEnd.{AnswerEnd}
 use Rattle.af_answer.specs.declared.end.AnswerEnd.TheVariants as end
-use Rattle.af_answer.specs.AnswerTrace.{AnswerPart, AnswerTrace, Deeds, ToCome, Work, all_answered, both_deeds, child_starved}
-use Rattle.af_answer.specs.AnswerTrace.{deeds_of_work, machine_end, no_work, with_deeds}
+use Rattle.af_answer.specs.AnswerTrace.{AnswerFinish, AnswerTrace, MachineDeeds, MachinePart, ToCome, Work, all_answered}
+use Rattle.af_answer.specs.AnswerTrace.{child_starved, doing, machine_end}
 use Rattle.af_answer.specs.Children.{ChildRun}
 
 -- the ends that come from outside: neither the bytes of the link nor the children decide them
@@ -21,10 +22,10 @@ is_from_outside _ = false
 
 -- A machine ended and has done this: the first of what its trace has. If nothing from outside ended it, this is all of that, and
 -- the end is that of the trace.
-pub record MatchesAnswer (trace : AnswerTrace) (how : AnswerEnd) (done : Deeds) : Type 0 where
-  pub undone : Deeds
-  pub all : trace.deeds ≡ both_deeds done undone
-  pub whole : is_from_outside how ≡ false → (how ≡ machine_end trace.finish) × (undone ≡ deeds_of_work no_work)
+pub record MatchesAnswer (trace : AnswerTrace) (how : AnswerEnd) (done : MachineDeeds) : Type 0 where
+  pub undone : MachineDeeds
+  pub all : trace.deeds ≡ doing.joined done undone
+  pub whole : is_from_outside how ≡ false → (how ≡ machine_end trace.finish) × (undone ≡ doing.nothing)
   -- all was sent and all children were run, unless the link failed
   pub acted : how ≢ end.LinkFault → (undone.work.sends ≡ []) × (undone.work.told ≡ [])
   -- memory runs out only for a child, and the sink fails only where all calls were taken
@@ -46,51 +47,43 @@ pub record Added (before : Seen) (work : Work) (after : Seen) : Type 0 where
   pub children : Appended before.acts work.told after.acts
   pub sink : Appended before.held work.output after.held
 
--- where a machine stands: the bytes that its link has left, the client that it is with these, and what is seen of it
+-- where a machine stands: the bytes that its link has left, the client by these, how its children are going to run, and what is
+-- seen of it
 pub record Stand : Type 0 where
   pub left : Option (List ℕ)
-  pub wire : List ℕ → ClientState
+  pub client : List ℕ → ClientState
+  pub runs : List ChildRun
   pub seen : Seen
 
-abbrev pub stand : Option (List ℕ) → (List ℕ → ClientState) → (sent : Option (List ℕ)) → (acts : Option (List Told)) →
-    (held : Option (List ℕ)) → Stand
-stand left wire sent acts held = record { left = left; wire = wire; seen = seen_as sent acts held }
+abbrev pub stand : (left : Option (List ℕ)) → (List ℕ → ClientState) → (sent : Option (List ℕ)) → (acts : Option (List Told)) →
+    (held : Option (List ℕ)) → List ChildRun → Stand
+stand left client sent acts held runs = record { left = left; client = client; runs = runs; seen = seen_as sent acts held }
 
--- From one stand, whose link gives these bytes, a machine came to another: its trace from the first has these deeds, and goes on
--- as the later one from the second.
-pub record Came (trace later : ToCome → AnswerTrace) (input : List ℕ) (old new : Stand) : Type 0 where
-  pub done : Deeds
-  pub runs : List ChildRun
-  pub rest : List ℕ
-  pub is_left : new.left ≡ Some rest
-  pub goes : (more : List ChildRun) → trace (record { wire = old.wire input; runs = runs ++ more })
-      ≡ with_deeds done (later (record { wire = new.wire rest; runs = more }))
-  pub added : Added old.seen done.work new.seen
+-- Answering machines, as programs. How children are going to run is not known before, so where a machine stands goes by it.
+abbrev pub answering : ProgramKind ToCome MachineDeeds AnswerFinish AnswerEnd Stand
+answering = record {
+  deeds = doing;
+  Reports = λ how finish. (how ≡ machine_end finish) × (how ≡ end.OutOfMemory → finish ≡ child_starved);
+  is_outer = is_from_outside;
+  Stands = λ p a. (input : List ℕ) × (p.left ≡ Some input) × (a ≡ record { wire = p.client input; runs = p.runs });
+  Shows = λ p did q. Added p.seen did.work q.seen;
+}
 
--- or it ended, and has done some of its trace
-pub record Ended (trace : ToCome → AnswerTrace) (how : AnswerEnd) (input : List ℕ) (old new : Stand) : Type 0 where
-  pub done : Deeds
-  pub runs : List ChildRun
-  pub matches : (more : List ChildRun) → MatchesAnswer (trace (record { wire = old.wire input; runs = runs ++ more })) how done
-  pub added : Added old.seen done.work new.seen
-
--- how a part of it went: it came to a value, by which its trace goes on; or the machine ended
-abbrev pub Went : {X : Type 0} → (ToCome → AnswerTrace) → Result X AnswerEnd → (X → ToCome → AnswerTrace) → List ℕ →
-    (old new : Stand) → Type 0
-Went trace (Ok x) next input old new = Came trace (next x) input old new
-Went trace (Err how) next input old new = Ended trace how input old new
+-- A part of a machine went so, from one stand to another: its children ran in some way before those that run later.
+pub record Went {X : Type 0} (part : MachinePart X) (result : Result X AnswerEnd) (old new : List ChildRun → Stand) : Type 0 where
+  pub runs : (later : List ChildRun) → List ChildRun
+  pub goes : (later : List ChildRun) → Goes answering part result (old (runs later)) (new later)
 
 -- where a machine stands on a connection
 abbrev pub stand_on : {L : Type 0} → (left sent : L → Option (List ℕ)) → ConnState L → (acts : Option (List Told)) →
-    (held : Option (List ℕ)) → Stand
+    (held : Option (List ℕ)) → List ChildRun → Stand
 stand_on left sent conn acts held = stand (left conn.link) (client_of conn) (sent conn.link) acts held
 
--- A part went so over a connection whose link is observable, whatever follows it. It writes nothing.
+-- A part went so over a connection, and wrote nothing.
 abbrev pub GoesBy : {L X : Type 0} → (left sent : L → Option (List ℕ)) → (old new : ConnState L) →
-    (acts acts' : Option (List Told)) → AnswerPart X → Result X AnswerEnd → Type 0
-GoesBy {L} {X} left sent old new acts acts' part result =
-    (next : X → ToCome → AnswerTrace) (input : List ℕ) (held : Option (List ℕ)) → left old.link ≡ Some input →
-    Went (λ a. part a next) result next input (stand_on left sent old acts held) (stand_on left sent new acts' held)
+    (acts acts' : Option (List Told)) → MachinePart X → Result X AnswerEnd → Type 0
+GoesBy left sent old new acts acts' part result = (held : Option (List ℕ)) →
+    Went part result (stand_on left sent old acts held) (stand_on left sent new acts' held)
 
 -- a text was written whole, or a prefix of it where the sink failed
 abbrev pub WritesTo : List ℕ → AnswerEnd → (held held' : Option (List ℕ)) → Type 0

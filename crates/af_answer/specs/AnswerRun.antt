@@ -1,6 +1,7 @@
 -- An answering machine by its words: its server is dialled, the link set up in Big order, and its job done.
 use Rattle.std.specs.Prelude.{◌≡◌, ◌⊎◌, ℕ, List, [], ◌∷◌, Ok, Option, Some}
 use Rattle.clap.specs.Words.{Text}
+use Rattle.af_dialogue.specs.Parts.{followed}
 use Rattle.af_io.specs.Observed.{Appended}
 use Rattle.af_io.specs.Flow.{AppendedPrefix}
 use Rattle.af_io.specs.Dial.{AppendedBack, ToldLink}
@@ -13,15 +14,21 @@ use Rattle.af_answer.specs.declared.end.AnswerEnd.{AnswerEnd}
 use Rattle.af_answer.specs.declared.end.AnswerEnd.TheVariants as end
 use Rattle.af_answer.specs.declared.job.AnswerJob.{AnswerJob}
 use Rattle.af_answer.specs.Children.{ChildRun}
-use Rattle.af_answer.specs.AnswerTrace.{AnswerTrace, Deeds, answer_trace, exchanges, met_fault}
+use Rattle.af_answer.specs.AnswerTrace.{AnswerTrace, MachineDeeds, MachineOutcome, answer_trace, answers, doing, exchanged}
+use Rattle.af_answer.specs.AnswerTrace.{met_fault, trace_of}
 use Rattle.af_answer.specs.AnswerParts.{Added, MatchesAnswer, Seen, seen_as}
 use Rattle.af_answer.specs.Answered.{RanAs}
 use Rattle.af_answer.specs.AnswerWords.{AnswerWords, words_of_job}
 
+-- a link is set up, and its answer gives the devices of the server
+abbrev pub sets_up : (input : List ℕ) → List ChildRun → MachineOutcome (List DeviceInfo)
+sets_up input runs =
+    exchanged (setup_bytes Big) met_fault (setup_answer Big input) (record { wire = client_after_setup Big input; runs = runs })
+
 -- the trace of a machine on a link that is set up first, by all bytes that the link gives and by how the children run
 unfoldable pub whole_trace : AnswerJob → List ℕ → List ChildRun → AnswerTrace
 whole_trace job input runs =
-    exchanges (setup_bytes Big) met_fault (setup_answer Big input) (client_after_setup Big input) runs (answer_trace job)
+    trace_of (followed doing (sets_up input runs).did (sets_up input runs).end (λ y. answers job y.0 y.1))
 
 -- a link was set up, and then the machine ran on it
 pub record Attended (job : AnswerJob) (devices : List DeviceInfo) (input : List ℕ) (runs : List ChildRun) (how : AnswerEnd)
@@ -40,7 +47,7 @@ pub record FailedSetup (how : AnswerEnd) (before after : Seen) : Type 0 where
 -- outside ended the machine. If the link was set up, all of what is said of a machine on a connection holds.
 pub record LinkRan (job : AnswerJob) (input : List ℕ) (how : AnswerEnd) (before after : Seen) : Type 0 where
   pub runs : List ChildRun
-  pub done : Deeds
+  pub done : MachineDeeds
   pub added : Added before done.work after
   pub followed : MatchesAnswer (whole_trace job input runs) how done
   pub attended : (devices : List DeviceInfo) → setup_answer Big input ≡ Ok devices →

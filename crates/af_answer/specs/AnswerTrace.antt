@@ -1,12 +1,12 @@
--- The trace of an answering machine: the events that it gets, what it sends, the acts of its children, what it writes, and why it
--- ends. It goes by what the link gives and by how the children run. The machine sends each request once it has read the reply to
--- the one before, so a trace goes on from reply to reply.
+-- The trace of an answering machine, part by part: the events that it gets, what it sends, the acts of its children, what it
+-- writes, and why it ends. It goes by what the link gives and by how the children run.
 use Rattle.std.specs.Prelude.{ℕ, zero, suc, ◌==◌, if◌then◌else◌, Bool, true, false, List, [], ◌∷◌, ◌++◌, codes, decimal, drop}
 use Rattle.std.specs.Prelude.{length, option_map, slice_get, Result, Ok, Err, Option, None, Some, is_some, unwrap_or}
 use Rattle.af_wire.specs.declared.event.Event.{Event}
 use Rattle.af_request.specs.declared.reply.DeviceInfo.{DeviceInfo}
 use Rattle.af_request.specs.Asked.{Asked, hook_switch, select_events}
 use Rattle.af_request.specs.Requests.{request_bytes}
+use Rattle.af_dialogue.specs.Parts.{Deeds, Outcome, Part, called, goes_on, has_value, outcome}
 use Rattle.af_process.specs.Acts.{Told}
 use Rattle.af_lib.specs.declared.fault.ConnFault.{ConnFault}
 use Rattle.af_lib.specs.declared.fault.ConnFault.TheVariants as fault
@@ -65,37 +65,30 @@ abbrev pub both_works : Work → Work → Work
 both_works w v = record { sends = w.sends ++ v.sends; told = w.told ++ v.told; output = w.output ++ v.output }
 
 -- what a machine has done: the events that it got, and its work
-pub record Deeds : Type 0 where
+pub record MachineDeeds : Type 0 where
   pub heard : List Event
   pub work : Work
 
-abbrev pub both_deeds : Deeds → Deeds → Deeds
-both_deeds d e = record { heard = d.heard ++ e.heard; work = both_works d.work e.work }
-
-abbrev pub deeds_of_event : Event → Deeds
-deeds_of_event e = record { heard = e ∷ []; work = no_work }
-
-abbrev pub deeds_of_work : Work → Deeds
+abbrev pub deeds_of_work : Work → MachineDeeds
 deeds_of_work w = record { heard = []; work = w }
 
-pub record AnswerTrace : Type 0 where
-  pub deeds : Deeds
-  pub finish : AnswerFinish
+-- a machine does nothing, or some deeds and then others
+abbrev pub doing : Deeds MachineDeeds
+doing = record {
+  nothing = deeds_of_work no_work;
+  joined = λ d e. record { heard = d.heard ++ e.heard; work = both_works d.work e.work };
+}
 
--- this is done, and then nothing more
-abbrev pub stops_after : Work → AnswerFinish → AnswerTrace
-stops_after w finish = record { deeds = deeds_of_work w; finish = finish }
+-- A part of a machine goes by what is to come. It ends with a value, or with the end of the machine.
+abbrev pub MachinePart : Type 0 → Type 0
+MachinePart X = Part ToCome MachineDeeds AnswerFinish X
 
-abbrev pub stops : AnswerFinish → AnswerTrace
-stops finish = stops_after no_work finish
+abbrev pub MachineOutcome : Type 0 → Type 0
+MachineOutcome X = Outcome MachineDeeds (X × ToCome) AnswerFinish
 
--- these were done first
-abbrev pub with_deeds : Deeds → AnswerTrace → AnswerTrace
-with_deeds d t = record { deeds = both_deeds d t.deeds; finish = t.finish }
-
--- A part of a trace is a trace with what follows it left open: that goes by the value to which the part comes.
-abbrev pub AnswerPart : Type 0 → Type 0
-AnswerPart X = ToCome → (X → ToCome → AnswerTrace) → AnswerTrace
+-- nothing more is done
+abbrev pub stops : {X : Type 0} → AnswerFinish → MachinePart X
+stops finish a = outcome doing.nothing (Err finish)
 
 -- why a machine ends if its request is answered with a fault
 abbrev pub refusal : Asked → ConnFault → AnswerFinish
@@ -103,21 +96,19 @@ refusal (hook_switch device zero) fault = on_hook_fault fault
 refusal (hook_switch device (suc off)) fault = off_hook_fault fault
 refusal _ fault = met_fault fault
 
--- what follows an answer: a fault ends the machine, for this reason
-abbrev pub by_answer : {X : Type 0} → (ConnFault → AnswerFinish) → Result X ConnFault → AnswerPart X
-by_answer reason (Ok x) a next = next x a
-by_answer reason (Err fault) a next = stops (reason fault)
+-- an answer of a connection: a fault ends the machine, for this reason
+abbrev pub by_answer : {X : Type 0} → (ConnFault → AnswerFinish) → Result X ConnFault → Result X AnswerFinish
+by_answer reason (Ok x) = Ok x
+by_answer reason (Err fault) = Err (reason fault)
 
--- a message is sent, and what follows goes by its answer, from where the client stands then
-abbrev pub exchanges : {X : Type 0} → List ℕ → (ConnFault → AnswerFinish) → Result X ConnFault → ClientState → List ChildRun →
-    (X → ToCome → AnswerTrace) → AnswerTrace
-exchanges bytes reason answer after runs next =
-    with_deeds (deeds_of_work (sending bytes)) (by_answer reason answer (record { wire = after; runs = runs }) next)
+-- a message is sent, which is answered so, and the client stands there then
+abbrev pub exchanged : {X : Type 0} → List ℕ → (ConnFault → AnswerFinish) → Result X ConnFault → ToCome → MachineOutcome X
+exchanged bytes reason answer there = called (deeds_of_work (sending bytes)) (by_answer reason answer) there
 
--- a request is sent, and what follows goes by its answer
-unfoldable pub requests : Asked → AnswerPart (Unit {0})
-requests asked a next =
-    exchanges (request_bytes a.wire.order asked) (refusal asked) (answer_on asked as_done a.wire) (after_reply a.wire) a.runs next
+-- a request is sent, and its answer is the value
+unfoldable pub requests : Asked → MachinePart (Unit {0})
+requests asked a = exchanged (request_bytes a.wire.order asked) (refusal asked) (answer_on asked as_done a.wire)
+    (record { wire = after_reply a.wire; runs = a.runs })
 
 -- the event that a client gets next: the oldest of its ring, or else the next message
 abbrev pub next_event : ClientState → Result Event ConnFault
@@ -130,56 +121,61 @@ after_event w = record w {
   input = if is_some (slice_get w.ring.events 0) then w.input else after_message w.order w.input;
 }
 
--- an event is waited for, for which nothing is sent, and what follows goes by it
-unfoldable pub awaits_event : AnswerPart Event
-awaits_event a next =
-    exchanges [] met_fault (next_event a.wire) (after_event a.wire) a.runs (λ e a. with_deeds (deeds_of_event e) (next e a))
+-- an event is heard, if one was handed out
+abbrev pub heard_of : Result Event ConnFault → MachineDeeds
+heard_of (Ok e) = record { heard = e ∷ []; work = no_work }
+heard_of (Err fault) = doing.nothing
+
+-- an event is waited for, for which nothing is sent
+unfoldable pub awaits_event : MachinePart Event
+awaits_event a = called (heard_of (next_event a.wire)) (by_answer met_fault (next_event a.wire))
+    (record { wire = after_event a.wire; runs = a.runs })
 
 -- how the next child runs: if nothing is stated of it, it does not start
 abbrev pub first_run : List ChildRun → ChildRun
 first_run [] = start_failed
 first_run (run ∷ runs) = run
 
--- a text is run as a child, and what follows goes by its end
-unfoldable pub runs_child : List ℕ → AnswerPart ChildEnd
-runs_child text a next =
-    with_deeds (deeds_of_work (running (told_of_run (shell_words text) (first_run a.runs))))
-    (next (run_end (first_run a.runs)) (record { wire = a.wire; runs = drop 1 a.runs }))
+-- a text is run as a child, and how that ended is the value
+unfoldable pub runs_child : List ℕ → MachinePart ChildEnd
+runs_child text a = called (deeds_of_work (running (told_of_run (shell_words text) (first_run a.runs))))
+    (Ok (run_end (first_run a.runs))) (record { wire = a.wire; runs = drop 1 a.runs })
 
 -- the message is recorded after a good greeting, and else the call ends as the greeting did
-abbrev pub leaves_message : AnswerJob → ChildEnd → AnswerPart ChildEnd
-leaves_message job ended.Good a next = runs_child job.message.bytes a next
-leaves_message job greeting a next = next greeting a
+abbrev pub leaves_message : AnswerJob → ChildEnd → MachinePart ChildEnd
+leaves_message job ended.Good = runs_child job.message.bytes
+leaves_message job greeting = has_value doing greeting
 
 -- a call is taken, and then the hook is put on
-unfoldable pub takes_call : AnswerJob → AnswerPart ChildEnd
-takes_call job a next =
-    requests (hook_switch job.device 1) a (λ _ a.
-    runs_child job.greeting.bytes a (λ greeting a.
-    leaves_message job greeting a (λ how a.
-    requests (hook_switch job.device 0) a (λ _ a. next how a))))
+unfoldable pub takes_call : AnswerJob → MachinePart ChildEnd
+takes_call job =
+    goes_on doing (requests (hook_switch job.device 1)) (λ _.
+    goes_on doing (runs_child job.greeting.bytes) (λ greeting.
+    goes_on doing (leaves_message job greeting) (λ how.
+    goes_on doing (requests (hook_switch job.device 0)) (λ _.
+    has_value doing how))))
 
 -- the most events that are read while waiting for one call
 abbrev pub most_for_a_call : ℕ
 most_for_a_call = 1000000
 
 -- It rings until a call is to be taken, or n events were read without that.
-unfoldable pub awaits_call : ℕ → AnswerJob → (rings : ℕ) → AnswerPart (Unit {0})
-awaits_call zero job rings a next = stops rang_too_little
-awaits_call (suc n) job rings a next = awaits_event a (λ e a.
-    if rings_after job rings e == job.rings then next tt a else awaits_call n job (rings_after job rings e) a next)
+unfoldable pub awaits_call : ℕ → AnswerJob → (rings : ℕ) → MachinePart (Unit {0})
+awaits_call zero job rings = stops rang_too_little
+awaits_call (suc n) job rings = goes_on doing awaits_event (λ e.
+    if rings_after job rings e == job.rings then has_value doing tt else awaits_call n job (rings_after job rings e))
 
 -- n calls are awaited and taken, after those that are counted, or fewer if memory ran out in one
-unfoldable pub attends : ℕ → AnswerJob → Tally → AnswerPart Tally
-attends zero job t a next = next t a
-attends (suc n) job t a next =
-    awaits_call most_for_a_call job 0 a (λ _ a.
-    takes_call job a (λ how a.
-    if is_starved how then stops child_starved else attends n job (tally_after how t) a next))
+unfoldable pub attends : ℕ → AnswerJob → Tally → MachinePart Tally
+attends zero job t = has_value doing t
+attends (suc n) job t =
+    goes_on doing (awaits_call most_for_a_call job 0) (λ _.
+    goes_on doing (takes_call job) (λ how.
+    if is_starved how then stops child_starved else attends n job (tally_after how t)))
 
 -- rings and hooks are asked for, and then all calls are taken
-unfoldable pub attends_all : AnswerJob → AnswerPart Tally
-attends_all job a next = requests (select_events job.device 3) a (λ _ a. attends job.calls job no_calls a next)
+unfoldable pub attends_all : AnswerJob → MachinePart Tally
+attends_all job = goes_on doing (requests (select_events job.device 3)) (λ _. attends job.calls job no_calls)
 
 -- the line that a machine writes at its end
 unfoldable pub tally_text : Tally → List ℕ
@@ -187,23 +183,40 @@ tally_text t =
     codes "answered " ++ decimal t.answered ++ codes " recorded " ++ decimal t.recorded ++ codes " failed " ++ decimal t.failed
     ++ codes "\n"
 
--- this is written, and then nothing more is done
-abbrev pub writes_tally : Tally → ToCome → AnswerTrace
-writes_tally t a = stops_after (writing (tally_text t)) all_answered
+-- the line is written
+abbrev pub writes_tally : Tally → MachinePart (Unit {0})
+writes_tally t a = called (deeds_of_work (writing (tally_text t))) (Ok tt) a
 
 -- whether the device of a job has a line, if it exists
 abbrev pub line_at : AnswerJob → List DeviceInfo → Option Bool
 line_at job devices = option_map (λ (device : DeviceInfo). device.line) (slice_get devices job.device)
 
 -- the calls of a line are taken, and their numbers written
-abbrev pub if_line : AnswerJob → Option Bool → ℕ → ToCome → AnswerTrace
-if_line job (Some true) devices a = attends_all job a writes_tally
-if_line job (Some false) devices a = stops (line_missing job.device)
-if_line job None devices a = stops (device_missing devices)
+abbrev pub if_line : AnswerJob → Option Bool → ℕ → MachinePart (Unit {0})
+if_line job (Some true) devices = goes_on doing (attends_all job) writes_tally
+if_line job (Some false) devices = stops (line_missing job.device)
+if_line job None devices = stops (device_missing devices)
+
+-- a machine on a link that is set up, by the devices of the server
+abbrev pub answers : AnswerJob → List DeviceInfo → MachinePart (Unit {0})
+answers job devices = if_line job (line_at job devices) (length devices)
+
+-- what a machine does, and why it ends
+pub record AnswerTrace : Type 0 where
+  pub deeds : MachineDeeds
+  pub finish : AnswerFinish
+
+-- a machine that came to the end of its parts has answered all calls
+abbrev pub finish_of : Result (Unit {0} × ToCome) AnswerFinish → AnswerFinish
+finish_of (Ok y) = all_answered
+finish_of (Err finish) = finish
+
+abbrev pub trace_of : MachineOutcome (Unit {0}) → AnswerTrace
+trace_of o = record { deeds = o.did; finish = finish_of o.end }
 
 -- the trace of an answering machine, by the devices of the server and what is to come
 abbrev pub answer_trace : AnswerJob → List DeviceInfo → ToCome → AnswerTrace
-answer_trace job devices a = if_line job (line_at job devices) (length devices) a
+answer_trace job devices a = trace_of (answers job devices a)
 
 -- how a machine ends at a fault of its connection
 abbrev pub connection_end : ConnFault → AnswerEnd

@@ -15,7 +15,7 @@ use Rattle.af_answer.specs.declared.end.AnswerEnd.{AnswerEnd}
 use Rattle.af_answer.specs.declared.end.AnswerEnd.TheVariants as end
 use Rattle.af_answer.specs.declared.job.AnswerJob.{AnswerJob}
 use Rattle.af_answer.specs.Acts.{MachineAct, answer_acts, greet, leaves_off, off_hook, on_hook, record_message, write_tally}
-use Rattle.af_answer.specs.AnswerTrace.{AnswerFinish, AnswerTrace, Deeds, Work, answer_trace, both_works, child_starved}
+use Rattle.af_answer.specs.AnswerTrace.{AnswerFinish, AnswerTrace, MachineDeeds, Work, answer_trace, both_works, child_starved}
 use Rattle.af_answer.specs.AnswerTrace.{first_run, line_at, met_fault, no_work, off_hook_fault, on_hook_fault, rang_too_little}
 use Rattle.af_answer.specs.AnswerTrace.{running, sending, tally_text, writing}
 use Rattle.af_answer.specs.AnswerParts.{Added, MatchesAnswer, Seen, is_from_outside, seen_as}
@@ -114,7 +114,7 @@ acts_asked job trace runs = answer_acts job trace.deeds.heard (map run_end runs)
 pub record RanAs (order : Order) (job : AnswerJob) (devices : List DeviceInfo) (trace : AnswerTrace) (runs : List ChildRun)
     (how : AnswerEnd) (before after : Seen) : Type 0 where
   -- what was done
-  pub done : Deeds
+  pub done : MachineDeeds
   pub added : Added before done.work after
   -- it is what the trace has, and the machine ended as the trace does, unless something from outside ended it
   pub followed : MatchesAnswer trace how done

@@ -1,5 +1,5 @@
 -- How the children of an answering machine run, and what is told of them.
-use Rattle.std.specs.Prelude.{◌≡◌, ℕ, ℤ, pos, zero, Bool, true, false, List, [], ◌∷◌, codes, Option, None, Some}
+use Rattle.std.specs.Prelude.{◌≡◌, ℕ, ℤ, pos, zero, Bool, true, false, List, [], ◌∷◌, codes, Option, Some}
 use Rattle.af_io.specs.Observed.{Appended}
 use Rattle.af_process.specs.declared.act.BeganGot.TheVariants as got
 use Rattle.af_process.specs.Acts.{Told, began, finished}

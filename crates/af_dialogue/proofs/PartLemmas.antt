@@ -1,5 +1,6 @@
 -- Code that comes through parts of a program, one after another.
 use Rattle.std.proofs.Common.{List, ◌∷◌, ◌≡◌, refl, sym, ap, ◌∙◌, inl, inr}
+use Rattle.std.proofs.Math.Path.{fun_ext}
 use Rattle.std.specs.Prelude.{Result, Ok, Err, IsOk}
 use Rattle.af_dialogue.specs.Dialogue.{Dialogue, Exchange, calls, ends, exchange, followed_by}
 use Rattle.af_dialogue.specs.Partner.{Partner}
@@ -64,7 +65,7 @@ module _ {S D F E O : Type 0} {kind : ProgramKind S D F E O} (laws : IsProgramKi
   front_after first did whole front = (front.0, ap (λ d. kind.deeds.joined first d) front.1 ∙ sym (laws.joined_twice first did front.0))
 
   -- within the first of two parts, code is within both
-  front_followed : {X Y : Type 0} (did whole : D) (end : Result X F) (next : X → Outcome D Y F) → IsFront kind.deeds did whole → IsFront kind.deeds did (followed kind.deeds whole end next).did
+  pub front_followed : {X Y : Type 0} (did whole : D) (end : Result X F) (next : X → Outcome D Y F) → IsFront kind.deeds did whole → IsFront kind.deeds did (followed kind.deeds whole end next).did
   front_followed did whole (Ok x) next front = (kind.deeds.joined front.0 (next x).did, ap (λ d. kind.deeds.joined d (next x).did) front.1 ∙ laws.joined_twice did front.0 (next x).did)
   front_followed did whole (Err finish) next front = front
 
@@ -82,6 +83,25 @@ module _ {S D F E O : Type 0} {kind : ProgramKind S D F E O} (laws : IsProgramKi
           c.2,
         );
   })
+
+  -- Parts are joined in any order of the joints, and one that does nothing may be left out.
+  followed_after : {X Y : Type 0} (d e : D) (end : Result X F) (next : X → Outcome D Y F) → followed kind.deeds (kind.deeds.joined d e) end next ≡ after_deeds kind.deeds d (followed kind.deeds e end next)
+  followed_after {Y} d e (Ok x) next = ap (λ (f : D). outcome {X = Y} {F = F} f (next x).end) (laws.joined_twice d e (next x).did)
+  followed_after d e (Err finish) next = refl
+
+  followed_twice : {X Y Z : Type 0} (did : D) (end : Result X F) (next : X → Outcome D Y F) (last : Y → Outcome D Z F) →
+      (let o : Outcome D Y F = followed kind.deeds did end next in followed kind.deeds o.did o.end last) ≡ followed kind.deeds did end (λ x. followed kind.deeds (next x).did (next x).end last)
+  followed_twice did (Ok x) next last = followed_after did (next x).did (next x).end last
+  followed_twice did (Err finish) next last = refl
+
+  pub goes_on_twice : {X Y Z : Type 0} (part : Part S D F X) (next : X → Part S D F Y) (last : Y → Part S D F Z) →
+      goes_on kind.deeds (goes_on kind.deeds part next) last ≡ goes_on kind.deeds part (λ x. goes_on kind.deeds (next x) last)
+  unfolding goes_on
+  goes_on_twice part next last = fun_ext (λ s. followed_twice (part s).did (part s).end (λ y. next y.0 y.1) (λ y. last y.0 y.1))
+
+  pub value_first : {X Y : Type 0} (x : X) (next : X → Part S D F Y) → goes_on kind.deeds (has_value kind.deeds x) next ≡ next x
+  unfolding goes_on
+  value_first {Y} x next = fun_ext (λ s. ap (λ (d : D). outcome {X = Y × S} {F = F} d (next x s).end) (laws.nothing_first (next x s).did))
 
   -- a part that does nothing
   pub goes_value : {X : Type 0} (x : X) {o : O} → Goes kind (has_value kind.deeds x) (Ok x) o o

@@ -59,11 +59,11 @@ abbrev pub part_of : {Call : Type 0} {Answer : Call → Type 0} {S X F : Type 0}
     Part S (List (Exchange Answer)) F X
 part_of partner d s = called (run_with partner s d) (end_with partner s d) (state_after partner s (run_with partner s d))
 
--- A kind of programs: what they do; as what their code reports an end, and which of these ends come from outside; where a program
--- stands, by what can be observed; and how what can be observed goes on by deeds.
+-- A kind of programs: what they do; which ends their code reports for the end of a program, and which of these come from outside;
+-- where a program stands, by what can be observed; and how what can be observed goes on by deeds.
 pub record ProgramKind (S D F E O : Type 0) : Type 1 where
   pub deeds : Deeds D
-  pub reported : F → E
+  pub Reports : E → F → Type 0
   pub is_outer : E → Bool
   pub Stands : O → S → Type 0
   pub Shows : O → D → O → Type 0
@@ -83,7 +83,7 @@ IsFront {D} deeds did whole = (rest : D) × (whole ≡ deeds.joined did rest)
 abbrev pub Stopped : {S D F E O X : Type 0} → ProgramKind S D F E O → Outcome D X F → E → D → Type 0
 Stopped {F = F} kind o how did =
     ((kind.is_outer how ≡ true) × IsFront kind.deeds did o.did)
-    ⊎ ((finish : F) × (how ≡ kind.reported finish) × (o ≡ outcome did (Err finish)))
+    ⊎ ((finish : F) × kind.Reports how finish × (o ≡ outcome did (Err finish)))
 
 -- Code that answers this came to the end of a part with this outcome, or ended within it. That is observed before and after.
 abbrev pub Came : {S D F E O X : Type 0} → ProgramKind S D F E O → Outcome D (X × S) F → Result X E → O → O → Type 0

@@ -1,5 +1,5 @@
 -- How a relay ends, by its two devices and its trace.
-use Rattle.std.proofs.Common.{◌≡◌, ◌≢◌, ◌==◌, ◌↔◌, ℕ, Bool, true, false, List, [], ◌∷◌, ◌++◌, length, slice_get, append_assoc, append-nil, sym, ap, ap₂, ◌∙◌, subst, refl, inl, inr, if◌then◌else◌}
+use Rattle.std.proofs.Common.{◌≡◌, ◌≢◌, ◌==◌, ℕ, Bool, true, false, List, [], ◌∷◌, ◌++◌, length, slice_get, append_assoc, append-nil, sym, ap, ap₂, ◌∙◌, subst, refl, inl, inr, if◌then◌else◌}
 use Rattle.std.specs.Prelude.{Result, Ok, Err, IsOk}
 use Rattle.std.specs.declared.option.Option.{Option}
 use Rattle.std.specs.declared.option.Option.TheVariants.{None, Some}
@@ -11,7 +11,7 @@ use Rattle.af_lib.specs.declared.fault.ConnFault.{ConnFault}
 use Rattle.af_toolkit.specs.declared.end.ToolEnd.{ToolEnd}
 use Rattle.af_toolkit.specs.declared.end.ToolEnd.TheVariants as end
 use Rattle.af_cli.specs.declared.job.PassJob.{PassJob}
-use Rattle.af_toolkit.specs.Trace.{Trace, Finish, ClientState, channel_mismatch, done, tool_end, ends, mismatch, no_device, refused, writes_first}
+use Rattle.af_toolkit.specs.Trace.{Finish, ClientState, channel_mismatch, done, tool_end, ends, mismatch, no_device, writes_first}
 use Rattle.af_dialogue.specs.Parts.{Goes, Stopped}
 use Rattle.af_relay.specs.RelayParts.{IsClientOf, LinkSight, ObservedRelayTrace, relaying}
 use Rattle.af_toolkit.specs.Ends.{MatchesTrace, ObservedTrace}

@@ -29,7 +29,7 @@ IsClientOf link client = (input : List ℕ) × (link.left ≡ Some input) × (cl
 abbrev pub relaying : ProgramKind (Both ClientState) (Both (List ℕ)) ConnFault ToolEnd (Both LinkSight)
 relaying = record {
   deeds = sending;
-  reported = fault_end;
+  Reports = λ how fault. how ≡ fault_end fault;
   is_outer = is_outer;
   Stands = λ links at. IsClientOf links.from at.from × IsClientOf links.to at.to;
   Shows = λ links did links'.

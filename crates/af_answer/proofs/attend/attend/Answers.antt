@@ -1,20 +1,16 @@
-use Rattle.std.proofs.Common.{rules, arith, ◌≡◌, ◌≤◌, ◌+◌, ◌∙◌, true, false, refl, ap, sym, subst, Err}
+use Rattle.std.proofs.Common.{rules, arith, ◌≡◌, ◌≤◌, ◌+◌, ◌∙◌, true, false, refl, ap, sym, subst}
 use Rattle.af_lib.specs.Calls.{ConnState}
 use Rattle.af_answer.specs.declared.tally.Tally.{Tally}
-use Rattle.af_answer.specs.AnswerTrace.{attends, attends_all, connection_end}
-use Rattle.af_answer.specs.Acts.{no_calls}
+use Rattle.af_answer.specs.AnswerTrace.{attends, attends_all, child_starved}
 use Rattle.af_answer.specs.Children.{is_starved}
-use Rattle.af_answer.proofs.AnswerPartLemmas.{came_on, ended_on}
+use Rattle.af_answer.proofs.AnswerPartLemmas.{went_by, went_here, went_on, went_stop, went_stops, went_through, went_value}
 use Rattle.af_answer.proofs.AnswerStepLemmas.{requested_went}
-use Rattle.af_answer.proofs.CallLemmas.{after_call, after_rings, attend_done, attend_on, call_starved, calls_left}
+use Rattle.af_answer.proofs.CallLemmas.{attends_next}
 use Rattle.af_answer.proofs.attend.attend.Goals as goal
 
 pub returns-in_err-select_events-clause-goes : goal.returns-in_err-select_events-clause-goes
 unfolding attends_all
-returns-in_err-select_events-clause-goes g c next input held told =
-    let job = c.args.job.now in
-    let same : c.from_residual.result ≡ Err (connection_end c.in_err-select_events.field-0.0) = search rules in
-    rw same (requested_went (λ _ a. attends job.calls job no_calls a next) input (g.S.Spawner.acts c.args.spawner.now) held c.in_err-select_events.ensures c.requires.usable told)
+returns-in_err-select_events-clause-goes g c held = went_stop _ (search rules) (requested_went _ c.in_err-select_events.ensures c.requires.usable held)
 
 pub loop-left-init : goal.loop-left-init
 unfolding attends_all
@@ -31,32 +27,30 @@ loop-left-init g c =
       children = omega arith;
       few = subst (λ (t : Tally). t.answered + job.calls ≤ job.calls) (sym none) (omega arith);
       counted = subst (λ (t : Tally). t.recorded + t.failed ≤ t.answered) (sym none) (omega arith);
-      going = λ next input held told. rw none (requested_went (λ _ a. attends job.calls job no_calls a next) input (g.S.Spawner.acts c.args.spawner.now) held asked c.requires.usable told);
+      going = λ held. rw none (went_on _ went_here (requested_went _ asked c.requires.usable held));
     }
 
 pub returns-in_err-await_call-clause-goes : goal.returns-in_err-await_call-clause-goes
-returns-in_err-await_call-clause-goes g c next input held told =
-    let f = attend_on c.args.job.now c.loop-left.left c.loop-left.tally next (c.loop-left.invariant.going next input held told) (omega arith) in
-    let same : c.from_residual-in_err-await_call.result ≡ Err c.in_err-await_call.field-0.0 = search rules in
-    rw same (ended_on f (c.in_err-await_call.ensures.goes (g.S.Spawner.acts c.loop-left.spawner) (after_rings c.args.job.now c.loop-left.left c.loop-left.tally next) f.rest held f.is_left))
+returns-in_err-await_call-clause-goes g c held =
+    went_by (c.loop-left.invariant.going held) (rw (attends_next c.loop-left.left c.args.job.now c.loop-left.tally (omega arith))
+    (went_stop _ (search rules) (c.in_err-await_call.ensures.goes _ held)))
 
 pub returns-in_err-end-clause-goes : goal.returns-in_err-end-clause-goes
-returns-in_err-end-clause-goes g c next input held told =
-    let f = attend_on c.args.job.now c.loop-left.left c.loop-left.tally next (c.loop-left.invariant.going next input held told) (omega arith) in
-    let rung = came_on f (c.in_ok-await_call.ensures.goes (g.S.Spawner.acts c.loop-left.spawner) (after_rings c.args.job.now c.loop-left.left c.loop-left.tally next) f.rest held f.is_left) in
-    let same : c.from_residual-in_err-end.result ≡ Err c.in_err-end.field-0.0 = search rules in
-    rw same (ended_on rung (c.in_err-end.ensures.goes (after_call c.args.job.now c.loop-left.left c.loop-left.tally next) rung.rest held rung.is_left))
+returns-in_err-end-clause-goes g c held =
+    went_by (c.loop-left.invariant.going held) (rw (attends_next c.loop-left.left c.args.job.now c.loop-left.tally (omega arith))
+    (went_through _ (c.in_ok-await_call.ensures.goes _ held) (went_stop _ (search rules) (c.in_err-end.ensures.goes held))))
 
 pub returns-then-is_starved-clause-goes : goal.returns-then-is_starved-clause-goes
-returns-then-is_starved-clause-goes g c next input held told =
-    let f = attend_on c.args.job.now c.loop-left.left c.loop-left.tally next (c.loop-left.invariant.going next input held told) (omega arith) in
-    let rung = came_on f (c.in_ok-await_call.ensures.goes (g.S.Spawner.acts c.loop-left.spawner) (after_rings c.args.job.now c.loop-left.left c.loop-left.tally next) f.rest held f.is_left) in
-    let taken = came_on rung (c.in_ok-end.ensures.goes (after_call c.args.job.now c.loop-left.left c.loop-left.tally next) rung.rest held rung.is_left) in
+returns-then-is_starved-clause-goes g c held =
     let starved : is_starved c.in_ok-end.end ≡ true = search rules in
-    call_starved c.args.job.now c.loop-left.left c.loop-left.tally next c.in_ok-end.end taken starved
+    went_by (c.loop-left.invariant.going held) (rw (attends_next c.loop-left.left c.args.job.now c.loop-left.tally (omega arith))
+    (went_through _ (c.in_ok-await_call.ensures.goes _ held) (went_through _ (c.in_ok-end.ensures.goes held) (rw starved (went_stops child_starved (refl, λ e. refl))))))
 
 pub returns-clause-goes : goal.returns-clause-goes
-returns-clause-goes g c next input held told = attend_done c.args.job.now c.loop-left.left c.loop-left.tally next (c.loop-left.invariant.going next input held told) (omega arith)
+unfolding attends
+returns-clause-goes g c held =
+    let none : c.loop-left.left ≡ 0 = omega arith in
+    went_by (c.loop-left.invariant.going held) (rw none (went_value _))
 
 pub loop-left-preserved : goal.loop-left-preserved
 loop-left-preserved g c =
@@ -72,9 +66,7 @@ loop-left-preserved g c =
       children = omega (arith, took.count, i.children);
       few = omega (arith, c.count.ensures.one, i.few);
       counted = c.count.ensures.within;
-      going = λ next input held told.
-          let f = attend_on c.args.job.now c.loop-left.left c.loop-left.tally next (i.going next input held told) (omega arith) in
-          let rung = came_on f (rang.goes (g.S.Spawner.acts c.loop-left.spawner) (after_rings c.args.job.now c.loop-left.left c.loop-left.tally next) f.rest held f.is_left) in
-          let taken = came_on rung (took.goes (after_call c.args.job.now c.loop-left.left c.loop-left.tally next) rung.rest held rung.is_left) in
-          calls_left c.args.job.now c.loop-left.left c.loop-left.tally next c.in_ok-end.end taken _ _ fed c.count.ensures.tally refl;
+      going = λ held.
+          rw (fed, sym c.count.ensures.tally) at
+          (went_on _ (went_on _ (rw (attends_next c.loop-left.left c.args.job.now c.loop-left.tally (omega arith)) at (i.going held)) (rang.goes _ held)) (took.goes held));
     }

@@ -1,7 +1,7 @@
-use Rattle.std.proofs.Common.{◌≡◌, ◌≤◌, ◌+◌, ℕ, List, IsSome, Option, None, Some}
-use Rattle.af_answer.specs.declared.tally.Tally.{Tally}
-use Rattle.af_answer.specs.AnswerTrace.{AnswerTrace, ToCome, attends, attends_all}
-use Rattle.af_answer.specs.AnswerParts.{Came, stand_on}
+use Rattle.std.proofs.Common.{◌≡◌, ◌≤◌, ◌+◌, ℕ, List, IsSome, Option, None}
+use Rattle.af_answer.specs.AnswerTrace.{attends, attends_all}
+use Rattle.af_answer.specs.AnswerParts.{stand_on}
+use Rattle.af_answer.proofs.AnswerPartLemmas.{GotTo}
 use Rattle.af_answer.proofs.attend.attend.Given as goal
 
 abbrev pub invariant-loop-left : goal.invariant-loop-left
@@ -13,8 +13,7 @@ invariant-loop-left g l = record {
   children : g.S.Spawner.faults l.fn.spawner ≤ g.S.Spawner.faults l.spawner;
   few : l.tally.answered + l.left ≤ l.job.calls;
   counted : l.tally.recorded + l.tally.failed ≤ l.tally.answered;
-  going : (next : Tally → ToCome → AnswerTrace) (input : List ℕ) (held : Option (List ℕ)) → g.L.Link.left l.fn.conn.link ≡ Some input →
-      Came (λ a. attends_all l.job a next) (λ a. attends l.left l.job l.tally a next) input
+  going : (held : Option (List ℕ)) → GotTo (attends_all l.job) (attends l.left l.job l.tally)
       (stand_on g.L.Link.left g.L.Link.sent l.fn.conn (g.S.Spawner.acts l.fn.spawner) held) (stand_on g.L.Link.left g.L.Link.sent l.conn (g.S.Spawner.acts l.spawner) held);
 }
 

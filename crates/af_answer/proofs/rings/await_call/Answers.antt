@@ -1,8 +1,8 @@
 use Rattle.std.proofs.Common.{rules, arith, ◌≡◌, ◌∙◌, refl, Ok, Err}
-use Rattle.af_answer.specs.AnswerTrace.{connection_end}
-use Rattle.af_answer.proofs.AnswerPartLemmas.{came_on, came_same, ended_on}
+use Rattle.af_answer.specs.AnswerTrace.{awaits_call, rang_too_little}
+use Rattle.af_answer.proofs.AnswerPartLemmas.{went_by, went_here, went_on, went_stop, went_stops, went_value}
 use Rattle.af_answer.proofs.AnswerStepLemmas.{awaited_went, event_stays}
-use Rattle.af_answer.proofs.CallLemmas.{after_ring, rang_enough, rings_on, wait_floods, wait_on}
+use Rattle.af_answer.proofs.CallLemmas.{awaits_next, rang_enough, rings_on}
 use Rattle.af_answer.proofs.rings.await_call.Goals as goal
 
 pub loop-allowed-init : goal.loop-allowed-init
@@ -12,25 +12,27 @@ loop-allowed-init g c = record {
   tells = λ told. told;
   count = omega arith;
   few = omega arith;
-  waiting = λ acts next input held told. came_same told (λ a. refl);
+  waiting = λ acts held. went_here;
 }
 
 pub returns-in_err-event-clause-goes : goal.returns-in_err-event-clause-goes
-returns-in_err-event-clause-goes g c acts next input held told =
+returns-in_err-event-clause-goes g c acts held =
     let i = c.loop-allowed.invariant in
-    let f = wait_on c.args.job.now c.loop-allowed.allowed c.loop-allowed.rings next (i.waiting acts next input held told) (omega arith) in
-    let same : c.from_residual.result ≡ Err (connection_end c.in_err-event.field-0.0) = search rules in
-    rw same (ended_on f (awaited_went (after_ring c.args.job.now c.loop-allowed.allowed c.loop-allowed.rings next) f.rest acts held (Err c.in_err-event.field-0.0) c.in_err-event.ensures i.usable f.is_left))
+    went_by (i.waiting acts held) (rw (awaits_next c.loop-allowed.allowed c.args.job.now c.loop-allowed.rings (omega arith))
+    (went_stop _ (search rules) (awaited_went acts (Err c.in_err-event.field-0.0) c.in_err-event.ensures i.usable held)))
 
 pub returns-then-rings-job-clause-goes : goal.returns-then-rings-job-clause-goes
-returns-then-rings-job-clause-goes g c acts next input held told =
+returns-then-rings-job-clause-goes g c acts held =
     let i = c.loop-allowed.invariant in
-    let f = wait_on c.args.job.now c.loop-allowed.allowed c.loop-allowed.rings next (i.waiting acts next input held told) (omega arith) in
-    rang_enough c.args.job.now c.loop-allowed.allowed c.loop-allowed.rings next c.in_ok-event.event c.rings_after-rings.ensures.rings
-    (came_on f (awaited_went (after_ring c.args.job.now c.loop-allowed.allowed c.loop-allowed.rings next) f.rest acts held (Ok c.in_ok-event.event) c.in_ok-event.ensures i.usable f.is_left)) c.if-rings-job.true
+    let heard = awaited_went acts (Ok c.in_ok-event.event) c.in_ok-event.ensures i.usable held in
+    went_by (went_on _ (rw (awaits_next c.loop-allowed.allowed c.args.job.now c.loop-allowed.rings (omega arith)) at (i.waiting acts held)) heard)
+    (rw (rang_enough _ c.args.job.now c.loop-allowed.rings c.in_ok-event.event c.rings_after-rings.ensures.rings c.if-rings-job.true) (went_value tt))
 
 pub returns-clause-goes : goal.returns-clause-goes
-returns-clause-goes g c acts next input held told = wait_floods c.args.job.now c.loop-allowed.allowed c.loop-allowed.rings next (c.loop-allowed.invariant.waiting acts next input held told) (omega arith)
+unfolding awaits_call
+returns-clause-goes g c acts held =
+    let none : c.loop-allowed.allowed ≡ 0 = omega arith in
+    went_by (c.loop-allowed.invariant.waiting acts held) (rw none (went_stops rang_too_little (refl, λ e. cc e)))
 
 pub loop-allowed-preserved : goal.loop-allowed-preserved
 loop-allowed-preserved g c =
@@ -43,8 +45,7 @@ loop-allowed-preserved g c =
       tells = λ t. e.tells (i.tells t);
       count = omega (arith, e.count, i.count);
       few = omega (arith, c.rings_after-rings.ensures.few, i.few);
-      waiting = λ acts next input held told.
-          let f = wait_on c.args.job.now c.loop-allowed.allowed c.loop-allowed.rings next (i.waiting acts next input held told) (omega arith) in
-          rings_on c.args.job.now c.loop-allowed.allowed c.loop-allowed.rings next c.in_ok-event.event c.rings_after-rings.ensures.rings
-          (came_on f (awaited_went (after_ring c.args.job.now c.loop-allowed.allowed c.loop-allowed.rings next) f.rest acts held (Ok c.in_ok-event.event) e i.usable f.is_left)) _ c.if-rings-job.false refl;
+      waiting = λ acts held.
+          rw (rings_on _ c.args.job.now c.loop-allowed.rings c.in_ok-event.event c.rings_after-rings.ensures.rings c.if-rings-job.false) at
+          (went_on _ (rw (awaits_next c.loop-allowed.allowed c.args.job.now c.loop-allowed.rings (omega arith)) at (i.waiting acts held)) (awaited_went acts (Ok c.in_ok-event.event) e i.usable held));
     }

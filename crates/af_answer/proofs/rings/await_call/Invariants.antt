@@ -1,7 +1,8 @@
-use Rattle.std.proofs.Common.{◌≡◌, ◌≤◌, ◌<◌, ◌^◌, ◌+◌, ℕ, List, IsSome, Option, None, Some}
+use Rattle.std.proofs.Common.{◌≡◌, ◌≤◌, ◌<◌, ◌^◌, ◌+◌, ℕ, List, IsSome, Option, None}
 use Rattle.af_process.specs.Acts.{Told}
-use Rattle.af_answer.specs.AnswerTrace.{AnswerTrace, ToCome, awaits_call, most_for_a_call}
-use Rattle.af_answer.specs.AnswerParts.{Came, stand_on}
+use Rattle.af_answer.specs.AnswerTrace.{awaits_call, most_for_a_call}
+use Rattle.af_answer.specs.AnswerParts.{stand_on}
+use Rattle.af_answer.proofs.AnswerPartLemmas.{GotTo}
 use Rattle.af_answer.proofs.rings.await_call.Given as goal
 
 abbrev pub invariant-loop-allowed : goal.invariant-loop-allowed
@@ -11,8 +12,7 @@ invariant-loop-allowed g l = record {
   tells : IsSome (g.L.Link.left l.initial.conn.link) → IsSome (g.L.Link.left l.conn.link);
   count : g.L.Link.faults l.initial.conn.link ≤ g.L.Link.faults l.conn.link;
   few : l.rings + l.allowed < 2 ^ 32;
-  waiting : (acts : Option (List Told)) (next : Unit {0} → ToCome → AnswerTrace) (input : List ℕ) (held : Option (List ℕ)) → g.L.Link.left l.initial.conn.link ≡ Some input →
-      Came (λ a. awaits_call most_for_a_call l.job 0 a next) (λ a. awaits_call l.allowed l.job l.rings a next) input
+  waiting : (acts : Option (List Told)) (held : Option (List ℕ)) → GotTo (awaits_call most_for_a_call l.job 0) (awaits_call l.allowed l.job l.rings)
       (stand_on g.L.Link.left g.L.Link.sent l.initial.conn acts held) (stand_on g.L.Link.left g.L.Link.sent l.conn acts held);
 }
 

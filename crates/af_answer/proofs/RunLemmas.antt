@@ -18,12 +18,13 @@ use Rattle.af_toolkit.specs.Trace.{ClientState, new_client, client_after_setup, 
 use Rattle.af_toolkit.specs.Ends.{client_of}
 use Rattle.af_toolkit.proofs.TracePartLemmas.{client_begun, setup_known}
 use Rattle.af_answer.specs.declared.end.AnswerEnd.{AnswerEnd}
+use Rattle.af_answer.specs.declared.end.AnswerEnd.TheVariants as end
 use Rattle.af_answer.specs.declared.job.AnswerJob.{AnswerJob}
 use Rattle.af_answer.specs.AnswerTrace.{MachineOutcome, answer_trace, answers, connection_end, deeds_of_work, doing, exchanged, met_fault, sending, trace_of}
 use Rattle.af_answer.specs.AnswerParts.{seen_as, stand}
 use Rattle.af_answer.specs.Answered.{AnswerRan, RanAs}
 use Rattle.af_answer.specs.AnswerWords.{AnswerWords, answer_words, words_of_job}
-use Rattle.af_answer.specs.AnswerRun.{AskedForServer, Attended, FailedSetup, LinkRan, NotDialled, RanAsked, RanFirst, RanOver, Surroundings, sets_up, whole_trace}
+use Rattle.af_answer.specs.AnswerRun.{Attended, LinkRan, RanAsked, RanOver, Surroundings, sets_up, whole_trace}
 use Rattle.af_answer.specs.Outcomes.{is_of_calls}
 use Rattle.af_answer.proofs.AnswerPartLemmas.{added_on, matches_after, stopped_matches}
 use Rattle.af_answer.proofs.AnswerStepLemmas.{exchange_came}
@@ -34,10 +35,10 @@ fault_of_calls fault.LinkFault = refl
 fault_of_calls f = refl
 
 -- a link that was not set up was answered with a fault, unless it failed
-setup_failed : (input : List ℕ) (f : ConnFault) {sent sent' : Option (List ℕ)} {acts : Option (List Told)} {held : Option (List ℕ)} → AppendedPrefix sent (setup_bytes Big) sent' →
-    ((let r : Result (List DeviceInfo) ConnFault = Err f in r ≢ Err fault.LinkFault) → (let r : Result (List DeviceInfo) ConnFault = Err f in r ≡ setup_answer Big input)) →
-    (devices : List DeviceInfo) → setup_answer Big input ≡ Ok devices → FailedSetup (connection_end f) (seen_as sent acts held) (seen_as sent' acts held)
-setup_failed input fault.LinkFault front known devices set = record { fault = refl; part = front }
+setup_failed : (input : List ℕ) (f : ConnFault) {sent sent' : Option (List ℕ)} → AppendedPrefix sent (setup_bytes Big) sent' →
+    (let r : Result (List DeviceInfo) ConnFault = Err f in r ≢ Err fault.LinkFault → r ≡ setup_answer Big input) →
+    (devices : List DeviceInfo) → setup_answer Big input ≡ Ok devices → (connection_end f ≡ end.LinkFault) × AppendedPrefix sent (setup_bytes Big) sent'
+setup_failed input fault.LinkFault front known devices set = (refl, front)
 setup_failed input f front known devices set = let bad : (let r : Result (List DeviceInfo) ConnFault = Err f in r ≡ Ok devices) = known (λ e. cc e) ∙ set in cc bad
 
 pub not_set_up_ran : {L : Type 0} {left sent : L → Option (List ℕ)} {faults : L → ℕ} (job : AnswerJob) {input : List ℕ} {old new : L} {ring : RingState} {f : ConnFault} {acts : Option (List Told)} {held : Option (List ℕ)} →
@@ -82,13 +83,15 @@ set_up_ran {left} {sent} {faults} job {input} {far} conn {how} {s'} {a} {a'} {h}
     }
 
 -- the first link of a dial
-pub first_ran : {F : Type 0} (left sent : F → Option (List ℕ)) {job : AnswerJob} {how : AnswerEnd} (far : F) (after : Option (List ℕ)) (links : List ToldLink) {between : Option (List ToldLink)} {back : Option (List (List ℕ))} (old new : Surroundings) →
-    old.links ≡ Some links → IsFirstOf left sent far old.links between → new.links ≡ between → back ≡ old.back → AppendedBack back after new.back →
-    ((input : List ℕ) → left far ≡ Some input → RanOver job input how (seen_as (sent far) old.acts old.held) (seen_as after new.acts new.held)) → RanFirst job how old new
-first_ran left sent far after [] {between} old new told first stay same added ran = absurd (subst (λ (l : Option (List ToldLink)). IsFirstOf left sent far l between) told first)
-first_ran left sent {job} {how} far after (link ∷ links) {between} old new told first stay same added ran =
+pub first_ran : {F : Type 0} (left sent : F → Option (List ℕ)) {asked : AnswerWords} (job : AnswerJob) {how : AnswerEnd} (far : F) (after : Option (List ℕ)) (links : List ToldLink) {between : Option (List ToldLink)} {back : Option (List (List ℕ))} (old new : Surroundings) →
+    words_of_job asked.server job ≡ asked → old.links ≡ Some links → IsFirstOf left sent far old.links between → new.links ≡ between → back ≡ old.back → AppendedBack back after new.back →
+    ((input : List ℕ) → left far ≡ Some input → RanOver job input how (seen_as (sent far) old.acts old.held) (seen_as after new.acts new.held)) → RanAsked asked how old new
+first_ran left sent job far after [] {between} old new of told first stay same added ran = absurd (subst (λ (l : Option (List ToldLink)). IsFirstOf left sent far l between) told first)
+first_ran left sent job {how} far after (link ∷ links) {between} old new of told first stay same added ran =
     let is = subst (λ (l : Option (List ToldLink)). IsFirstOf left sent far l between) told first in
     record {
+      job = job;
+      is = of;
       first = link;
       rest = links;
       links_are = told;
@@ -98,15 +101,6 @@ first_ran left sent {job} {how} far after (link ∷ links) {between} old new tol
       ran = subst (λ (s : Option (List ℕ)). RanOver job link.gives how (seen_as s old.acts old.held) (seen_as after new.acts new.held)) is.1 (ran link.gives is.0);
     }
 
--- a job of the arguments that were given
-pub asked_ran : (a : AnswerWords) (server : Text) (job : AnswerJob) {how : AnswerEnd} {old new : Surroundings} → words_of_job server job ≡ a → NotDialled how old new ⊎ RanFirst job how old new → NotDialled how old new ⊎ RanAsked a how old new
-asked_ran a server job same (inl none) = inl none
-asked_ran a server job same (inr ran) =
-    inr (record { job = job; is = ap (λ (s : Text). words_of_job s job) (sym (ap (λ (w : AnswerWords). w.server) same)) ∙ same; ran = ran })
-
-pub asked_server : (a : AnswerWords) (server : Text) (job : AnswerJob) (how : AnswerEnd) (asked asked' : Option (List Text)) → words_of_job server job ≡ a → Appended asked (server ∷ []) asked' → AskedForServer a.server how asked asked'
-asked_server a server job how asked asked' same added = inr (subst (λ (s : Text). Appended asked (s ∷ []) asked') (ap (λ (w : AnswerWords). w.server) same) added)
-
 -- words ask one thing
-pub one_asked : (words : List Text) (a b : AnswerWords) → answer_words words ≡ Some a → answer_words words ≡ Some b → a ≡ b
-one_asked words a b is also = let both : Some a ≡ Some b = sym is ∙ also in cc both
+pub one_asked : (words : List Text) (a b : AnswerWords) → answer_words words ≡ Some a → answer_words words ≡ Some b → b ≡ a
+one_asked words a b is also = let both : Some b ≡ Some a = sym also ∙ is in cc both

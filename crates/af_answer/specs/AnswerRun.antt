@@ -38,20 +38,17 @@ pub record Attended (job : AnswerJob) (devices : List DeviceInfo) (input : List 
   pub ran : RanAs Big job devices (answer_trace job devices (record { wire = client_after_setup Big input; runs = runs })) runs
       how (record before { sent = between }) after
 
--- the link failed before it was set up
-pub record FailedSetup (how : AnswerEnd) (before after : Seen) : Type 0 where
-  pub fault : how ≡ end.LinkFault
-  pub part : AppendedPrefix before.sent (setup_bytes Big) after.sent
-
 -- What came of a link that gives these bytes. What was done is that of the trace, and so is the end, unless something from
--- outside ended the machine. If the link was set up, all of what is said of a machine on a connection holds.
+-- outside ended the machine. If the answer to the setup gives the devices, the link failed before that, or all of what is said of
+-- a machine on a connection holds.
 pub record LinkRan (job : AnswerJob) (input : List ℕ) (how : AnswerEnd) (before after : Seen) : Type 0 where
   pub runs : List ChildRun
   pub done : MachineDeeds
   pub added : Added before done.work after
   pub followed : MatchesAnswer (whole_trace job input runs) how done
   pub attended : (devices : List DeviceInfo) → setup_answer Big input ≡ Ok devices →
-      FailedSetup how before after ⊎ Attended job devices input runs how before after
+      ((how ≡ end.LinkFault) × AppendedPrefix before.sent (setup_bytes Big) after.sent)
+      ⊎ Attended job devices input runs how before after
 
 -- memory ran out before anything was done
 abbrev pub IsIdle : {A : Type 0} → AnswerEnd → (before after : A) → Type 0
@@ -76,8 +73,11 @@ surroundings links back acts held = record { links = links; back = back; acts = 
 abbrev pub NotDialled : AnswerEnd → (before after : Surroundings) → Type 0
 NotDialled how before after = ((how ≡ end.DialFault) ⊎ (how ≡ end.OutOfMemory)) × (after ≡ before)
 
--- the first link was dialled, the machine ran over it, and it was given back, with all that it had been sent
-pub record RanFirst (job : AnswerJob) (how : AnswerEnd) (before after : Surroundings) : Type 0 where
+-- The first link was dialled, a machine with a job of these arguments ran over it, and it was given back, with all that it had
+-- been sent.
+pub record RanAsked (asked : AnswerWords) (how : AnswerEnd) (before after : Surroundings) : Type 0 where
+  pub job : AnswerJob
+  pub is : words_of_job asked.server job ≡ asked
   pub first : ToldLink
   pub rest : List ToldLink
   pub links_are : before.links ≡ Some (first ∷ rest)
@@ -87,26 +87,13 @@ pub record RanFirst (job : AnswerJob) (how : AnswerEnd) (before after : Surround
   pub ran : RanOver job first.gives how (seen_as (Some first.sent) before.acts before.held) (seen_as sent after.acts after.held)
 
 -- This came of it, if a dial, a spawner and a sink are observable.
-abbrev pub CameOf : {D S K : Type 0} → (links : D → Option (List ToldLink)) → (back : D → Option (List (List ℕ))) →
-    (acts : S → Option (List Told)) → (held : K → Option (List ℕ)) → ((before after : Surroundings) → Type 0) →
-    (dial dial' : D) → (spawner spawner' : S) → (sink sink' : K) → Type 0
-CameOf links back acts held Outcome dial dial' spawner spawner' sink sink' = (told : List ToldLink) → links dial ≡ Some told →
-    Outcome (surroundings (links dial) (back dial) (acts spawner) (held sink))
-    (surroundings (links dial') (back dial') (acts spawner') (held sink'))
-
--- a job of these arguments was done in this way
-pub record RanAsked (asked : AnswerWords) (how : AnswerEnd) (before after : Surroundings) : Type 0 where
-  pub job : AnswerJob
-  pub is : words_of_job asked.server job ≡ asked
-  pub ran : RanFirst job how before after
-
--- the same over the first link, if the server was dialled
 abbrev pub RunsAsked : {D S K : Type 0} → (links : D → Option (List ToldLink)) → (back : D → Option (List (List ℕ))) →
     (acts : S → Option (List Told)) → (held : K → Option (List ℕ)) →
     AnswerWords → AnswerEnd → (dial dial' : D) → (spawner spawner' : S) → (sink sink' : K) → Type 0
-RunsAsked links back acts held asked how dial dial' spawner spawner' sink sink' =
-    CameOf links back acts held (λ before after. NotDialled how before after ⊎ RanAsked asked how before after)
-    dial dial' spawner spawner' sink sink'
+RunsAsked links back acts held asked how dial dial' spawner spawner' sink sink' = (told : List ToldLink) → links dial ≡ Some told →
+    let before = surroundings (links dial) (back dial) (acts spawner) (held sink) in
+    let after = surroundings (links dial') (back dial') (acts spawner') (held sink') in
+    NotDialled how before after ⊎ RanAsked asked how before after
 
 -- the server was dialled, if the machine came to that: only out of memory ends it before
 abbrev pub AskedForServer : Text → AnswerEnd → (asked asked' : Option (List Text)) → Type 0

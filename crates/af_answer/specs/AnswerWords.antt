@@ -58,14 +58,8 @@ words_in rows =
     option_and_then (λ rings.
     option_and_then (λ calls.
     option_and_then (λ greeting.
-    option_map (λ message. record {
-      server = server;
-      device = device;
-      rings = rings;
-      calls = calls;
-      greeting = greeting;
-      message = message;
-    })
+    option_map (λ message.
+    record { server = server; device = device; rings = rings; calls = calls; greeting = greeting; message = message })
     (shell_text_at (codes "message") rows))
     (shell_text_at (codes "greeting") rows))
     (option_and_then (number_in 1 1000) (first_of (codes "calls") rows)))

@@ -4,8 +4,8 @@ ghost use Rattle.std.specs.declared.option.Option.TheVariants.{None, Some};
 ghost use Rattle.af_io.specs.Observed.{Appended, CountsFault, FaultCounted};
 ghost use Rattle.af_cli.specs.Ranges.{IsAddress};
 ghost use Rattle.af_answer.specs.Answered.{IsAnswerJob};
-ghost use Rattle.af_answer.specs.AnswerWords.{answer_words, is_answer_spelled, AnswerWords};
-ghost use Rattle.af_answer.specs.AnswerRun.{AskedForServer, CameOf, NotDialled, RanFirst, RanOver, RunsAsked};
+ghost use Rattle.af_answer.specs.AnswerWords.{answer_words, is_answer_spelled, words_of_call, AnswerWords};
+ghost use Rattle.af_answer.specs.AnswerRun.{AskedForServer, RanOver, RunsAsked};
 ghost use Rattle.af_answer.specs.AnswerParts.{seen_as};
 ghost use Rattle.af_answer.specs.Outcomes.{is_of_answer, is_of_dial, is_of_run};
 
@@ -56,8 +56,7 @@ fn answer_on<K: Sink, D: Dial, S: Spawner>(
 ) -> AnswerEnd
     requires range { IsAnswerJob call.now.job }
     requires server { IsAddress call.now.server.now }
-    ensures ran { CameOf D.links D.back S.acts K.held
-        (λ before after. NotDialled result before after ⊎ RanFirst call.now.job result before after)
+    ensures ran { RunsAsked D.links D.back S.acts K.held (words_of_call call.now) result
         dial.old dial.new spawner.old spawner.new sink.old sink.new }
     ensures asked { Appended (D.asked dial.old) (call.now.server.now ∷ []) (D.asked dial.new) }
     ensures end { is_of_dial result ≡ true }

@@ -1,9 +1,9 @@
 -- The steps of an answering machine: a request, an event that is waited for, and a child.
-use Rattle.std.proofs.Common.{◌≡◌, ◌≢◌, ℕ, zero, suc, List, ◌∷◌, slice_get, sym, ap, ap₂, ◌∙◌, refl, subst, Result, Ok, Err, Option, None, Some, inl, inr}
+use Rattle.std.proofs.Common.{◌≡◌, ℕ, zero, suc, List, [], ◌∷◌, slice_get, sym, ap, ap₂, ◌∙◌, refl, Result, Ok, Err, Option, None, Some, inl, inr}
 use Rattle.af_wire.specs.declared.event.Event.{Event}
 use Rattle.af_io.specs.Observed.{Appended}
 use Rattle.af_io.proofs.AppendedLemmas.{appended_none}
-use Rattle.af_dialogue.specs.Parts.{Came, IsFront, called}
+use Rattle.af_dialogue.specs.Parts.{Came, called}
 use Rattle.af_process.specs.Acts.{Told}
 use Rattle.af_request.specs.Asked.{Asked, hook_switch}
 use Rattle.af_request.specs.Requests.{request_bytes}
@@ -20,15 +20,19 @@ use Rattle.af_answer.specs.declared.child.ChildEnd.{ChildEnd}
 use Rattle.af_answer.specs.declared.child.ChildEnd.TheVariants as ended
 use Rattle.af_answer.specs.declared.end.AnswerEnd.{AnswerEnd}
 use Rattle.af_answer.specs.declared.job.AnswerJob.{AnswerJob}
-use Rattle.af_answer.specs.AnswerTrace.{AnswerFinish, MachineDeeds, MachineOutcome, ToCome, after_event, awaits_event, by_answer, connection_end, deeds_of_work, doing, exchanged, heard_of, leaves_message, machine_end, met_fault, next_event, refusal, requests, running, runs_child, sending}
-use Rattle.af_answer.specs.AnswerParts.{Added, GoesBy, Seen, Stand, Went, answering, seen_as, stand}
-use Rattle.af_answer.specs.Children.{LeavesMessage, RunsChild, shell_words, told_of_run}
-use Rattle.af_answer.proofs.AnswerPartLemmas.{added_none, went_value}
+use Rattle.af_answer.specs.AnswerTrace.{AnswerFinish, MachineOutcome, ToCome, after_event, awaits_event, by_answer, connection_end, deeds_of_work, exchanges, hears, leaves_message, machine_end, met_fault, next_event, refusal, requests, running, runs_child, sending}
+use Rattle.af_answer.specs.AnswerParts.{Added, GoesBy, Stand, Went, answering, seen_as, stand, stand_on}
+use Rattle.af_answer.specs.Children.{ChildRun, LeavesMessage, RunsChild, shell_words, told_of_run}
+use Rattle.af_answer.proofs.AnswerPartLemmas.{added_none, went_stop, went_through, went_value}
 
 -- an answer of a connection, as that of a part
 abbrev pub part_of : {X : Type 0} → Result X ConnFault → Result X AnswerEnd
 part_of (Ok x) = Ok x
 part_of (Err f) = Err (connection_end f)
+
+-- bytes that were sent, as work
+added_sent : {sent sent' : Option (List ℕ)} {acts : Option (List Told)} {held : Option (List ℕ)} {bytes : List ℕ} → Appended sent bytes sent' → Added (seen_as sent acts held) (sending bytes) (seen_as sent' acts held)
+added_sent {acts} {held} added = record { link = added; children = appended_none acts; sink = appended_none held }
 
 -- the machine ends as the fault of its refused request does, whichever request that was
 refusal_end : (asked : Asked) (f : ConnFault) → connection_end f ≡ machine_end (refusal asked f)
@@ -36,51 +40,40 @@ refusal_end (hook_switch device zero) f = refl
 refusal_end (hook_switch device (suc off)) f = refl
 refusal_end asked f = refl
 
--- what was done by an answer: all of that, or the first of it if the link failed
-abbrev Does : {X : Type 0} → (Result X ConnFault → MachineDeeds) → (result answer : Result X ConnFault) → (old new : Seen) → Type 0
-Does did result answer old new = (result ≢ Err fault.LinkFault → Added old (did result).work new) × ((front : MachineDeeds) × IsFront doing front (did answer) × Added old front.work new)
+-- a message that is sent and answered is a part of a machine
+module _ {X : Type 0} (reason : ConnFault → AnswerFinish) (ends_by : (f : ConnFault) → connection_end f ≡ machine_end (reason f)) (bytes : ClientState → List ℕ) (answer : ClientState → Result X ConnFault) (after : ClientState → ClientState)
+    {left' : Option (List ℕ)} {client' : List ℕ → ClientState} {sent sent' : Option (List ℕ)} (acts : Option (List Told)) (held : Option (List ℕ)) where
+  exchange_came : (left : Option (List ℕ)) (client : List ℕ → ClientState) (later : List ChildRun) (w : ClientState) (result : Result X ConnFault) → IsFresh result → Sends result sent (bytes w) sent' → Known (answer w) (after w) left' client' result →
+      Came answering (exchanges reason bytes answer after (record { wire = w; runs = later })) (part_of result) (stand left client sent acts held later) (stand left' client' sent' acts held later)
+  exchange_came left client later w (Ok x) fresh sends known =
+      let k = known (λ e. cc e) in
+      let there : ToCome = record { wire = after w; runs = later } in
+      let at = λ (v : ClientState). (let a : ToCome = record { wire = v; runs = later } in a) in
+      let o = λ (r : Result X ConnFault). (let o : MachineOutcome X = called (deeds_of_work (sending (bytes w))) (by_answer reason r) there in o) in
+      (there, (k.0, k.1, ap at (sym k.3)), _, ap o (sym k.2), added_sent (sends.whole (λ e. cc e)))
+  exchange_came left client later w (Err fault.LinkFault) fresh sends known =
+      (deeds_of_work (sending sends.part.front), inl (refl, (deeds_of_work (sending sends.part.rest), ap (λ l. deeds_of_work (sending l)) sends.part.whole)), added_sent sends.part.appended)
+  exchange_came left client later w (Err fault.OutOfMemory) fresh sends known = absurd fresh
+  exchange_came left client later w (Err (fault.Spent first)) fresh sends known = absurd fresh
+  exchange_came left client later w (Err f) fresh sends known =
+      let there : ToCome = record { wire = after w; runs = later } in
+      let o = λ (r : Result X ConnFault). (let o : MachineOutcome X = called (deeds_of_work (sending (bytes w))) (by_answer reason r) there in o) in
+      (_, inr (reason f, (ends_by f, λ e. cc e), ap o (sym (known (λ e. cc e)).2)), added_sent (sends.whole (λ e. cc e)))
 
--- a call of a connection is a part of a machine
-call_came : {X : Type 0} (did : Result X ConnFault → MachineDeeds) (reason : ConnFault → AnswerFinish) (ends_by : (f : ConnFault) → connection_end f ≡ machine_end (reason f)) (answer : Result X ConnFault) (after : ClientState) (p q : Stand)
-    (result : Result X ConnFault) → IsFresh result → Does did result answer p.seen q.seen → Known answer after q.left q.client result →
-    Came answering (called (did answer) (by_answer reason answer) (record { wire = after; runs = q.runs })) (part_of result) p q
-call_came {X} did reason ends_by answer after p q (Ok x) fresh does known =
-    let k = known (λ e. cc e) in
-    let at = λ (w : ClientState). (let a : ToCome = record { wire = w; runs = q.runs } in a) in
-    let o = λ (r : Result X ConnFault). (let o : MachineOutcome X = called (did r) (by_answer reason r) (at after) in o) in
-    (at after, (k.0, k.1, ap at (sym k.3)), did (Ok x), ap o (sym k.2), does.0 (λ e. cc e))
-call_came did reason ends_by answer after p q (Err fault.LinkFault) fresh does known = (does.1.0, inl (refl, does.1.1), does.1.2)
-call_came did reason ends_by answer after p q (Err fault.OutOfMemory) fresh does known = absurd fresh
-call_came did reason ends_by answer after p q (Err (fault.Spent first)) fresh does known = absurd fresh
-call_came {X} did reason ends_by answer after p q (Err f) fresh does known =
-    let at : ToCome = record { wire = after; runs = q.runs } in
-    let o = λ (r : Result X ConnFault). (let o : MachineOutcome X = called (did r) (by_answer reason r) at in o) in
-    (did (Err f), inr (reason f, (ends_by f, λ e. cc e), ap o (sym (known (λ e. cc e)).2)), does.0 (λ e. cc e))
-
--- and so is a message that is sent and answered
-pub exchange_came : {X : Type 0} (reason : ConnFault → AnswerFinish) (ends_by : (f : ConnFault) → connection_end f ≡ machine_end (reason f)) (bytes : List ℕ) (answer : Result X ConnFault) (after : ClientState) (p q : Stand)
-    (result : Result X ConnFault) → IsFresh result → q.seen ≡ record p.seen { sent = q.seen.sent } → Sends result p.seen.sent bytes q.seen.sent → Known answer after q.left q.client result →
-    Came answering (exchanged bytes reason answer (record { wire = after; runs = q.runs })) (part_of result) p q
-exchange_came {X} reason ends_by bytes answer after p q result fresh same sends known =
-    let sent = λ (b : List ℕ) (added : Appended p.seen.sent b q.seen.sent). (
-    let a : Added p.seen (sending b) (record p.seen { sent = q.seen.sent }) = record { link = added; children = appended_none p.seen.acts; sink = appended_none p.seen.held } in
-    subst (λ (s : Seen). Added p.seen (sending b) s) (sym same) a) in
-    call_came (λ _. deeds_of_work (sending bytes)) reason ends_by answer after p q result fresh
-    (λ sound. sent bytes (sends.whole sound), (deeds_of_work (sending sends.part.front), (deeds_of_work (sending sends.part.rest), ap (λ (l : List ℕ). deeds_of_work (sending l)) sends.part.whole), sent sends.part.front sends.part.appended)) known
-
-module _ {L : Type 0} {left sent : L → Option (List ℕ)} {faults : L → ℕ} {old new : ConnState L} (acts : Option (List Told)) where
-  -- a request and its answer
-  pub requested_went : {asked : Asked} {result : Result (Unit {0}) ConnFault} → Called left sent faults asked as_done old new result → old.cause ≡ None → GoesBy left sent old new acts acts (requests asked) (part_of result)
-  unfolding requests
-  requested_went {asked} {result} called usable held = record {
+  pub exchange_went : {left : Option (List ℕ)} {client : List ℕ → ClientState} (result : Result X ConnFault) → IsFresh result → ((input : List ℕ) → left ≡ Some input → Sends result sent (bytes (client input)) sent' × Known (answer (client input)) (after (client input)) left' client' result) →
+      Went (exchanges reason bytes answer after) (part_of result) (stand left client sent acts held) (stand left' client' sent' acts held)
+  exchange_went {left} {client} result fresh known = record {
     runs = λ later. later;
-    goes = λ later. record {
-      came = λ a stands. rw stands.2 (
-          let w = client_of old stands.0 in
-          exchange_came (refusal asked) (refusal_end asked) (request_bytes w.order asked) (answer_on asked as_done w) (after_reply w) _ _ result (called.fresh usable) refl (called.sends usable)
-          (asked_known left sent faults asked as_done old new stands.0 result called usable stands.1));
-    };
+    goes = λ later. record { came = λ a stands. (let k = known stands.0 stands.1 in rw stands.2 (exchange_came left client later (client stands.0) result fresh k.0 k.1)) };
   }
+
+-- a request and its answer are one
+pub requested_went : {L : Type 0} {left sent : L → Option (List ℕ)} {faults : L → ℕ} {old new : ConnState L} (acts : Option (List Told)) {asked : Asked} {result : Result (Unit {0}) ConnFault} →
+    Called left sent faults asked as_done old new result → old.cause ≡ None → GoesBy left sent old new acts acts (requests asked) (part_of result)
+unfolding requests
+requested_went {left} {sent} {faults} {old} {new} acts {asked} {result} called usable held =
+    exchange_went (refusal asked) (refusal_end asked) (λ w. request_bytes w.order asked) (answer_on asked as_done) after_reply acts held result (called.fresh usable)
+    (λ input told. (called.sends usable, asked_known left sent faults asked as_done old new input result called usable told))
 
 -- what is known of an event that was waited for
 event_known : {L : Type 0} (left sent : L → Option (List ℕ)) (faults : L → ℕ) (old new : ConnState L) (input : List ℕ) (result : Result Event ConnFault) (first : Option Event) → slice_get old.ring.events 0 ≡ first →
@@ -99,25 +92,25 @@ is_fresh (Err fault.OutOfMemory) is = absurd is
 is_fresh (Err (fault.Spent first)) is = absurd is
 is_fresh _ is = tt
 
--- a machine that hears an event, or none, works nothing
-heard_none : (result : Result Event ConnFault) (s : Seen) → Added s (heard_of result).work s
-heard_none (Ok e) s = added_none s
-heard_none (Err f) s = added_none s
+-- an event that is waited for is a part of a machine, and so is that it is heard
+heard : (e : Event) {p : List ChildRun → Stand} → Went (hears e) (Ok e) p p
+heard e {p} = record { runs = λ later. later; goes = λ later. record { came = λ a stands. (a, stands, _, refl, added_none (p later).seen) } }
 
--- an event that is waited for is a part of a machine
-pub awaited_went : {L : Type 0} {left sent : L → Option (List ℕ)} {faults : L → ℕ} {old new : ConnState L} (acts : Option (List Told)) (result : Result Event ConnFault) → EventAwaited left sent faults old new result → old.cause ≡ None →
-    GoesBy left sent old new acts acts awaits_event (part_of result)
-unfolding awaits_event
-awaited_went {left} {sent} {faults} {old} {new} acts result awaited usable held = record {
-  runs = λ later. later;
-  goes = λ later. record {
-    came = λ a stands. rw (stands.2, awaited.sends) (
-        let s = seen_as (sent old.link) acts held in
-        call_came heard_of met_fault (λ f. refl) (next_event (client_of old stands.0)) (after_event (client_of old stands.0)) _ _ result (is_fresh result (awaited.answer usable))
-        (λ sound. heard_none result s, (doing.nothing, (heard_of (next_event (client_of old stands.0)), refl), added_none s))
-        (event_known left sent faults old new stands.0 result (slice_get old.ring.events 0) refl awaited usable stands.1));
-  };
-}
+module _ {L : Type 0} {left sent : L → Option (List ℕ)} {faults : L → ℕ} {old new : ConnState L} (acts : Option (List Told)) (held : Option (List ℕ)) where
+  handed : (result : Result Event ConnFault) → EventAwaited left sent faults old new result → old.cause ≡ None →
+      Went (exchanges met_fault (λ w. []) next_event after_event) (part_of result) (stand_on left sent old acts held) (stand_on left sent new acts held)
+  handed result awaited usable =
+      let none : Appended (sent old.link) [] (sent new.link) = rw awaited.sends (appended_none (sent old.link)) in
+      exchange_went met_fault (λ f. refl) (λ w. []) next_event after_event acts held result (is_fresh result (awaited.answer usable))
+      (λ input told. (
+        record { whole = λ sound. none; part = record { front = []; rest = []; whole = refl; appended = none } },
+        event_known left sent faults old new input result (slice_get old.ring.events 0) refl awaited usable told,
+      ))
+
+  pub awaited_went : (result : Result Event ConnFault) → EventAwaited left sent faults old new result → old.cause ≡ None → Went awaits_event (part_of result) (stand_on left sent old acts held) (stand_on left sent new acts held)
+  unfolding awaits_event
+  awaited_went (Ok e) awaited usable = went_through hears (handed (Ok e) awaited usable) (heard e)
+  awaited_went (Err f) awaited usable = went_stop hears refl (handed (Err f) awaited usable)
 
 -- a child is a part of a machine, and so is the message
 module _ {left : Option (List ℕ)} {client : List ℕ → ClientState} {sent : Option (List ℕ)} {acts acts' : Option (List Told)} {held : Option (List ℕ)} where

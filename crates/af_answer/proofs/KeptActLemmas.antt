@@ -16,7 +16,7 @@ use Rattle.af_answer.specs.declared.child.ChildEnd.TheVariants as ended
 use Rattle.af_answer.specs.declared.job.AnswerJob.{AnswerJob}
 use Rattle.af_answer.specs.declared.tally.Tally.{Tally}
 use Rattle.af_answer.specs.Acts.{MachineAct, acts_after, acts_after_greeting, acts_from, acts_of_call, greet, leaves_off, no_calls, off_after, off_hook, on_hook, record_message, rings_after, tally_after, write_tally}
-use Rattle.af_answer.specs.AnswerTrace.{ToCome, AnswerTrace, AnswerFinish, MachineOutcome, MachinePart, Work, after_event, attends, attends_all, awaits_call, awaits_event, both_works, by_answer, child_starved, doing, exchanged, first_run, heard_of, leaves_message, met_fault, most_for_a_call, next_event, no_work, off_hook_fault, refusal, requests, runs_child, sending, stops, takes_call, trace_of, writes_tally}
+use Rattle.af_answer.specs.AnswerTrace.{ToCome, AnswerTrace, AnswerFinish, MachineOutcome, MachinePart, Work, after_event, attends, attends_all, awaits_call, awaits_event, both_works, by_answer, child_starved, deeds_of_work, doing, exchanges, first_run, hears, leaves_message, met_fault, most_for_a_call, next_event, no_work, off_hook_fault, refusal, requests, runs_child, sending, stops, takes_call, trace_of, writes_tally}
 use Rattle.af_answer.specs.Answered.{StopsAtOffHook, SwitchesHook, acts_asked, later_runs, work_of, work_of_act, work_of_job}
 use Rattle.af_answer.specs.Children.{ChildRun, is_starved, run_end, start_failed}
 use Rattle.af_answer.proofs.AnswerPartLemmas.{is_answering, works_end, works_on}
@@ -93,7 +93,7 @@ module _ (w : ClientState) (job : AnswerJob) (acts : List Event → List Machine
   later = trace_of (next tt here)
 
   abbrev switched_by : ℕ → Result (Unit {0}) ConnFault → AnswerTrace
-  switched_by off r = trace_by (exchanged (request_bytes w.order (hook_switch job.device off)) (refusal (hook_switch job.device off)) r here) next
+  switched_by off r = trace_by (called (deeds_of_work (sending (request_bytes w.order (hook_switch job.device off)))) (by_answer (refusal (hook_switch job.device off)) r) here) next
 
   taken_off : (r : Result (Unit {0}) ConnFault) → KeepsTo w.order true job (acts later.deeds.heard) runs later → (let t = switched_by 1 r in KeepsTo w.order false job (off_hook ∷ acts t.deeds.heard) runs t)
   taken_off (Ok u) k = did w.order false job off_hook _ runs k
@@ -168,8 +168,8 @@ module _ (job : AnswerJob) (t : Tally) (runs : List ChildRun) (taken : MachinePa
   unfolding acts_from
   none_left order rings other = keeps_all other
 
-  handed_keeps : (n rings : ℕ) (r : Result Event ConnFault) (w : ClientState) → KeepsWaiting n w → KeepsFrom w.order rings (trace_by (called (heard_of r) (by_answer met_fault r) (record { wire = w; runs = runs })) (rung n rings))
-  unfolding acts_from
+  handed_keeps : (n rings : ℕ) (r : Result Event ConnFault) (w : ClientState) → KeepsWaiting n w → KeepsFrom w.order rings (trace_by (called doing.nothing (by_answer met_fault r) (record { wire = w; runs = runs })) (λ e. goes_on doing (hears e) (rung n rings)))
+  unfolding acts_from goes_on
   handed_keeps n rings (Ok e) w more =
       let ends = map run_end runs in
       let x : Bool → AnswerTrace = λ y. trace_of ((if y then taken else goes_on doing (awaits_call n job (rings_after job rings e)) (λ _. taken)) (record { wire = w; runs = runs })) in
@@ -179,16 +179,16 @@ module _ (job : AnswerJob) (t : Tally) (runs : List ChildRun) (taken : MachinePa
       ]
   handed_keeps n rings (Err f) w more = none_left w.order rings (λ x e. cc e)
 
-  waited_keeps : (n rings : ℕ) (w : ClientState) → KeepsWaiting n (after_event w) → KeepsFrom w.order rings (trace_of (goes_on doing awaits_event (rung n rings) (record { wire = w; runs = runs })))
-  unfolding awaits_event goes_on
+  waited_keeps : (n rings : ℕ) (w : ClientState) → KeepsWaiting n (after_event w) → KeepsFrom w.order rings (trace_of (goes_on doing (exchanges met_fault (λ w. []) next_event after_event) (λ e. goes_on doing (hears e) (rung n rings)) (record { wire = w; runs = runs })))
+  unfolding goes_on
   waited_keeps n rings w more = handed_keeps n rings (next_event w) (after_event w) more
 
   flooded_keeps : (w : ClientState) → KeepsWaiting zero w
   unfolding awaits_call goes_on
   flooded_keeps w rings = none_left w.order rings (λ x e. cc e)
 
-  wait_first : (n rings : ℕ) → goes_on doing (awaits_call (suc n) job rings) (λ _. taken) ≡ goes_on doing awaits_event (rung n rings)
-  unfolding awaits_call
+  wait_first : (n rings : ℕ) → goes_on doing (awaits_call (suc n) job rings) (λ _. taken) ≡ goes_on doing (exchanges met_fault (λ w. []) next_event after_event) (λ e. goes_on doing (hears e) (rung n rings))
+  unfolding awaits_call awaits_event
   wait_first n rings = simp (goes_on_twice is_answering, branch_first, value_first is_answering)
 
   pub awaited_keeps : (n : ℕ) (w : ClientState) → KeepsWaiting n w
@@ -245,7 +245,7 @@ module _ (job : AnswerJob) (w : ClientState) (runs : List ChildRun) (some : (0 =
   calls u = goes_on doing (attends job.calls job no_calls) writes_tally
 
   asked_keeps : (r : Result (Unit {0}) ConnFault) →
-      KeepsAll w.order job (trace_by (exchanged (request_bytes w.order (select_events job.device 3)) (refusal (select_events job.device 3)) r (record { wire = after_reply w; runs = runs })) calls) runs
+      KeepsAll w.order job (trace_by (called (deeds_of_work (sending (request_bytes w.order (select_events job.device 3)))) (by_answer (refusal (select_events job.device 3)) r) (record { wire = after_reply w; runs = runs })) calls) runs
   unfolding acts_from
   asked_keeps (Ok u) =
       let x = trace_of (calls tt (record { wire = after_reply w; runs = runs })) in

@@ -7,27 +7,27 @@ use Rattle.af_io.specs.Dial.{AppendedBack, IsFirstOf, ToldLink}
 use Rattle.af_io.proofs.AppendedLemmas.{appended_none}
 use Rattle.af_wire.specs.declared.order.Order.TheVariants.{Big}
 use Rattle.af_wire.specs.Front.{setup_bytes}
-use Rattle.af_dialogue.specs.Parts.{followed}
+use Rattle.af_dialogue.specs.Parts.{called, followed, goes_on}
 use Rattle.af_process.specs.Acts.{Told}
 use Rattle.af_request.specs.declared.reply.DeviceInfo.{DeviceInfo}
 use Rattle.af_lib.specs.declared.fault.ConnFault.{ConnFault}
 use Rattle.af_lib.specs.declared.fault.ConnFault.TheVariants as fault
 use Rattle.af_lib.specs.Calls.{ConnState, IsSetUp}
 use Rattle.af_lib.specs.Ring.{RingState}
-use Rattle.af_toolkit.specs.Trace.{ClientState, new_client, client_after_setup, setup_answer}
+use Rattle.af_toolkit.specs.Trace.{ClientState, new_client, client_after_setup, client_before_setup, setup_answer}
 use Rattle.af_toolkit.specs.Ends.{client_of}
 use Rattle.af_toolkit.proofs.TracePartLemmas.{client_begun, setup_known}
 use Rattle.af_answer.specs.declared.end.AnswerEnd.{AnswerEnd}
 use Rattle.af_answer.specs.declared.end.AnswerEnd.TheVariants as end
 use Rattle.af_answer.specs.declared.job.AnswerJob.{AnswerJob}
-use Rattle.af_answer.specs.AnswerTrace.{MachineOutcome, answer_trace, answers, connection_end, deeds_of_work, doing, exchanged, met_fault, sending, trace_of}
-use Rattle.af_answer.specs.AnswerParts.{seen_as, stand}
+use Rattle.af_answer.specs.AnswerTrace.{MachineOutcome, ToCome, answer_trace, answers, connection_end, deeds_of_work, doing, by_answer, met_fault, sending, trace_of}
+use Rattle.af_answer.specs.AnswerParts.{Went, seen_as, stand}
 use Rattle.af_answer.specs.Answered.{AnswerRan, RanAs}
 use Rattle.af_answer.specs.AnswerWords.{AnswerWords, answer_words, words_of_job}
 use Rattle.af_answer.specs.AnswerRun.{Attended, LinkRan, RanAsked, RanOver, Surroundings, sets_up, whole_trace}
 use Rattle.af_answer.specs.Outcomes.{is_of_calls}
 use Rattle.af_answer.proofs.AnswerPartLemmas.{added_on, matches_after, stopped_matches}
-use Rattle.af_answer.proofs.AnswerStepLemmas.{exchange_came}
+use Rattle.af_answer.proofs.AnswerStepLemmas.{exchange_went}
 
 -- a fault of a connection is an end of calls
 fault_of_calls : (f : ConnFault) → is_of_calls (connection_end f) ≡ true
@@ -43,16 +43,18 @@ setup_failed input f front known devices set = let bad : (let r : Result (List D
 
 pub not_set_up_ran : {L : Type 0} {left sent : L → Option (List ℕ)} {faults : L → ℕ} (job : AnswerJob) {input : List ℕ} {old new : L} {ring : RingState} {f : ConnFault} {acts : Option (List Told)} {held : Option (List ℕ)} →
     IsSetUp Big left sent faults old new ring (Err f) → left old ≡ Some input → LinkRan job input (connection_end f) (seen_as (sent old) acts held) (seen_as (sent new) acts held)
-unfolding whole_trace
+unfolding whole_trace goes_on
 not_set_up_ran {left} {sent} {faults} job {input} {old} {new} {ring} {f} {acts} {held} is told =
     let known = setup_known Big left sent faults old new ring input (Err f) is told in
-    let c = exchange_came met_fault (λ f. refl) (setup_bytes Big) (setup_answer Big input) (client_after_setup Big input)
-    (stand (left old) (new_client Big ring) (sent old) acts held []) (stand (left new) (new_client Big ring) (sent new) acts held []) (Err f) is.fresh refl is.sends known in
+    let went : Went {X = List DeviceInfo} sets_up (Err (connection_end f)) (stand (left old) (client_before_setup Big) (sent old) acts held) (stand (left new) (new_client Big ring) (sent new) acts held) =
+        exchange_went met_fault (λ f. refl) (λ w. setup_bytes Big) (λ w. setup_answer Big w.input) (λ w. client_after_setup Big w.input) acts held (Err f) is.fresh (λ i t. (is.sends, setup_known Big left sent faults old new ring i (Err f) is t)) in
+    let at : ToCome = record { wire = client_before_setup Big input; runs = went.runs [] } in
+    let c = (went.goes []).came at (input, told, refl) in
     record {
-      runs = [];
+      runs = went.runs [];
       done = c.0;
       added = c.2;
-      followed = stopped_matches (sets_up input []) (λ y. answers job y.0 y.1) (connection_end f) c.0 (fault_of_calls f) c.1;
+      followed = stopped_matches (sets_up at) (λ y. answers job y.0 y.1) (connection_end f) c.0 (fault_of_calls f) c.1;
       attended = λ devices set. inl (setup_failed input f is.sends.part (λ sound. (known sound).2) devices set);
     }
 
@@ -60,7 +62,7 @@ not_set_up_ran {left} {sent} {faults} job {input} {old} {new} {ring} {f} {acts} 
 pub set_up_ran : {L : Type 0} {left sent : L → Option (List ℕ)} {faults : L → ℕ} (job : AnswerJob) {input : List ℕ} {far : L} (conn : ConnState L) {how : AnswerEnd} {s' : Option (List ℕ)} {a a' : Option (List Told)} {h h' : Option (List ℕ)} →
     conn.order ≡ Big → conn.sequence ≡ 0 → IsSetUp Big left sent faults far conn.link conn.ring (Ok conn.devices) → left far ≡ Some input →
     ((i : List ℕ) → left conn.link ≡ Some i → AnswerRan job conn.devices (client_of conn i) how (seen_as (sent conn.link) a h) (seen_as s' a' h')) → LinkRan job input how (seen_as (sent far) a h) (seen_as s' a' h')
-unfolding whole_trace
+unfolding whole_trace goes_on
 set_up_ran {left} {sent} {faults} job {input} {far} conn {how} {s'} {a} {a'} {h} {h'} same_order first is told answered =
     let k = setup_known Big left sent faults far conn.link conn.ring input (Ok conn.devices) is told (λ e. cc e) in
     let r = answered k.0 k.1 in
@@ -69,7 +71,7 @@ set_up_ran {left} {sent} {faults} job {input} {far} conn {how} {s'} {a} {a'} {h}
     let set : Appended (sent far) (setup_bytes Big) (sent conn.link) = is.sends.whole (λ e. cc e) in
     let setup = deeds_of_work (sending (setup_bytes Big)) in
     let whole = λ (x : Result (List DeviceInfo) ConnFault).
-    let o : MachineOutcome (List DeviceInfo) = exchanged (setup_bytes Big) met_fault x (record { wire = client_after_setup Big input; runs = r.runs }) in
+    let o : MachineOutcome (List DeviceInfo) = called setup (by_answer met_fault x) (record { wire = client_after_setup Big input; runs = r.runs }) in
     trace_of (followed doing o.did o.end (λ y. answers job y.0 y.1)) in
     record {
       runs = r.runs;

@@ -1,7 +1,7 @@
 -- An answering machine by its words: its server is dialled, the link set up in Big order, and its job done.
 use Rattle.std.specs.Prelude.{◌≡◌, ◌⊎◌, ℕ, List, [], ◌∷◌, Ok, Option, Some}
 use Rattle.clap.specs.Words.{Text}
-use Rattle.af_dialogue.specs.Parts.{followed}
+use Rattle.af_dialogue.specs.Parts.{goes_on}
 use Rattle.af_io.specs.Observed.{Appended}
 use Rattle.af_io.specs.Flow.{AppendedPrefix}
 use Rattle.af_io.specs.Dial.{AppendedBack, ToldLink}
@@ -9,26 +9,24 @@ use Rattle.af_wire.specs.declared.order.Order.TheVariants.{Big}
 use Rattle.af_wire.specs.Front.{setup_bytes}
 use Rattle.af_process.specs.Acts.{Told}
 use Rattle.af_request.specs.declared.reply.DeviceInfo.{DeviceInfo}
-use Rattle.af_toolkit.specs.Trace.{client_after_setup, setup_answer}
+use Rattle.af_toolkit.specs.Trace.{client_after_setup, client_before_setup, setup_answer}
 use Rattle.af_answer.specs.declared.end.AnswerEnd.{AnswerEnd}
 use Rattle.af_answer.specs.declared.end.AnswerEnd.TheVariants as end
 use Rattle.af_answer.specs.declared.job.AnswerJob.{AnswerJob}
 use Rattle.af_answer.specs.Children.{ChildRun}
-use Rattle.af_answer.specs.AnswerTrace.{AnswerTrace, MachineDeeds, MachineOutcome, answer_trace, answers, doing, exchanged}
+use Rattle.af_answer.specs.AnswerTrace.{AnswerTrace, MachineDeeds, MachinePart, answer_trace, answers, doing, exchanges}
 use Rattle.af_answer.specs.AnswerTrace.{met_fault, trace_of}
 use Rattle.af_answer.specs.AnswerParts.{Added, MatchesAnswer, Seen, seen_as}
 use Rattle.af_answer.specs.Answered.{RanAs}
 use Rattle.af_answer.specs.AnswerWords.{AnswerWords, words_of_job}
 
 -- a link is set up, and its answer gives the devices of the server
-abbrev pub sets_up : (input : List ℕ) → List ChildRun → MachineOutcome (List DeviceInfo)
-sets_up input runs =
-    exchanged (setup_bytes Big) met_fault (setup_answer Big input) (record { wire = client_after_setup Big input; runs = runs })
+abbrev pub sets_up : MachinePart (List DeviceInfo)
+sets_up = exchanges met_fault (λ w. setup_bytes Big) (λ w. setup_answer Big w.input) (λ w. client_after_setup Big w.input)
 
 -- the trace of a machine on a link that is set up first, by all bytes that the link gives and by how the children run
 unfoldable pub whole_trace : AnswerJob → List ℕ → List ChildRun → AnswerTrace
-whole_trace job input runs =
-    trace_of (followed doing (sets_up input runs).did (sets_up input runs).end (λ y. answers job y.0 y.1))
+whole_trace job input runs = trace_of (goes_on doing sets_up (answers job) (record { wire = client_before_setup Big input; runs = runs }))
 
 -- a link was set up, and then the machine ran on it
 pub record Attended (job : AnswerJob) (devices : List DeviceInfo) (input : List ℕ) (runs : List ChildRun) (how : AnswerEnd)

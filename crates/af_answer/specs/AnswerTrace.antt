@@ -101,14 +101,15 @@ abbrev pub by_answer : {X : Type 0} → (ConnFault → AnswerFinish) → Result 
 by_answer reason (Ok x) = Ok x
 by_answer reason (Err fault) = Err (reason fault)
 
--- a message is sent, which is answered so, and the client stands there then
-abbrev pub exchanged : {X : Type 0} → List ℕ → (ConnFault → AnswerFinish) → Result X ConnFault → ToCome → MachineOutcome X
-exchanged bytes reason answer there = called (deeds_of_work (sending bytes)) (by_answer reason answer) there
+-- a message is sent, and its answer is the value
+abbrev pub exchanges : {X : Type 0} → (ConnFault → AnswerFinish) → (bytes : ClientState → List ℕ) →
+    (answer : ClientState → Result X ConnFault) → (after : ClientState → ClientState) → MachinePart X
+exchanges reason bytes answer after a = called (deeds_of_work (sending (bytes a.wire))) (by_answer reason (answer a.wire))
+    (record { wire = after a.wire; runs = a.runs })
 
 -- a request is sent, and its answer is the value
 unfoldable pub requests : Asked → MachinePart (Unit {0})
-requests asked a = exchanged (request_bytes a.wire.order asked) (refusal asked) (answer_on asked as_done a.wire)
-    (record { wire = after_reply a.wire; runs = a.runs })
+requests asked = exchanges (refusal asked) (λ w. request_bytes w.order asked) (answer_on asked as_done) after_reply
 
 -- the event that a client gets next: the oldest of its ring, or else the next message
 abbrev pub next_event : ClientState → Result Event ConnFault
@@ -121,15 +122,13 @@ after_event w = record w {
   input = if is_some (slice_get w.ring.events 0) then w.input else after_message w.order w.input;
 }
 
--- an event is heard, if one was handed out
-abbrev pub heard_of : Result Event ConnFault → MachineDeeds
-heard_of (Ok e) = record { heard = e ∷ []; work = no_work }
-heard_of (Err fault) = doing.nothing
+-- an event is heard
+abbrev pub hears : Event → MachinePart Event
+hears e a = called (record { heard = e ∷ []; work = no_work }) (Ok e) a
 
--- an event is waited for, for which nothing is sent
+-- an event is waited for, for which nothing is sent, and heard
 unfoldable pub awaits_event : MachinePart Event
-awaits_event a = called (heard_of (next_event a.wire)) (by_answer met_fault (next_event a.wire))
-    (record { wire = after_event a.wire; runs = a.runs })
+awaits_event = goes_on doing (exchanges met_fault (λ w. []) next_event after_event) hears
 
 -- how the next child runs: if nothing is stated of it, it does not start
 abbrev pub first_run : List ChildRun → ChildRun

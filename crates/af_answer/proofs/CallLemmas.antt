@@ -1,6 +1,5 @@
 -- Calls of a line: one is awaited, event by event; it is taken; and then the next.
 use Rattle.std.proofs.Common.{◌≡◌, ◌≢◌, ℕ, zero, suc, ◌-◌, ◌<◌, ◌==◌, if◌then◌else◌, Bool, arith, refl, sym, ap, ◌∙◌}
-use Rattle.std.proofs.lemmas.Bool.{eq-eqb, ne_eqb}
 use Rattle.af_wire.specs.declared.event.Event.{Event}
 use Rattle.af_dialogue.specs.Parts.{goes_on, has_value}
 use Rattle.af_answer.specs.declared.child.ChildEnd.{ChildEnd}
@@ -18,15 +17,6 @@ pub awaits_next : (n : ℕ) (job : AnswerJob) (rings : ℕ) → 0 < n → awaits
 unfolding awaits_call
 awaits_next zero job rings some = absurd (omega (arith, some))
 awaits_next (suc n) job rings some = let less : suc n - 1 ≡ n = omega arith in rw less refl
-
-module _ (n : ℕ) (job : AnswerJob) (rings : ℕ) {rings' : ℕ} (e : Event) (is : rings' ≡ rings_after job rings e) where
-  pub rang_enough : rings' ≡ job.rings → after_ring n job rings e ≡ has_value doing tt
-  rang_enough same = ap (λ (b : Bool). (let part : MachinePart (Unit {0}) = if b then has_value doing tt else awaits_call n job (rings_after job rings e) in part)) (eq-eqb (rings_after job rings e) job.rings (sym is ∙ same))
-
-  pub rings_on : rings' ≢ job.rings → after_ring n job rings e ≡ awaits_call n job rings'
-  rings_on other =
-      ap (λ (b : Bool). (let part : MachinePart (Unit {0}) = if b then has_value doing tt else awaits_call n job (rings_after job rings e) in part)) (ne_eqb (rings_after job rings e) job.rings (λ same. other (is ∙ same)))
-      ∙ ap (λ (r : ℕ). awaits_call n job r) (sym is)
 
 -- what follows a call, by how it ended
 abbrev pub after_call : (n : ℕ) → AnswerJob → Tally → ChildEnd → MachinePart Tally

@@ -16,7 +16,7 @@ use Rattle.af_answer.specs.declared.child.ChildEnd.TheVariants as ended
 use Rattle.af_answer.specs.declared.job.AnswerJob.{AnswerJob}
 use Rattle.af_answer.specs.declared.tally.Tally.{Tally}
 use Rattle.af_answer.specs.Acts.{MachineAct, acts_after, acts_after_greeting, acts_from, acts_of_call, greet, leaves_off, no_calls, off_after, off_hook, on_hook, record_message, rings_after, tally_after, write_tally}
-use Rattle.af_answer.specs.AnswerTrace.{ToCome, AnswerTrace, AnswerFinish, MachineOutcome, MachinePart, Work, after_event, attends, attends_all, awaits_call, awaits_event, both_works, by_answer, child_starved, deeds_of_work, doing, exchanges, first_run, hears, leaves_message, met_fault, most_for_a_call, next_event, no_work, off_hook_fault, refusal, requests, runs_child, sending, stops, takes_call, trace_of, writes_tally}
+use Rattle.af_answer.specs.AnswerTrace.{ToCome, AnswerTrace, AnswerFinish, MachineOutcome, MachinePart, Work, after_event, attends, attends_all, awaits_call, awaits_event, both_works, by_answer, child_starved, deeds_of_work, doing, exchanges, first_run, hears, leaves_message, met_fault, most_for_a_call, next_event, no_work, off_hook_fault, refusal, rang_too_little, requests, runs_child, sending, stops, takes_call, trace_of, writes_tally}
 use Rattle.af_answer.specs.Answered.{StopsAtOffHook, SwitchesHook, acts_asked, later_runs, work_of, work_of_act, work_of_job}
 use Rattle.af_answer.specs.Children.{ChildRun, is_starved, run_end, start_failed}
 use Rattle.af_answer.proofs.AnswerPartLemmas.{is_answering, works_end, works_on}
@@ -183,16 +183,16 @@ module _ (job : AnswerJob) (t : Tally) (runs : List ChildRun) (taken : MachinePa
   unfolding goes_on
   waited_keeps n rings w more = handed_keeps n rings (next_event w) (after_event w) more
 
-  flooded_keeps : (w : ClientState) → KeepsWaiting zero w
-  unfolding awaits_call goes_on
-  flooded_keeps w rings = none_left w.order rings (λ x e. cc e)
+  wait_floods : (rings : ℕ) → goes_on doing (awaits_call zero job rings) (λ _. taken) ≡ stops rang_too_little
+  unfolding awaits_call
+  wait_floods rings = stop_first rang_too_little (λ _. taken)
 
   wait_first : (n rings : ℕ) → goes_on doing (awaits_call (suc n) job rings) (λ _. taken) ≡ goes_on doing (exchanges met_fault (λ w. []) next_event after_event) (λ e. goes_on doing (hears e) (rung n rings))
   unfolding awaits_call awaits_event
   wait_first n rings = simp (goes_on_twice is_answering, branch_first, value_first is_answering)
 
-  pub awaited_keeps : (n : ℕ) (w : ClientState) → KeepsWaiting n w
-  awaited_keeps zero w rings = flooded_keeps w rings
+  awaited_keeps : (n : ℕ) (w : ClientState) → KeepsWaiting n w
+  awaited_keeps zero w rings = rw (wait_floods rings) (none_left w.order rings (λ x e. cc e))
   awaited_keeps (suc n) w rings = rw (wait_first n rings) (waited_keeps n rings w (awaited_keeps n (after_event w)))
 
 -- the acts after so many calls that were not starved

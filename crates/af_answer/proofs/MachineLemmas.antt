@@ -64,18 +64,19 @@ module _ (order : Order) (job : AnswerJob) (t : AnswerTrace) (runs : List ChildR
   abbrev acts : List MachineAct
   acts = acts_asked job t runs
 
-  all_sent : {how : AnswerEnd} → MatchesAnswer t how done → how ≢ end.LinkFault → t.deeds.work.sends ≡ done.work.sends
-  all_sent m acting = ap (λ (d : MachineDeeds). d.work.sends) m.all ∙ ap (λ l. done.work.sends ++ l) (m.acted acting).0 ∙ append-nil done.work.sends
-
-  all_told : {how : AnswerEnd} → MatchesAnswer t how done → how ≢ end.LinkFault → t.deeds.work.told ≡ done.work.told
-  all_told m acting = ap (λ (d : MachineDeeds). d.work.told) m.all ∙ ap (λ l. done.work.told ++ l) (m.acted acting).1 ∙ append-nil done.work.told
+  all_acted : {how : AnswerEnd} → MatchesAnswer t how done → how ≢ end.LinkFault → (t.deeds.work.sends ≡ done.work.sends) × (t.deeds.work.told ≡ done.work.told)
+  all_acted m acting =
+      let undone = m.acted acting in (
+        ap (λ (d : MachineDeeds). d.work.sends) m.all ∙ ap (λ l. done.work.sends ++ l) undone.0 ∙ append-nil done.work.sends,
+        ap (λ (d : MachineDeeds). d.work.told) m.all ∙ ap (λ l. done.work.told ++ l) undone.1 ∙ append-nil done.work.told,
+      )
 
   hangs : {how : AnswerEnd} → MatchesAnswer t how done → how ≢ end.LinkFault → SwitchesHook t.finish → HangsUp order job acts runs done.work
   hangs m acting switched =
       let same : work_of_job order job acts runs ≡ t.deeds.work = k.all ∙ ap (λ (w : Work). both_works t.deeds.work w) (k.whole switched) ∙ works_end t.deeds.work in
       record {
-        sent = sym (ap (λ (w : Work). w.sends) same ∙ all_sent m acting);
-        children = sym (ap (λ (w : Work). w.told) same ∙ all_told m acting);
+        sent = sym (ap (λ (w : Work). w.sends) same ∙ (all_acted m acting).0);
+        children = sym (ap (λ (w : Work). w.told) same ∙ (all_acted m acting).1);
         on = acts_leave_on job 0 no_calls t.deeds.heard (map run_end runs);
       }
 
@@ -90,7 +91,7 @@ module _ (order : Order) (job : AnswerJob) (t : AnswerTrace) (runs : List ChildR
   hook_left (end.Refused code value) way m = λ puts_on.
       elim (refused_by t.finish puts_on) [
         | inl switched ↦ inl (hangs m (λ e. cc e) switched)
-        | inr off ↦ inr (subst (λ l. StopsAtOffHook order job acts runs l) (all_sent m (λ e. cc e)) (k.stops off.0 off.1))
+        | inr off ↦ inr (subst (λ l. StopsAtOffHook order job acts runs l) (all_acted m (λ e. cc e)).0 (k.stops off.0 off.1))
       ]
   hook_left how way m = cc way
 

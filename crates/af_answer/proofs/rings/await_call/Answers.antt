@@ -1,8 +1,9 @@
-use Rattle.std.proofs.Common.{rules, arith, ◌≡◌, ◌∙◌, refl, Ok, Err}
+use Rattle.std.proofs.Common.{rules, arith, ◌≡◌, ◌∙◌, refl, sym, Ok, Err}
+use Rattle.std.proofs.lemmas.Bool.{eq-eqb, ne_eqb}
 use Rattle.af_answer.specs.AnswerTrace.{awaits_call, rang_too_little}
 use Rattle.af_answer.proofs.AnswerPartLemmas.{went_by, went_here, went_on, went_stop, went_stops, went_value}
 use Rattle.af_answer.proofs.AnswerStepLemmas.{awaited_went, event_stays}
-use Rattle.af_answer.proofs.CallLemmas.{awaits_next, rang_enough, rings_on}
+use Rattle.af_answer.proofs.CallLemmas.{awaits_next}
 use Rattle.af_answer.proofs.rings.await_call.Goals as goal
 
 pub loop-allowed-init : goal.loop-allowed-init
@@ -26,7 +27,7 @@ returns-then-rings-job-clause-goes g c acts held =
     let i = c.loop-allowed.invariant in
     let heard = awaited_went acts held (Ok c.in_ok-event.event) c.in_ok-event.ensures i.usable in
     went_by (went_on _ (rw (awaits_next c.loop-allowed.allowed c.args.job.now c.loop-allowed.rings (omega arith)) at (i.waiting acts held)) heard)
-    (rw (rang_enough _ c.args.job.now c.loop-allowed.rings c.in_ok-event.event c.rings_after-rings.ensures.rings c.if-rings-job.true) (went_value tt))
+    (rw (eq-eqb _ _ (sym c.rings_after-rings.ensures.rings ∙ c.if-rings-job.true)) (went_value tt))
 
 pub returns-clause-goes : goal.returns-clause-goes
 unfolding awaits_call
@@ -46,6 +47,6 @@ loop-allowed-preserved g c =
       count = omega (arith, e.count, i.count);
       few = omega (arith, c.rings_after-rings.ensures.few, i.few);
       waiting = λ acts held.
-          rw (rings_on _ c.args.job.now c.loop-allowed.rings c.in_ok-event.event c.rings_after-rings.ensures.rings c.if-rings-job.false) at
+          rw (ne_eqb _ _ (λ same. c.if-rings-job.false (c.rings_after-rings.ensures.rings ∙ same)), sym c.rings_after-rings.ensures.rings) at
           (went_on _ (rw (awaits_next c.loop-allowed.allowed c.args.job.now c.loop-allowed.rings (omega arith)) at (i.waiting acts held)) (awaited_went acts held (Ok c.in_ok-event.event) e i.usable));
     }

@@ -41,31 +41,30 @@ refusal_end (hook_switch device (suc off)) f = refl
 refusal_end asked f = refl
 
 -- a message that is sent and answered is a part of a machine
-module _ {X : Type 0} (reason : ConnFault → AnswerFinish) (ends_by : (f : ConnFault) → connection_end f ≡ machine_end (reason f)) (bytes : ClientState → List ℕ) (answer : ClientState → Result X ConnFault) (after : ClientState → ClientState)
-    {left' : Option (List ℕ)} {client' : List ℕ → ClientState} {sent sent' : Option (List ℕ)} (acts : Option (List Told)) (held : Option (List ℕ)) where
-  exchange_came : (left : Option (List ℕ)) (client : List ℕ → ClientState) (later : List ChildRun) (w : ClientState) (result : Result X ConnFault) → IsFresh result → Sends result sent (bytes w) sent' → Known (answer w) (after w) left' client' result →
-      Came answering (exchanges reason bytes answer after (record { wire = w; runs = later })) (part_of result) (stand left client sent acts held later) (stand left' client' sent' acts held later)
-  exchange_came left client later w (Ok x) fresh sends known =
-      let k = known (λ e. cc e) in
-      let there : ToCome = record { wire = after w; runs = later } in
-      let at = λ (v : ClientState). (let a : ToCome = record { wire = v; runs = later } in a) in
-      let o = λ (r : Result X ConnFault). (let o : MachineOutcome X = called (deeds_of_work (sending (bytes w))) (by_answer reason r) there in o) in
-      (there, (k.0, k.1, ap at (sym k.3)), _, ap o (sym k.2), added_sent (sends.whole (λ e. cc e)))
-  exchange_came left client later w (Err fault.LinkFault) fresh sends known =
-      (deeds_of_work (sending sends.part.front), inl (refl, (deeds_of_work (sending sends.part.rest), ap (λ l. deeds_of_work (sending l)) sends.part.whole)), added_sent sends.part.appended)
-  exchange_came left client later w (Err fault.OutOfMemory) fresh sends known = absurd fresh
-  exchange_came left client later w (Err (fault.Spent first)) fresh sends known = absurd fresh
-  exchange_came left client later w (Err f) fresh sends known =
-      let there : ToCome = record { wire = after w; runs = later } in
-      let o = λ (r : Result X ConnFault). (let o : MachineOutcome X = called (deeds_of_work (sending (bytes w))) (by_answer reason r) there in o) in
-      (_, inr (reason f, (ends_by f, λ e. cc e), ap o (sym (known (λ e. cc e)).2)), added_sent (sends.whole (λ e. cc e)))
+module _ {X : Type 0} (reason : ConnFault → AnswerFinish) (ends_by : (f : ConnFault) → connection_end f ≡ machine_end (reason f)) (bytes : ClientState → List ℕ) (answer : ClientState → Result X ConnFault) (after : ClientState → ClientState) where
+  abbrev answered_by : List ChildRun → ClientState → Result X ConnFault → MachineOutcome X
+  answered_by later w r = called (deeds_of_work (sending (bytes w))) (by_answer reason r) (record { wire = after w; runs = later })
 
-  pub exchange_went : {left : Option (List ℕ)} {client : List ℕ → ClientState} (result : Result X ConnFault) → IsFresh result → ((input : List ℕ) → left ≡ Some input → Sends result sent (bytes (client input)) sent' × Known (answer (client input)) (after (client input)) left' client' result) →
-      Went (exchanges reason bytes answer after) (part_of result) (stand left client sent acts held) (stand left' client' sent' acts held)
-  exchange_went {left} {client} result fresh known = record {
-    runs = λ later. later;
-    goes = λ later. record { came = λ a stands. (let k = known stands.0 stands.1 in rw stands.2 (exchange_came left client later (client stands.0) result fresh k.0 k.1)) };
-  }
+  module _ {left' : Option (List ℕ)} {client' : List ℕ → ClientState} {sent sent' : Option (List ℕ)} (acts : Option (List Told)) (held : Option (List ℕ)) where
+    exchange_came : (left : Option (List ℕ)) (client : List ℕ → ClientState) (later : List ChildRun) (w : ClientState) (result : Result X ConnFault) → IsFresh result → Sends result sent (bytes w) sent' → Known (answer w) (after w) left' client' result →
+        Came answering (exchanges reason bytes answer after (record { wire = w; runs = later })) (part_of result) (stand left client sent acts held later) (stand left' client' sent' acts held later)
+    exchange_came left client later w (Ok x) fresh sends known =
+        let k = known (λ e. cc e) in
+        let at = λ (v : ClientState). (let a : ToCome = record { wire = v; runs = later } in a) in
+        (at (after w), (k.0, k.1, ap at (sym k.3)), _, ap (answered_by later w) (sym k.2), added_sent (sends.whole (λ e. cc e)))
+    exchange_came left client later w (Err fault.LinkFault) fresh sends known =
+        (deeds_of_work (sending sends.part.front), inl (refl, (deeds_of_work (sending sends.part.rest), ap (λ l. deeds_of_work (sending l)) sends.part.whole)), added_sent sends.part.appended)
+    exchange_came left client later w (Err fault.OutOfMemory) fresh sends known = absurd fresh
+    exchange_came left client later w (Err (fault.Spent first)) fresh sends known = absurd fresh
+    exchange_came left client later w (Err f) fresh sends known =
+        (_, inr (reason f, (ends_by f, λ e. cc e), ap (answered_by later w) (sym (known (λ e. cc e)).2)), added_sent (sends.whole (λ e. cc e)))
+
+    pub exchange_went : {left : Option (List ℕ)} {client : List ℕ → ClientState} (result : Result X ConnFault) → IsFresh result → ((input : List ℕ) → left ≡ Some input → Sends result sent (bytes (client input)) sent' × Known (answer (client input)) (after (client input)) left' client' result) →
+        Went (exchanges reason bytes answer after) (part_of result) (stand left client sent acts held) (stand left' client' sent' acts held)
+    exchange_went {left} {client} result fresh known = record {
+      runs = λ later. later;
+      goes = λ later. record { came = λ a stands. (let k = known stands.0 stands.1 in rw stands.2 (exchange_came left client later (client stands.0) result fresh k.0 k.1)) };
+    }
 
 -- a request and its answer are one
 pub requested_went : {L : Type 0} {left sent : L → Option (List ℕ)} {faults : L → ℕ} {old new : ConnState L} (acts : Option (List Told)) {asked : Asked} {result : Result (Unit {0}) ConnFault} →

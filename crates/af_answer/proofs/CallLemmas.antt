@@ -1,5 +1,5 @@
 -- Calls of a line: one is awaited, event by event; it is taken; and then the next.
-use Rattle.std.proofs.Common.{◌≡◌, ◌≢◌, ℕ, zero, suc, ◌-◌, ◌<◌, ◌==◌, if◌then◌else◌, Bool, arith, refl, sym, ap, ◌∙◌}
+use Rattle.std.proofs.Common.{◌≡◌, ℕ, zero, suc, ◌-◌, ◌<◌, ◌==◌, if◌then◌else◌, arith, refl}
 use Rattle.af_wire.specs.declared.event.Event.{Event}
 use Rattle.af_dialogue.specs.Parts.{goes_on, has_value}
 use Rattle.af_answer.specs.declared.child.ChildEnd.{ChildEnd}

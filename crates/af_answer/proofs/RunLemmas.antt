@@ -1,5 +1,5 @@
 -- A machine on a link that is set up first.
-use Rattle.std.proofs.Common.{◌≡◌, ◌≢◌, ◌⊎◌, inl, inr, ℕ, true, List, [], ◌∷◌, refl, sym, ap, ◌∙◌, subst, Result, Ok, Err, Option, Some}
+use Rattle.std.proofs.Common.{◌≡◌, ◌≢◌, inl, inr, ℕ, true, List, [], ◌∷◌, refl, sym, ap, ◌∙◌, subst, Result, Ok, Err, Option, Some}
 use Rattle.clap.specs.Words.{Text}
 use Rattle.af_io.specs.Observed.{Appended}
 use Rattle.af_io.specs.Flow.{AppendedPrefix}
@@ -47,7 +47,7 @@ unfolding whole_trace goes_on
 not_set_up_ran {left} {sent} {faults} job {input} {old} {new} {ring} {f} {acts} {held} is told =
     let known = setup_known Big left sent faults old new ring input (Err f) is told in
     let went : Went {X = List DeviceInfo} sets_up (Err (connection_end f)) (stand (left old) (client_before_setup Big) (sent old) acts held) (stand (left new) (new_client Big ring) (sent new) acts held) =
-        exchange_went met_fault (λ f. refl) (λ w. setup_bytes Big) (λ w. setup_answer Big w.input) (λ w. client_after_setup Big w.input) acts held (Err f) is.fresh (λ i t. (is.sends, setup_known Big left sent faults old new ring i (Err f) is t)) in
+    exchange_went met_fault (λ f. refl) (λ w. setup_bytes Big) (λ w. setup_answer Big w.input) (λ w. client_after_setup Big w.input) acts held (Err f) is.fresh (λ i t. (is.sends, setup_known Big left sent faults old new ring i (Err f) is t)) in
     let at : ToCome = record { wire = client_before_setup Big input; runs = went.runs [] } in
     let c = (went.goes []).came at (input, told, refl) in
     record {

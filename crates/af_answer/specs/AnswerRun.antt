@@ -26,7 +26,8 @@ sets_up = exchanges met_fault (λ w. setup_bytes Big) (λ w. setup_answer Big w.
 
 -- the trace of a machine on a link that is set up first, by all bytes that the link gives and by how the children run
 unfoldable pub whole_trace : AnswerJob → List ℕ → List ChildRun → AnswerTrace
-whole_trace job input runs = trace_of (goes_on doing sets_up (answers job) (record { wire = client_before_setup Big input; runs = runs }))
+whole_trace job input runs =
+    trace_of (goes_on doing sets_up (answers job) (record { wire = client_before_setup Big input; runs = runs }))
 
 -- a link was set up, and then the machine ran on it
 pub record Attended (job : AnswerJob) (devices : List DeviceInfo) (input : List ℕ) (runs : List ChildRun) (how : AnswerEnd)
@@ -88,7 +89,8 @@ pub record RanAsked (asked : AnswerWords) (how : AnswerEnd) (before after : Surr
 abbrev pub RunsAsked : {D S K : Type 0} → (links : D → Option (List ToldLink)) → (back : D → Option (List (List ℕ))) →
     (acts : S → Option (List Told)) → (held : K → Option (List ℕ)) →
     AnswerWords → AnswerEnd → (dial dial' : D) → (spawner spawner' : S) → (sink sink' : K) → Type 0
-RunsAsked links back acts held asked how dial dial' spawner spawner' sink sink' = (told : List ToldLink) → links dial ≡ Some told →
+RunsAsked links back acts held asked how dial dial' spawner spawner' sink sink' =
+    (told : List ToldLink) → links dial ≡ Some told →
     let before = surroundings (links dial) (back dial) (acts spawner) (held sink) in
     let after = surroundings (links dial') (back dial') (acts spawner') (held sink') in
     NotDialled how before after ⊎ RanAsked asked how before after

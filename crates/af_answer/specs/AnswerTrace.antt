@@ -1,7 +1,7 @@
 -- The trace of an answering machine, part by part: the events that it gets, what it sends, the acts of its children, what it
 -- writes, and why it ends. It goes by what the link gives and by how the children run.
 use Rattle.std.specs.Prelude.{ℕ, zero, suc, ◌==◌, if◌then◌else◌, Bool, true, false, List, [], ◌∷◌, ◌++◌, codes, decimal, drop}
-use Rattle.std.specs.Prelude.{length, option_map, slice_get, Result, Ok, Err, Option, None, Some, is_some, unwrap_or}
+use Rattle.std.specs.Prelude.{get_or, length, option_map, slice_get, Result, Ok, Err, Option, None, Some, is_some, unwrap_or}
 use Rattle.af_wire.specs.declared.event.Event.{Event}
 use Rattle.af_request.specs.declared.reply.DeviceInfo.{DeviceInfo}
 use Rattle.af_request.specs.Asked.{Asked, hook_switch, select_events}
@@ -132,8 +132,7 @@ awaits_event = goes_on doing (exchanges met_fault (λ w. []) next_event after_ev
 
 -- how the next child runs: if nothing is stated of it, it does not start
 abbrev pub first_run : List ChildRun → ChildRun
-first_run [] = start_failed
-first_run (run ∷ runs) = run
+first_run runs = get_or runs 0 start_failed
 
 -- a text is run as a child, and how that ended is the value
 unfoldable pub runs_child : List ℕ → MachinePart ChildEnd

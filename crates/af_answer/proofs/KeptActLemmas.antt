@@ -80,6 +80,10 @@ stop_first : {X Y : Type 0} (finish : AnswerFinish) (next : X → MachinePart Y)
 unfolding goes_on
 stop_first finish next = refl
 
+-- a machine keeps to its acts, by the events to come and the ends of the children to come
+abbrev KeepsBy : (off : Bool) → AnswerJob → (List Event → List ChildEnd → List MachineAct) → MachinePart (Unit {0}) → ClientState → List ChildRun → Type 0
+KeepsBy off job acts part w runs = (let t = trace_of (part (record { wire = w; runs = runs })) in KeepsTo w.order off job (acts t.deeds.heard (map run_end runs)) runs t)
+
 -- what follows a part, as a trace
 abbrev trace_by : {X : Type 0} → MachineOutcome X → (X → MachinePart (Unit {0})) → AnswerTrace
 trace_by o next = trace_of (followed doing o.did o.end (λ y. next y.0 y.1))
@@ -112,38 +116,36 @@ module _ (job : AnswerJob) (next : ChildEnd → MachinePart (Unit {0})) (more : 
   greets u = goes_on doing (runs_child job.greeting.bytes) (λ greeting. goes_on doing (leaves_message job greeting) hangs)
 
   abbrev KeepsLater : ClientState → Type 0
-  KeepsLater w = (how : ChildEnd) (runs : List ChildRun) → (let t = trace_of (next how (record { wire = w; runs = runs })) in KeepsTo w.order false job (more t.deeds.heard how (map run_end runs)) runs t)
+  KeepsLater w = (how : ChildEnd) (runs : List ChildRun) → KeepsBy false job (λ events ends. more events how ends) (next how) w runs
 
-  hung_up : (w : ClientState) (how : ChildEnd) (runs : List ChildRun) → KeepsLater (after_reply w) →
-      (let t = trace_of (hangs how (record { wire = w; runs = runs })) in KeepsTo w.order true job (on_hook ∷ more t.deeds.heard how (map run_end runs)) runs t)
+  hung_up : (w : ClientState) (how : ChildEnd) (runs : List ChildRun) → KeepsLater (after_reply w) → KeepsBy true job (λ events ends. on_hook ∷ more events how ends) (hangs how) w runs
   unfolding requests goes_on
   hung_up w how runs later = put_on w job (λ events. more events how (map run_end runs)) runs (λ _. next how) (answer_on (hook_switch job.device 0) as_done w) (later how runs)
 
-  greeted : (w : ClientState) (greeting : ChildEnd) (runs : List ChildRun) → KeepsLater (after_reply w) →
-      (let t = trace_of (goes_on doing (leaves_message job greeting) hangs (record { wire = w; runs = runs })) in KeepsTo w.order true job (acts_after_greeting greeting (map run_end runs) (more t.deeds.heard)) runs t)
+  greeted : (w : ClientState) (greeting : ChildEnd) (runs : List ChildRun) → KeepsLater (after_reply w) → KeepsBy true job (λ events ends. acts_after_greeting greeting ends (more events)) (goes_on doing (leaves_message job greeting) hangs) w runs
   unfolding runs_child goes_on
   greeted w ended.Good [] later = did w.order true job record_message _ [] (hung_up w (run_end start_failed) [] later)
   greeted w ended.Good (run ∷ runs) later = did w.order true job record_message _ (run ∷ runs) (hung_up w (run_end run) runs later)
   greeted w greeting runs later = hung_up w greeting runs later
 
-  played : (w : ClientState) (runs : List ChildRun) → KeepsLater (after_reply w) →
-      (let t = trace_of (greets tt (record { wire = w; runs = runs })) in KeepsTo w.order true job (greet ∷ acts_after_greeting (get_or (map run_end runs) 0 ended.Bad) (drop 1 (map run_end runs)) (more t.deeds.heard)) runs t)
+  -- the greeting and what follows it
+  abbrev acts_played : List Event → List ChildEnd → List MachineAct
+  acts_played events ends = greet ∷ acts_after_greeting (get_or ends 0 ended.Bad) (drop 1 ends) (more events)
+
+  played : (w : ClientState) (runs : List ChildRun) → KeepsLater (after_reply w) → KeepsBy true job acts_played (greets tt) w runs
   unfolding runs_child goes_on
   played w [] later = did w.order true job greet _ [] (greeted w ended.Bad [] later)
   played w (run ∷ runs) later = did w.order true job greet _ (run ∷ runs) (greeted w (run_end run) runs later)
 
-  answered : (w : ClientState) (runs : List ChildRun) → KeepsLater (after_reply (after_reply w)) →
-      (let t = trace_of (goes_on doing (requests (hook_switch job.device 1)) greets (record { wire = w; runs = runs })) in KeepsTo w.order false job (acts_of_call (map run_end runs) (more t.deeds.heard)) runs t)
+  answered : (w : ClientState) (runs : List ChildRun) → KeepsLater (after_reply (after_reply w)) → KeepsBy false job (λ events ends. off_hook ∷ acts_played events ends) (goes_on doing (requests (hook_switch job.device 1)) greets) w runs
   unfolding requests goes_on
-  answered w runs later =
-      taken_off w job (λ events. greet ∷ acts_after_greeting (get_or (map run_end runs) 0 ended.Bad) (drop 1 (map run_end runs)) (more events)) runs greets (answer_on (hook_switch job.device 1) as_done w) (played (after_reply w) runs later)
+  answered w runs later = taken_off w job (λ events. acts_played events (map run_end runs)) runs greets (answer_on (hook_switch job.device 1) as_done w) (played (after_reply w) runs later)
 
   call_first : goes_on doing (takes_call job) next ≡ goes_on doing (requests (hook_switch job.device 1)) greets
   unfolding takes_call
   call_first = simp (goes_on_twice is_answering, value_first is_answering)
 
-  pub call_keeps : (w : ClientState) (runs : List ChildRun) → KeepsLater (after_reply (after_reply w)) →
-      (let t = trace_of (goes_on doing (takes_call job) next (record { wire = w; runs = runs })) in KeepsTo w.order false job (acts_of_call (map run_end runs) (more t.deeds.heard)) runs t)
+  call_keeps : (w : ClientState) (runs : List ChildRun) → KeepsLater (after_reply (after_reply w)) → KeepsBy false job (λ events ends. acts_of_call ends (more events)) (goes_on doing (takes_call job) next) w runs
   call_keeps w runs later = rw call_first (answered w runs later)
 
 -- the acts after a call, by the events to come, how it ended and the ends of the children to come
@@ -152,13 +154,13 @@ later_acts job t events how ends = acts_after how job.calls (tally_after how t) 
 
 -- What a call comes to keeps to the acts from that ring on, and so does what is awaited before it.
 module _ (job : AnswerJob) (t : Tally) (runs : List ChildRun) (taken : MachinePart (Unit {0}))
-    (keeps : (w : ClientState) → (let x = trace_of (taken (record { wire = w; runs = runs })) in KeepsTo w.order false job (acts_of_call (map run_end runs) (later_acts job t x.deeds.heard)) runs x)) where
+    (keeps : (w : ClientState) → KeepsBy false job (λ events ends. acts_of_call ends (later_acts job t events)) taken w runs) where
   -- a trace keeps to the acts from so many rings on; and so does waiting on for n events
   abbrev KeepsFrom : Order → ℕ → AnswerTrace → Type 0
   KeepsFrom order rings x = KeepsTo order false job (acts_from job rings t x.deeds.heard (map run_end runs)) runs x
 
   abbrev KeepsWaiting : ℕ → ClientState → Type 0
-  KeepsWaiting n w = (rings : ℕ) → KeepsFrom w.order rings (trace_of (goes_on doing (awaits_call n job rings) (λ _. taken) (record { wire = w; runs = runs })))
+  KeepsWaiting n w = (rings : ℕ) → KeepsBy false job (acts_from job rings t) (goes_on doing (awaits_call n job rings) (λ _. taken)) w runs
 
   -- what follows an event
   abbrev rung : ℕ → ℕ → Event → MachinePart (Unit {0})
@@ -179,7 +181,7 @@ module _ (job : AnswerJob) (t : Tally) (runs : List ChildRun) (taken : MachinePa
       ]
   handed_keeps n rings (Err f) w more = none_left w.order rings (λ x e. cc e)
 
-  waited_keeps : (n rings : ℕ) (w : ClientState) → KeepsWaiting n (after_event w) → KeepsFrom w.order rings (trace_of (goes_on doing (exchanges met_fault (λ w. []) next_event after_event) (λ e. goes_on doing (hears e) (rung n rings)) (record { wire = w; runs = runs })))
+  waited_keeps : (n rings : ℕ) (w : ClientState) → KeepsWaiting n (after_event w) → KeepsBy false job (acts_from job rings t) (goes_on doing (exchanges met_fault (λ w. []) next_event after_event) (λ e. goes_on doing (hears e) (rung n rings))) w runs
   unfolding goes_on
   waited_keeps n rings w more = handed_keeps n rings (next_event w) (after_event w) more
 
@@ -200,8 +202,7 @@ abbrev acts_at : AnswerJob → Tally → List Event → List ChildEnd → List M
 acts_at job t events ends = acts_after ended.Good job.calls t (acts_from job 0 t events ends)
 
 abbrev AttendsKept : AnswerJob → ℕ → Tally → Type 0
-AttendsKept job n t = (w : ClientState) (runs : List ChildRun) →
-    (let x = trace_of (goes_on doing (attends n job t) writes_tally (record { wire = w; runs = runs })) in KeepsTo w.order false job (acts_at job t x.deeds.heard (map run_end runs)) runs x)
+AttendsKept job n t = (w : ClientState) (runs : List ChildRun) → KeepsBy false job (acts_at job t) (goes_on doing (attends n job t) writes_tally) w runs
 
 counts_one : (how : ChildEnd) (t : Tally) (n calls : ℕ) → t.answered + suc n ≡ calls → (tally_after how t).answered + n ≡ calls
 counts_one ended.Good t n calls is = omega (arith, is)
@@ -224,17 +225,11 @@ unfolding attends
 attends_first job n t = simp (goes_on_twice is_answering, branch_first, stop_first)
 
 attends_keeps : (job : AnswerJob) (n : ℕ) (t : Tally) → t.answered + n ≡ job.calls → AttendsKept job n t
-attends_keeps job zero t all w runs =
-    rw (attends_last job t) (subst (λ (l : List MachineAct). KeepsTo w.order false job l runs (trace_of (writes_tally t (record { wire = w; runs = runs }))))
-    (sym (ap (λ (x : Bool). if x then write_tally t ∷ [] else acts_from job 0 t [] (map run_end runs)) (eq-eqb t.answered job.calls (omega (arith, all)))))
-    (record { undone = no_work; all = refl; whole = λ switched. refl; stops = λ f met. cc met }))
+attends_keeps job zero t all w runs = rw (attends_last job t, eq-eqb t.answered job.calls (omega (arith, all))) (record { undone = no_work; all = refl; whole = λ switched. refl; stops = λ f met. cc met })
 attends_keeps job (suc n) t all w runs =
-    let taken = goes_on doing (takes_call job) (after_call job n t) in
-    let x : AnswerTrace = trace_of (goes_on doing (awaits_call most_for_a_call job 0) (λ _. taken) (record { wire = w; runs = runs })) in
-    rw (attends_first job n t) (subst (λ (l : List MachineAct). KeepsTo w.order false job l runs x)
-    (sym (ap (λ (y : Bool). if y then write_tally t ∷ [] else acts_from job 0 t x.deeds.heard (map run_end runs)) (ne_eqb t.answered job.calls (λ same. absurd (omega (arith, all, same))))))
-    (awaited_keeps job t runs taken
-    (λ v. call_keeps job (after_call job n t) (later_acts job t) v runs (later_keeps job n t (after_reply (after_reply v)) (λ how. attends_keeps job n (tally_after how t) (counts_one how t n job.calls all)))) most_for_a_call w 0))
+    let other = ne_eqb t.answered job.calls (λ same. absurd (omega (arith, all, same))) in
+    rw (attends_first job n t, other) (awaited_keeps job t runs (goes_on doing (takes_call job) (after_call job n t))
+    (λ v. call_keeps job (after_call job n t) (later_acts job t) v runs (later_keeps job n t (after_reply (after_reply v)) (λ how. attends_keeps job n (tally_after how t) (counts_one how t n job.calls all)))) most_for_a_call w 0)
 
 -- Rings and hooks are asked for first: a trace keeps to all that a machine is to do.
 abbrev pub KeepsAll : Order → AnswerJob → AnswerTrace → List ChildRun → Type 0
@@ -248,10 +243,9 @@ module _ (job : AnswerJob) (w : ClientState) (runs : List ChildRun) (some : (0 =
       KeepsAll w.order job (trace_by (called (deeds_of_work (sending (request_bytes w.order (select_events job.device 3)))) (by_answer (refusal (select_events job.device 3)) r) (record { wire = after_reply w; runs = runs })) calls) runs
   unfolding acts_from
   asked_keeps (Ok u) =
-      let x = trace_of (calls tt (record { wire = after_reply w; runs = runs })) in
       keeps_after (sending (request_bytes w.order (select_events job.device 3)))
       (λ sends s. record { before = s.before; later = s.later; are = s.are; sent = ap (λ l. request_bytes w.order (select_events job.device 3) ++ l) s.sent; on = s.on })
-      (subst (λ (l : List MachineAct). KeepsTo w.order false job l runs x) (ap (λ (y : Bool). if y then write_tally no_calls ∷ [] else acts_from job 0 no_calls x.deeds.heard (map run_end runs)) some) (attends_keeps job job.calls no_calls (omega arith) (after_reply w) runs))
+      (rw some at (attends_keeps job job.calls no_calls (omega arith) (after_reply w) runs))
   asked_keeps (Err f) = keeps_all (λ x e. cc e)
 
   first_keeps : KeepsAll w.order job (trace_of (goes_on doing (requests (select_events job.device 3)) calls (record { wire = w; runs = runs }))) runs

@@ -82,8 +82,8 @@ module _ (order : Order) (job : AnswerJob) (t : AnswerTrace) (runs : List ChildR
 
   hook_left : (how : AnswerEnd) → is_of_line how ≡ true → MatchesAnswer t how done → LeavesHook how t.finish (HangsUp order job acts runs done.work) (StopsAtOffHook order job acts runs done.work.sends) done.work.sends
   hook_left end.Done way m = hangs m (λ e. cc e) (switched_where_done t.finish (m.whole refl).0)
-  hook_left end.SinkFault way m = hangs m (λ e. cc e) (subst (λ (f : AnswerFinish). SwitchesHook f) (sym (m.reported refl)) (λ f e. cc e, λ f e. cc e))
-  hook_left end.OutOfMemory way m = hangs m (λ e. cc e) (subst (λ (f : AnswerFinish). SwitchesHook f) (sym (m.starved refl)) (λ f e. cc e, λ f e. cc e))
+  hook_left end.SinkFault way m = hangs m (λ e. cc e) (rw (m.reported refl) (λ f e. cc e, λ f e. cc e))
+  hook_left end.OutOfMemory way m = hangs m (λ e. cc e) (rw (m.starved refl) (λ f e. cc e, λ f e. cc e))
   hook_left end.LinkFault way m = tt
   hook_left end.LinkEnded way m = hangs m (λ e. cc e)
   hook_left (end.BadReply header first) way m = hangs m (λ e. cc e)

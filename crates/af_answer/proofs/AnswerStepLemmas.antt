@@ -67,10 +67,10 @@ module _ {X : Type 0} (reason : ConnFault → AnswerFinish) (ends_by : (f : Conn
     }
 
 -- a request and its answer are one
-pub requested_went : {L : Type 0} {left sent : L → Option (List ℕ)} {faults : L → ℕ} {old new : ConnState L} (acts : Option (List Told)) {asked : Asked} {result : Result (Unit {0}) ConnFault} →
+pub requested_went : {L : Type 0} {left sent : L → Option (List ℕ)} {faults : L → ℕ} {old new : ConnState L} {acts : Option (List Told)} {asked : Asked} {result : Result (Unit {0}) ConnFault} →
     Called left sent faults asked as_done old new result → old.cause ≡ None → GoesBy left sent old new acts acts (requests asked) (part_of result)
 unfolding requests
-requested_went {left} {sent} {faults} {old} {new} acts {asked} {result} called usable held =
+requested_went {left} {sent} {faults} {old} {new} {acts} {asked} {result} called usable held =
     exchange_went (refusal asked) (refusal_end asked) (λ w. request_bytes w.order asked) (answer_on asked as_done) after_reply acts held result (called.fresh usable)
     (λ input told. (called.sends usable, asked_known left sent faults asked as_done old new input result called usable told))
 
@@ -95,7 +95,7 @@ is_fresh _ is = tt
 heard : (e : Event) {p : List ChildRun → Stand} → Went (hears e) (Ok e) p p
 heard e {p} = record { runs = λ later. later; goes = λ later. record { came = λ a stands. (a, stands, _, refl, added_none (p later).seen) } }
 
-module _ {L : Type 0} {left sent : L → Option (List ℕ)} {faults : L → ℕ} {old new : ConnState L} (acts : Option (List Told)) (held : Option (List ℕ)) where
+module _ {L : Type 0} {left sent : L → Option (List ℕ)} {faults : L → ℕ} {old new : ConnState L} {acts : Option (List Told)} {held : Option (List ℕ)} where
   handed : (result : Result Event ConnFault) → EventAwaited left sent faults old new result → old.cause ≡ None →
       Went (exchanges met_fault (λ w. []) next_event after_event) (part_of result) (stand_on left sent old acts held) (stand_on left sent new acts held)
   handed result awaited usable =

@@ -85,11 +85,11 @@ set_up_ran {left} {sent} {faults} job {input} {far} conn {how} {s'} {a} {a'} {h}
     }
 
 -- the first link of a dial
-pub first_ran : {F : Type 0} (left sent : F → Option (List ℕ)) {asked : AnswerWords} (job : AnswerJob) {how : AnswerEnd} (far : F) (after : Option (List ℕ)) (links : List ToldLink) {between : Option (List ToldLink)} {back : Option (List (List ℕ))} (old new : Surroundings) →
+pub first_ran : {F : Type 0} (left sent : F → Option (List ℕ)) {asked : AnswerWords} (job : AnswerJob) {how : AnswerEnd} (far : F) {after : Option (List ℕ)} (links : List ToldLink) {between : Option (List ToldLink)} {back : Option (List (List ℕ))} {old new : Surroundings} →
     words_of_job asked.server job ≡ asked → old.links ≡ Some links → IsFirstOf left sent far old.links between → new.links ≡ between → back ≡ old.back → AppendedBack back after new.back →
     ((input : List ℕ) → left far ≡ Some input → RanOver job input how (seen_as (sent far) old.acts old.held) (seen_as after new.acts new.held)) → RanAsked asked how old new
-first_ran left sent job far after [] {between} old new of told first stay same added ran = absurd (subst (λ (l : Option (List ToldLink)). IsFirstOf left sent far l between) told first)
-first_ran left sent job {how} far after (link ∷ links) {between} old new of told first stay same added ran =
+first_ran left sent job far [] {between} of told first stay same added ran = absurd (subst (λ (l : Option (List ToldLink)). IsFirstOf left sent far l between) told first)
+first_ran left sent job {how} far {after} (link ∷ links) {between} {old} {new} of told first stay same added ran =
     let is = subst (λ (l : Option (List ToldLink)). IsFirstOf left sent far l between) told first in
     record {
       job = job;

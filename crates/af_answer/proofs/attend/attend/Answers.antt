@@ -10,7 +10,7 @@ use Rattle.af_answer.proofs.attend.attend.Goals as goal
 
 pub returns-in_err-select_events-clause-goes : goal.returns-in_err-select_events-clause-goes
 unfolding attends_all
-returns-in_err-select_events-clause-goes g c held = went_stop _ (search rules) (requested_went _ c.in_err-select_events.ensures c.requires.usable held)
+returns-in_err-select_events-clause-goes g c held = went_stop _ (search rules) (requested_went c.in_err-select_events.ensures c.requires.usable held)
 
 pub loop-left-init : goal.loop-left-init
 unfolding attends_all
@@ -27,7 +27,7 @@ loop-left-init g c =
       children = omega arith;
       few = subst (λ (t : Tally). t.answered + job.calls ≤ job.calls) (sym none) (omega arith);
       counted = subst (λ (t : Tally). t.recorded + t.failed ≤ t.answered) (sym none) (omega arith);
-      going = λ held. rw none (went_on _ went_here (requested_went _ asked c.requires.usable held));
+      going = λ held. rw none (went_on _ went_here (requested_went asked c.requires.usable held));
     }
 
 pub returns-in_err-await_call-clause-goes : goal.returns-in_err-await_call-clause-goes

@@ -7,22 +7,22 @@ use Rattle.af_answer.proofs.call.take_call.Goals as goal
 
 pub returns-in_err-hook-clause-goes : goal.returns-in_err-hook-clause-goes
 unfolding takes_call
-returns-in_err-hook-clause-goes g c held = went_stop _ (search rules) (requested_went _ c.in_err-hook.ensures c.requires held)
+returns-in_err-hook-clause-goes g c held = went_stop _ (search rules) (requested_went c.in_err-hook.ensures c.requires held)
 
 pub returns-in_err-hook-2-clause-goes : goal.returns-in_err-hook-2-clause-goes
 unfolding takes_call
 returns-in_err-hook-2-clause-goes g c held =
     let usable : c.hook.new.self.cause ≡ None = ap (λ (conn : ConnState _). conn.cause) (c.in_ok-hook.ensures.keeps c.requires) in
-    went_through _ (requested_went _ c.in_ok-hook.ensures c.requires held)
+    went_through _ (requested_went c.in_ok-hook.ensures c.requires held)
     (went_through _ (child_went c.args.job.now.greeting.bytes c.run_child-greeting.ensures.ran)
     (went_through _ (message_went c.args.job.now c.run_child-greeting.result c.leave_message-end.ensures.left)
-    (went_stop _ (search rules) (requested_went _ c.in_err-hook-2.ensures usable held))))
+    (went_stop _ (search rules) (requested_went c.in_err-hook-2.ensures usable held))))
 
 pub returns-clause-goes : goal.returns-clause-goes
 unfolding takes_call
 returns-clause-goes g c held =
     let usable : c.hook.new.self.cause ≡ None = ap (λ (conn : ConnState _). conn.cause) (c.in_ok-hook.ensures.keeps c.requires) in
-    went_through _ (requested_went _ c.in_ok-hook.ensures c.requires held)
+    went_through _ (requested_went c.in_ok-hook.ensures c.requires held)
     (went_through _ (child_went c.args.job.now.greeting.bytes c.run_child-greeting.ensures.ran)
     (went_through _ (message_went c.args.job.now c.run_child-greeting.result c.leave_message-end.ensures.left)
-    (went_through _ (requested_went _ c.in_ok-hook-2.ensures usable held) (went_value _))))
+    (went_through _ (requested_went c.in_ok-hook-2.ensures usable held) (went_value _))))

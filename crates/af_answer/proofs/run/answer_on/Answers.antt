@@ -7,7 +7,7 @@ use Rattle.af_answer.proofs.run.answer_on.Goals as goal
 pub returns-in-Far-clause-ran : goal.returns-in-Far-clause-ran
 returns-in-Far-clause-ran g c links told =
     let e = c.in-Far.ensures in
-    inr (first_ran g.D.Far.Link.left g.D.Far.Link.sent c.args.call.now.job c.in-Far.far _ links _ _ refl told e.gives c.hang_up.ensures.gives e.back c.hang_up.ensures.back (λ i t. c.answer_over-end.ensures.ran i t))
+    inr (first_ran g.D.Far.Link.left g.D.Far.Link.sent c.args.call.now.job c.in-Far.far links refl told e.gives c.hang_up.ensures.gives e.back c.hang_up.ensures.back (λ i t. c.answer_over-end.ensures.ran i t))
 
 pub returns-in-Failed-clause-ran : goal.returns-in-Failed-clause-ran
 returns-in-Failed-clause-ran g c links told =

@@ -21,7 +21,7 @@ use Rattle.af_tools.specs.Reading.{TellsIfRead, UsesSource}
 use Rattle.af_tools.specs.Results.{is_unfit}
 use Rattle.af_toolkit.specs.Ends.{MatchesTrace, ObservedTrace, is_outer}
 use Rattle.af_relay.specs.Pass.{RelayTrace, apass_trace, on_from, on_to, relay_after_answer, sends_first_from, sends_first_to}
-use Rattle.af_tools.specs.Limits.{most_bytes}
+use Rattle.af_tools.specs.Sounds.{most_bytes}
 use Rattle.af_cli.specs.Words.{Job, one, relay}
 use Rattle.af_io.proofs.ConsumedLemmas.{consumed_known}
 use Rattle.af_io.proofs.AppendedLemmas.{appended_none, appended_on}

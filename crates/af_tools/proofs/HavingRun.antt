@@ -17,8 +17,7 @@ use Rattle.af_sound.specs.Fronts.{front_of, Front}
 use Rattle.af_sound.proofs.FrontLemmas.{front, front_head}
 use Rattle.af_sample.specs.declared.sample_type.SampleType.{SampleType}
 use Rattle.af_tools.specs.declared.sound.SourceSound.{SourceSound}
-use Rattle.af_tools.specs.Limits.{most_bytes}
-use Rattle.af_tools.specs.Sounds.{at_one_shape, file_sound, raw_sound, reads_front, reads_sound, GivesSamples, IsFileSound, IsPlayable}
+use Rattle.af_tools.specs.Sounds.{most_bytes, at_one_shape, file_sound, raw_sound, reads_front, reads_sound, GivesSamples, IsFileSound, IsPlayable}
 use Rattle.af_tools.specs.Play.{aplay_trace, played_text}
 use Rattle.af_tools.proofs.EndLemmas.{ends_if_unfit}
 use Rattle.af_tools.specs.Record.{arecord_trace, records_on}

@@ -19,10 +19,8 @@ use Rattle.af_sound.proofs.FrontLemmas.{front, front_beyond, front_fault, front_
 use Rattle.af_toolkit.specs.declared.end.ToolEnd.TheVariants as end
 use Rattle.af_toolkit.specs.Trace.{Trace, bad_sound, ends, sound_cut, too_long}
 use Rattle.af_tools.specs.declared.sound.FileHead.{FileHead}
-use Rattle.af_tools.specs.Limits.{most_bytes}
-use Rattle.af_tools.specs.Fill.{ConsumedCut, ConsumedFault, ConsumedHead}
-use Rattle.af_tools.specs.Sounds.{after_header, reads_front}
-use Rattle.af_tools.specs.Reading.{HeadCame, TakesFront}
+use Rattle.af_tools.specs.Sounds.{most_bytes, after_header, reads_front}
+use Rattle.af_tools.specs.Reading.{ConsumedCut, ConsumedFault, ConsumedHead, HeadCame, TakesFront}
 
 -- a reader has taken what a source gave
 pub record HasRead (form : SoundForm) (reader : HeadReader) (size : ℕ) (before after : Option (List ℕ)) : Type 0 where

@@ -13,8 +13,7 @@ use Rattle.af_sample.specs.SampleTypes.{frame_bytes, width_of}
 use Rattle.af_sample.specs.Samples.{decoded, piece, samples}
 use Rattle.af_sample.specs.Gains.{gained}
 use Rattle.af_sample.specs.Heard.{sound_with_sample, covers, heard_sample, AcceptedPlay}
-use Rattle.af_tools.specs.Play.{blocks}
-use Rattle.af_tools.specs.Blocks.{gained_samples, sample_in, sent_blocks, AreAccepted, Block, HeardAsIntended, IsEntryOf}
+use Rattle.af_tools.specs.Play.{blocks, gained_samples, sample_in, sent_blocks, AreAccepted, Block, HeardAsIntended, IsEntryOf}
 use Rattle.af_cli.proofs.FrameSizeLemmas.{frame_size}
 use Rattle.af_tools.proofs.SentBlockLemmas.{drop_twice, find_block, frame, one_block, range_within, IsAt}
 use Rattle.af_sample.proofs.FrameLemmas.{one_or_two, place_before}

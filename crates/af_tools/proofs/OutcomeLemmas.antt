@@ -27,9 +27,9 @@ use Rattle.af_cli.specs.Call.{IsCall, job_of_call}
 use Rattle.af_cli.specs.Ranges.{IsPaced, IsRanged}
 use Rattle.af_relay.specs.Pass.{RelayTrace, apass_trace, sends_first_from, sends_first_to}
 use Rattle.af_tools.specs.Run.{dials_to, relay_trace, JobDone, JobRan, RelayRan, SetUpFirst, UsedServer, one_trace, task_trace}
-use Rattle.af_tools.specs.Intent.{IsPlayed}
-use Rattle.af_tools.specs.Limits.{most_bytes}
-use Rattle.af_tools.specs.Recorded.{IsRecorded}
+use Rattle.af_tools.specs.Play.{IsPlayed}
+use Rattle.af_tools.specs.Sounds.{most_bytes}
+use Rattle.af_tools.specs.Record.{IsRecorded}
 use Rattle.af_toolkit.specs.Ends.{ObservedTrace}
 use Rattle.af_relay.specs.Relayed.{IsRelayed}
 use Rattle.af_standing.specs.List.{HasLines}

@@ -9,8 +9,7 @@ use Rattle.af_request.specs.Asked.{play_run}
 use Rattle.af_lib.specs.Calls.{as_time}
 use Rattle.af_toolkit.specs.Trace.{Trace, ClientState, asks, ends, too_long}
 use Rattle.af_sound.specs.declared.head.Coding.{Coding}
-use Rattle.af_tools.specs.Limits.{most_bytes}
-use Rattle.af_tools.specs.Sounds.{as_served}
+use Rattle.af_tools.specs.Sounds.{most_bytes, as_served}
 use Rattle.af_tools.specs.Play.{block_time, blocks, cut_blocks, frames_in, plays, whole_frames}
 
 -- a source gave exactly n bytes

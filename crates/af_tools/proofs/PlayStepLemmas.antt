@@ -16,10 +16,9 @@ use Rattle.af_sound.specs.declared.head.Coding.{Coding}
 use Rattle.af_tools.specs.declared.fill.FillFault.{FillFault}
 use Rattle.af_tools.specs.declared.fill.FillFault.TheVariants as fill
 use Rattle.af_tools.specs.declared.sound.SourceSound.{SourceSound}
-use Rattle.af_tools.specs.Limits.{most_bytes}
-use Rattle.af_tools.specs.Sounds.{as_served, source_width, stated_after, stated_part, stated_room, FitsStated}
+use Rattle.af_tools.specs.Sounds.{most_bytes, as_served, source_width, stated_after, stated_part, stated_room, FitsStated}
 use Rattle.af_tools.specs.Play.{block_time, blocks, frames_in, plays, plays_sound, whole_frames}
-use Rattle.af_tools.specs.Fill.{fill_end, ConsumedAbove, FillsBlock, IsFirstBlock}
+use Rattle.af_tools.specs.Reading.{fill_end, ConsumedAbove, FillsBlock, IsFirstBlock}
 use Rattle.af_toolkit.specs.Ends.{ObservedPart, TracePart}
 use Rattle.af_io.proofs.ConsumedLemmas.{consumed_known, consumed_told}
 use Rattle.af_toolkit.proofs.PartProgressLemmas.{goes_at_once, goes_early, Reaches, reaches_none, reaches_on}

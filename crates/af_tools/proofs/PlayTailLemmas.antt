@@ -16,9 +16,8 @@ use Rattle.af_tools.specs.declared.fill.FillFault.{FillFault}
 use Rattle.af_tools.specs.declared.fill.FillFault.TheVariants as fill
 use Rattle.af_tools.specs.declared.player.Played.{Played}
 use Rattle.af_tools.specs.declared.sound.SourceSound.{SourceSound}
-use Rattle.af_tools.specs.Limits.{most_bytes}
-use Rattle.af_tools.specs.Fill.{fill_end, left_before, FillsBlock, IsEarlyBlock, IsFirstBlock, TakesSound}
-use Rattle.af_tools.specs.Sounds.{block_bytes, source_width}
+use Rattle.af_tools.specs.Sounds.{most_bytes, block_bytes, source_width}
+use Rattle.af_tools.specs.Reading.{fill_end, left_before, FillsBlock, IsEarlyBlock, IsFirstBlock, TakesSound}
 use Rattle.af_tools.specs.Play.{plays_on, plays_sound, IsBlock}
 use Rattle.af_tools.proofs.PlayStepLemmas.{play_begin, play_too_long}
 use Rattle.af_tools.proofs.SourceFrameLemmas.{some_size_of}

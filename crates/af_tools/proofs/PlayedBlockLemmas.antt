@@ -23,12 +23,9 @@ use Rattle.af_toolkit.specs.Trace.{Trace, ClientState, answer_on, after_answer, 
 use Rattle.af_sound.specs.declared.head.Coding.{Coding}
 use Rattle.af_sound.specs.declared.head.SoundForm.{SoundForm}
 use Rattle.af_tools.specs.declared.sound.SourceSound.{SourceSound}
-use Rattle.af_tools.specs.Limits.{most_bytes}
-use Rattle.af_tools.specs.Sounds.{as_served, reads_sound, source_width, stated_part, IsServedAs}
-use Rattle.af_tools.specs.Play.{aplay_trace, blocks, frames_in, play_context, played_text, played_frames, plays_on, plays, plays_sound, start_at, whole_frames}
+use Rattle.af_tools.specs.Sounds.{most_bytes, as_served, reads_sound, source_width, stated_part, IsServedAs}
+use Rattle.af_tools.specs.Play.{aplay_trace, blocks, frames_in, play_context, played_text, played_frames, plays_on, plays, plays_sound, start_at, whole_frames, Block, blocks_sent, play_of, played_whole, IsPlayed}
 use Rattle.af_toolkit.specs.Ends.{ObservedTrace}
-use Rattle.af_tools.specs.Blocks.{Block}
-use Rattle.af_tools.specs.Intent.{blocks_sent, play_of, played_whole, IsPlayed}
 use Rattle.af_tools.proofs.PlayBlockLemmas.{plays_block, plays_last, plays_long, plays_none}
 use Rattle.af_tools.proofs.SentBlockLemmas.{frames_sent, sent_first, sent_last, sent_more, sent_no_more, frames_converted, sent_converted, sent_served, served_block}
 use Rattle.af_tools.proofs.HeardAsIntendedLemmas.{heard_as_intended}

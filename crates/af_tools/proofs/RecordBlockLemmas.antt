@@ -20,9 +20,8 @@ use Rattle.af_sample.specs.Channels.{IsChannelCount}
 use Rattle.af_cli.specs.Sizes.{block_frames}
 use Rattle.af_cli.proofs.FrameSizeLemmas.{frame_size, some_frames}
 use Rattle.af_tools.specs.declared.record.RecordedSound.{RecordedSound}
-use Rattle.af_tools.specs.Files.{IsFiledAs}
+use Rattle.af_tools.specs.Record.{IsFiledAs, block_lengths, ends_row, greatest_of, peak, recorded_frame, records, records_all, row_below, takes_block}
 use Rattle.af_tools.specs.Sounds.{AreWhole}
-use Rattle.af_tools.specs.Record.{block_lengths, ends_row, greatest_of, peak, recorded_frame, records, records_all, row_below, takes_block}
 use Rattle.af_toolkit.proofs.PartProgressLemmas.{Reaches, reaches_none, reaches_on}
 use Rattle.af_tools.proofs.PartStepLemmas.{part_is_done, part_reaches, part_stops, reaches_as}
 use Rattle.af_time.specs.declared.DevTime.{DevTime}

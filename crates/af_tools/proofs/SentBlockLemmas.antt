@@ -6,8 +6,7 @@ use Rattle.std.proofs.lemmas.Bool.{cases_lt}
 use Rattle.std.proofs.lemmas.List.{take-take, drop-take}
 use Rattle.std.proofs.Math.Seq.{drop-nil}
 use Rattle.af_cli.proofs.FrameSizeLemmas.{by_size, IsFrameSize, frame_size}
-use Rattle.af_tools.specs.Play.{blocks, cut_blocks, frames_in, whole_frames}
-use Rattle.af_tools.specs.Blocks.{sent_after, Block, sent_blocks}
+use Rattle.af_tools.specs.Play.{blocks, cut_blocks, frames_in, whole_frames, sent_after, Block, sent_blocks}
 use Rattle.std.proofs.Math.Nat.{div-div-eq-div-mul, div-le_self, div-mul-le_self, mul_assoc, mul_comm}
 use Rattle.af_sample.specs.declared.sample_type.SampleType.{SampleType}
 use Rattle.af_sample.specs.declared.sample_type.SampleType.TheVariants as ty

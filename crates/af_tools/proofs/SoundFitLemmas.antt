@@ -19,8 +19,7 @@ use Rattle.af_toolkit.proofs.TracePartLemmas.{ended_at_once}
 use Rattle.af_tools.specs.declared.sound.SourceSound.{SourceSound}
 use Rattle.af_toolkit.proofs.FollowedLemmas.{followed_early}
 use Rattle.af_tools.proofs.DeviceChoiceLemmas.{followed_same}
-use Rattle.af_tools.specs.Limits.{most_bytes}
-use Rattle.af_tools.specs.Sounds.{after_header, as_served, at_one_shape, file_sound, raw_sound, reads_front, reads_sound, stated_part, GivesSamples, IsServedAs}
+use Rattle.af_tools.specs.Sounds.{most_bytes, after_header, as_served, at_one_shape, file_sound, raw_sound, reads_front, reads_sound, stated_part, GivesSamples, IsServedAs}
 use Rattle.af_tools.specs.Reading.{ends_shape, SoundCame}
 
 unfit : (b c : Bool) (how : ToolEnd) (x y : Finish) → (let r : Result (Unit {0}) ToolEnd = Err how in r ≡ (if b then (if c then Ok tt else Err (tool_end x)) else Err (tool_end y))) →

@@ -8,15 +8,13 @@ use Rattle.af_tools.specs.declared.fill.FillFault.{FillFault}
 use Rattle.af_tools.specs.declared.fill.FillFault.TheVariants as fill
 use Rattle.af_sound.specs.declared.head.SoundForm.{SoundForm}
 use Rattle.af_io.specs.Flow.{ConsumedTooMuch, ConsumedWithin, IsSpent}
-use Rattle.af_tools.specs.Limits.{most_bytes}
-use Rattle.af_tools.specs.Fill.{fill_end, left_before, ConsumedHead, ConsumedSound, FillsBlock, HeadIs, IsFirstBlock, TakesSound}
-use Rattle.af_tools.specs.Sounds.{stated_after, FitsStated}
+use Rattle.af_tools.specs.Sounds.{most_bytes, stated_after, FitsStated}
+use Rattle.af_tools.specs.Reading.{fill_end, left_before, ConsumedHead, ConsumedSound, FillsBlock, HeadIs, IsFirstBlock, TakesSound, UsesSource, is_of_sound, TakesFront}
 use Rattle.af_io.proofs.ConsumedLemmas.{consumed_none, consumed_on}
 use Rattle.af_tools.proofs.EndLemmas.{err_of, of_err, never}
 use Rattle.af_tools.proofs.PlayBlockLemmas.{ConsumedAll}
 use Rattle.af_toolkit.specs.Ends.{is_of_report}
-use Rattle.af_tools.specs.Reading.{UsesSource, is_of_sound, TakesFront}
-use Rattle.af_tools.specs.Outcomes.{is_of_blocks}
+use Rattle.af_tools.specs.Results.{is_of_blocks}
 
 -- what was given so far, and a block more
 pub given_on : {room allowed n given : ℕ} {len : Option ℕ} {block : List ℕ} {a b c : Option (List ℕ)} → ConsumedAll given a b → IsFirstBlock room allowed len n block b c → n ≤ length block → ConsumedAll (given + n) a c

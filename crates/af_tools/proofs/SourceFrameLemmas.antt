@@ -9,9 +9,8 @@ use Rattle.af_sound.specs.declared.head.Coding.TheVariants as coding
 use Rattle.af_sound.specs.Written.{sample_size}
 use Rattle.af_cli.specs.Sizes.{greatest_block}
 use Rattle.af_cli.proofs.FrameSizeLemmas.{some_bytes}
-use Rattle.af_tools.specs.Limits.{most_bytes}
+use Rattle.af_tools.specs.Sounds.{most_bytes, served_type, source_sample, source_width, IsServedAs}
 use Rattle.af_tools.specs.Play.{IsBlock}
-use Rattle.af_tools.specs.Sounds.{served_type, source_sample, source_width, IsServedAs}
 use Rattle.af_tools.proofs.SentBlockLemmas.{some_size, source_size}
 use Rattle.af_tools.proofs.SourceCountLemmas.{short_of}
 

@@ -13,12 +13,10 @@ use Rattle.af_standing.specs.declared.controls_report.ControlsReport.{ControlsRe
 use Rattle.af_standing.proofs.ControlsReportLemmas.{controls_report_finish}
 use Rattle.af_sound.specs.declared.head.Coding.{Coding}
 use Rattle.af_tools.specs.declared.sound.SourceSound.{SourceSound}
-use Rattle.af_tools.specs.Limits.{most_bytes}
-use Rattle.af_tools.specs.Sounds.{as_served, stated_part}
+use Rattle.af_tools.specs.Sounds.{most_bytes, as_served, stated_part}
 use Rattle.af_tools.specs.Play.{block_time, blocks, cut_blocks, play_context, plays_on, plays, plays_sound}
 use Rattle.af_tools.specs.declared.record.RecordedSound.{RecordedSound}
-use Rattle.af_tools.specs.Files.{recorded_sound}
-use Rattle.af_tools.specs.Record.{ends_row, peak, record_context, records_on, records, writes_recording}
+use Rattle.af_tools.specs.Record.{recorded_sound, ends_row, peak, record_context, records_on, records, writes_recording}
 use Rattle.af_tools.specs.Set.{asks_if, control_request, hook_request, sets_on}
 
 if_finish : (b : Bool) (c d : Trace) → IsDoneOrRefused c.finish → IsDoneOrRefused d.finish → IsDoneOrRefused (if b then c else d).finish

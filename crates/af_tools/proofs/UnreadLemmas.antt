@@ -12,7 +12,7 @@ use Rattle.af_toolkit.specs.declared.end.ToolEnd.{ToolEnd}
 use Rattle.af_toolkit.specs.Ends.{PartCompletes, client_of, ObservedPartOver}
 use Rattle.af_toolkit.proofs.TracePartLemmas.{client_begun}
 use Rattle.af_cli.specs.declared.job.PlayJob.{PlayJob}
-use Rattle.af_tools.specs.Unread.{DialGivesContext, GivesContext, GivesReply, LinkGivesContext}
+use Rattle.af_tools.specs.Reading.{DialGivesContext, GivesContext, GivesReply, LinkGivesContext}
 use Rattle.af_tools.proofs.PlayedBlockLemmas.{asks_done}
 use Rattle.af_tools.proofs.SetupTraceLemmas.{setup_known}
 

@@ -1,15 +1,7 @@
-pub mod Limits
 pub mod Sounds
 pub mod Play
-pub mod Blocks
-pub mod Intent
-pub mod Files
-pub mod Record
-pub mod Recorded
-pub mod Set
-pub mod Outcomes
-pub mod Fill
 pub mod Reading
-pub mod Unread
+pub mod Record
+pub mod Set
 pub mod Results
 pub mod Run

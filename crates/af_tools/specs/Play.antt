@@ -1,21 +1,28 @@
--- What aplay does: the bytes of its source are cut into blocks, and each block is played at its time.
-use Rattle.std.specs.Prelude.{◌≤◌, ℕ, zero, suc, ◌+◌, ◌*◌, ◌/◌, ◌%◌, ◌^◌, nat_lt, if◌then◌else◌, pos, Option, None, Some}
-use Rattle.std.specs.Prelude.{false, List, [], ◌∷◌, ◌++◌, length, take, drop, codes, decimal}
+-- What aplay does: the bytes of its source are cut into blocks, and each block is played at its time. And what is heard of it.
+use Rattle.std.specs.Prelude.{◌≤◌, ℕ, zero, suc, ◌+◌, ◌*◌, ◌/◌, ◌%◌, ◌^◌, nat_lt, if◌then◌else◌, pos, Option, None, Some, false}
+use Rattle.std.specs.Prelude.{List, [], ◌∷◌, ◌++◌, length, take, drop, codes, decimal, ◌≡◌, ◌<◌, true, ℤ, map, slice_get}
+use Rattle.std.specs.Prelude.{slice_index_or, Ok, flat_map}
 use Rattle.af_time.specs.DeviceTime.{frames_lasting}
 use Rattle.af_sample.specs.declared.sample_type.SampleType.{SampleType}
 use Rattle.af_sample.specs.Channels.{IsChannelCount}
 use Rattle.af_sample.specs.SampleTypes.{code_of, frame_bytes}
 use Rattle.af_sound.specs.declared.head.Coding.{Coding}
 use Rattle.af_request.specs.declared.reply.DeviceInfo.{DeviceInfo}
-use Rattle.af_request.specs.Asked.{Asked, create_ac, free_ac, play_run}
+use Rattle.af_request.specs.Asked.{Asked, create_ac, free_ac, play_run, get_time}
 use Rattle.af_request.specs.Fields.{flag_byte}
 use Rattle.af_lib.specs.Calls.{as_done, as_time}
 use Rattle.af_cli.specs.declared.job.PlayJob.{PlayJob}
 use Rattle.af_cli.specs.Sizes.{block_frames, greatest_block}
-use Rattle.af_toolkit.specs.Trace.{Trace, ClientState, asks, begins, done, ends, too_long, with_job_device, writes_first}
+use Rattle.af_toolkit.specs.Trace.{Trace, ClientState, asks, begins, done, ends, too_long, with_job_device, writes_first, answer_on, after_reply}
 use Rattle.af_tools.specs.declared.sound.SourceSound.{SourceSound}
-use Rattle.af_tools.specs.Limits.{most_bytes}
-use Rattle.af_tools.specs.Sounds.{as_served, reads_sound, source_width, stated_part}
+use Rattle.af_tools.specs.Sounds.{most_bytes, as_served, reads_sound, source_width, stated_part, GivesSamples}
+use Rattle.af_sample.specs.Samples.{samples}
+use Rattle.af_sample.specs.Gains.{gained}
+use Rattle.af_sample.specs.Heard.{covers, heard_sample, AcceptedPlay}
+use Rattle.af_time.specs.declared.DevTime.{DevTime}
+use Rattle.af_io.specs.Observed.{Appended}
+use Rattle.af_wire.specs.declared.order.Order.{Order}
+use Rattle.af_request.specs.Requests.{request_bytes}
 
 -- a list cut into blocks of n bytes; the last one has the rest
 abbrev pub cut_blocks : ℕ → ℕ → List ℕ → List (List ℕ)
@@ -93,3 +100,92 @@ unfoldable pub aplay_trace : PlayJob → List DeviceInfo → List ℕ → Client
 aplay_trace job devices bytes w = with_job_device job.device devices (λ device.
     reads_sound job.form job device bytes (λ sound rest.
     plays_on job sound device rest w (λ frames start _. writes_first (played_text frames start) (ends done))))
+
+-- a block that is sent: how many frames were sent before it, and its bytes
+pub record Block : Type 0 where
+  pub before : ℕ
+  pub bytes : List ℕ
+
+-- the blocks with a whole frame, after n frames, up to the first without one
+abbrev pub sent_after : ℕ → ℕ → List (List ℕ) → List Block
+sent_after width before [] = []
+sent_after width before (block ∷ more) =
+    if nat_lt 0 (frames_in width block)
+    then (record { before = before; bytes = whole_frames width block }) ∷ sent_after width (before + frames_in width block) more
+    else []
+
+-- the blocks of a source's bytes that are sent, each of n frames of so many channels, except the last
+abbrev pub sent_blocks : SampleType → (channels frames : ℕ) → List ℕ → List Block
+sent_blocks ty channels frames bytes = sent_after (frame_bytes ty channels) 0 (blocks (frames * frame_bytes ty channels) bytes)
+
+-- the samples of bytes, converted and under a gain
+abbrev pub gained_samples : SampleType → ℤ → List ℕ → List ℤ
+gained_samples ty gain bytes = map (λ x. gained x gain) (samples ty bytes)
+
+-- an accepted play is that of a block, if the first frame of all is played at this time; it was accepted by its start
+pub record IsEntryOf (ty : SampleType) (gain : ℤ) (start : ℕ) (block : Block) (entry : AcceptedPlay) : Type 0 where
+  pub at_its_time : entry.start ≡ start + block.before
+  pub its_samples : entry.samples ≡ gained_samples ty gain block.bytes
+  pub in_time : entry.at ≤ entry.start
+
+-- Each block has a play in an accepted list of a device with so many channels, at a place of its own, and no play at another
+-- place covers a time of the frames.
+pub record AreAccepted (ty : SampleType) (channels : ℕ) (gain : ℤ) (start frames : ℕ) (sent : List Block)
+    (accepted : List AcceptedPlay) : Type 0 where
+  pub place : ℕ → ℕ
+  pub each : (k : ℕ) (block : Block) → slice_get sent k ≡ Some block →
+      (entry : AcceptedPlay) × (slice_get accepted (place k) ≡ Some entry) × IsEntryOf ty gain start block entry
+  pub no_other : (j i : ℕ) (entry : AcceptedPlay) → slice_get accepted j ≡ Some entry → i < frames →
+      covers channels entry (start + i) ≡ true → (k : ℕ) × (k < length sent) × (j ≡ place k)
+
+-- the sample of a channel in frame i
+abbrev pub sample_in : (channels : ℕ) → List ℤ → (i channel : ℕ) → ℤ
+sample_in channels xs i channel = slice_index_or xs (channels * i + channel) (pos 0)
+
+-- If the blocks of a source's bytes are accepted, the samples of its whole frames are heard in each channel.
+abbrev pub HeardAsIntended : Type 0
+HeardAsIntended =
+    (ty : SampleType) (channels : ℕ) (gain : ℤ) (block : ℕ) (bytes : List ℕ) (start : ℕ) (accepted : List AcceptedPlay) →
+    IsChannelCount channels → 0 < block →
+    AreAccepted ty channels gain start (length bytes / frame_bytes ty channels) (sent_blocks ty channels block bytes) accepted →
+    (i channel : ℕ) → i < length bytes / frame_bytes ty channels → channel < channels →
+    heard_sample channels accepted (start + i) channel ≡ sample_in channels (gained_samples ty gain bytes) i channel
+
+-- a block is played at the start plus the frames before it
+abbrev pub play_of : Order → ℕ → Block → List ℕ
+play_of order start block = request_bytes order (play_run false 1 ((start + block.before) % 2 ^ 32) block.bytes)
+
+-- the blocks of a job that are sent for such samples
+abbrev pub blocks_sent : PlayJob → SampleType → (channels : ℕ) → List ℕ → List Block
+blocks_sent job ty channels samples = sent_blocks ty channels (played_frames job ty channels) samples
+
+-- what is sent for samples of a type, with so many channels: a context is made and the time asked for, each block is played, and
+-- the context is freed
+abbrev pub played_whole : Order → PlayJob → SampleType → (channels : ℕ) → List ℕ → ℕ → List ℕ
+played_whole order job ty channels samples start =
+    request_bytes order (play_context job ty channels) ++ (request_bytes order (get_time job.device)
+    ++ (flat_map (play_of order start) (blocks_sent job ty channels samples) ++ request_bytes order (free_ac 1)))
+
+-- A job is done on the device with the samples that the source gives, raw or in a sound file, from a start on. The start is
+-- stated, or follows the device's time, and is written after the number of whole frames. Take a device with the channels that the
+-- context names, which accepts the blocks from a whole time on that is this start modulo 2^32: it plays the samples of the source
+-- in each channel.
+pub record IsPlayed (job : PlayJob) (devices : List DeviceInfo) (bytes : List ℕ) (w : ClientState)
+    (sent sent' held held' : Option (List ℕ)) : Type 0 where
+  pub device : DeviceInfo
+  pub is_there : slice_get devices job.device ≡ Some device
+  pub ty : SampleType
+  pub samples : List ℕ
+  pub gives : GivesSamples job.form job device bytes ty samples
+  pub now : DevTime
+  pub told : answer_on (get_time job.device) as_time (after_reply w) ≡ Ok now
+  pub start : ℕ
+  pub starts : start ≡ start_at job.time now.0 (frames_lasting device.rate job.lead)
+  pub link : Appended sent (played_whole w.order job ty device.channels samples start) sent'
+  pub sink : Appended held (played_text (length samples / frame_bytes ty device.channels) start) held'
+  pub hears : (whole : ℕ) (accepted : List AcceptedPlay) → whole % 2 ^ 32 ≡ start →
+      AreAccepted ty device.channels job.gain whole (length samples / frame_bytes ty device.channels)
+      (blocks_sent job ty device.channels samples) accepted →
+      (i channel : ℕ) → i < length samples / frame_bytes ty device.channels → channel < device.channels →
+      heard_sample device.channels accepted (whole + i) channel
+      ≡ sample_in device.channels (gained_samples ty job.gain samples) i channel

@@ -1,24 +1,125 @@
--- What a tool makes of its source, and what reading the front of it came to.
-use Rattle.std.specs.Prelude.{◌≡◌, ◌≢◌, ◌⊎◌, ℕ, Bool, true, false, List, Result, IsSome, ◌==◌, if◌then◌else◌, drop, Ok, Err, IsErrOf, Option, Some}
-use Rattle.af_io.specs.Observed.{CountsFault}
-use Rattle.af_io.specs.Flow.{ConsumedTooMuch, ConsumedWithin, IsSpent}
+-- How aplay reads its source: the front of a file, and block after block.
+use Rattle.std.specs.Prelude.{◌≡◌, ◌<◌, ◌≤◌, ◌⊎◌, ℕ, List, [], ◌++◌, length, take, Result, IfOk, IsErrOf, Option, None, Some}
+use Rattle.std.specs.Prelude.{◌≢◌, Bool, true, false, IsSome, ◌==◌, if◌then◌else◌, drop, Ok, Err, ◌∷◌, slice_get, unwrap_or}
+use Rattle.af_io.specs.Observed.{Consumed, CountsFault}
+use Rattle.af_io.specs.Flow.{ConsumedWithin, IsSpent, ConsumedTooMuch}
 use Rattle.af_sound.specs.declared.head.SoundFault.{SoundFault}
 use Rattle.af_sound.specs.declared.head.SoundForm.{SoundForm}
-use Rattle.af_lib.specs.Calls.{ConnState}
+use Rattle.af_sound.specs.declared.head.SoundHead.{SoundHead}
+use Rattle.af_sound.specs.Heads.{HasFault, IsHead}
 use Rattle.af_toolkit.specs.declared.end.ToolEnd.{ToolEnd}
 use Rattle.af_toolkit.specs.declared.end.ToolEnd.TheVariants as end
-use Rattle.af_toolkit.specs.Trace.{Trace, ClientState, Finish, ends, tool_end}
+use Rattle.af_tools.specs.declared.fill.FillFault.{FillFault}
+use Rattle.af_tools.specs.declared.fill.FillFault.TheVariants as fill
+use Rattle.af_tools.specs.Sounds.{most_bytes, stated_room, FitsStated, reads_front, reads_sound}
+use Rattle.af_lib.specs.Calls.{ConnState, as_done}
+use Rattle.af_toolkit.specs.Trace.{Trace, ClientState, Finish, ends, tool_end, answer_on, client_after_setup, setup_answer}
 use Rattle.af_toolkit.specs.Ends.{client_of, ObservedTrace, ObservedPart, TracePart, is_outer}
-use Rattle.af_tools.specs.Fill.{ConsumedCut, ConsumedFault, ConsumedSound}
-use Rattle.af_tools.specs.Limits.{most_bytes}
 use Rattle.af_sound.specs.declared.head.HeadStep.TheVariants as step
-use Rattle.af_sound.specs.declared.head.SoundHead.{SoundHead}
 use Rattle.af_sound.specs.Fronts.{front_of}
 use Rattle.af_request.specs.declared.reply.DeviceInfo.{DeviceInfo}
 use Rattle.af_cli.specs.declared.job.PlayJob.{PlayJob}
 use Rattle.af_tools.specs.declared.sound.FileHead.{FileHead}
 use Rattle.af_tools.specs.declared.sound.SourceSound.{SourceSound}
-use Rattle.af_tools.specs.Sounds.{reads_front, reads_sound}
+use Rattle.clap.specs.Words.{Text}
+use Rattle.af_io.specs.Dial.{ToldLink}
+use Rattle.af_wire.specs.declared.order.Order.{Order}
+use Rattle.af_request.specs.Asked.{Asked}
+use Rattle.af_cli.specs.declared.job.Task.{Task}
+use Rattle.af_cli.specs.declared.job.Task.TheVariants as task
+use Rattle.af_cli.specs.Words.{Job, one}
+use Rattle.af_tools.specs.Play.{play_context}
+
+-- how aplay ends if its source gave no block
+abbrev pub fill_end : FillFault → ToolEnd
+fill_end fill.ReadFault = end.ReadFault
+fill_end fill.TooLong = end.TooLong
+
+-- a source gave more than n bytes, and at most as many as there was room for
+pub record ConsumedAbove (most room : ℕ) (before after : Option (List ℕ)) : Type 0 where
+  pub bytes : List ℕ
+  pub consumed : Consumed before bytes after
+  pub beyond : most < length bytes
+  pub within : length bytes ≤ room
+
+-- what a source had left before it gave these bytes, by what it has left now
+abbrev pub left_before : List ℕ → Option (List ℕ) → Option (List ℕ)
+left_before bytes None = None
+left_before bytes (Some rest) = Some (bytes ++ rest)
+
+-- The block that was read has n bytes. These are as many as it has room for, or fewer at the end of the source, or of a sound
+-- with this length left.
+pub record IsNextBlock (room allowed : ℕ) (len : Option ℕ) (count : ℕ) (after : Option (List ℕ)) : Type 0 where
+  pub within : count ≤ room
+  pub permitted : count ≤ allowed
+  pub stated : FitsStated len count
+  pub ended : count < room → IsSpent after ⊎ (len ≡ Some count)
+
+-- the first block was read, and stands at the front of these bytes
+pub record IsFirstBlock (room allowed : ℕ) (len : Option ℕ) (count : ℕ) (bytes : List ℕ) (before after : Option (List ℕ)) :
+    Type 0 where
+  pub consumed : Consumed before (take count bytes) after
+  pub next : IsNextBlock room allowed len count after
+
+-- it was read early, before the device's time was asked, or is left for later
+abbrev pub IsEarlyBlock : (room allowed : ℕ) → (len early : Option ℕ) → List ℕ → (before after : Option (List ℕ)) → Type 0
+IsEarlyBlock room allowed len (Some count) bytes before after = IsFirstBlock room allowed len count bytes before after
+IsEarlyBlock room allowed len None bytes before after = after ≡ before
+
+-- A source was read for a block: this is the block, or the source gave more than is allowed, or a read failed.
+pub record FillsBlock (room allowed : ℕ) (len : Option ℕ) (result : Result ℕ FillFault) (bytes : List ℕ)
+    (before after : Option (List ℕ)) : Type 0 where
+  pub had : IfOk result (λ count. IsFirstBlock room allowed len count bytes before after)
+  pub long : IsErrOf result fill.TooLong → ConsumedAbove allowed (stated_room len room) before after
+  pub cut : IsErrOf result fill.ReadFault → ConsumedWithin allowed before after
+
+-- bytes that are read before a sound: none, or a header that states this length
+abbrev pub HeadIs : Option SoundForm → List ℕ → Option ℕ → Type 0
+HeadIs None bytes len = (bytes ≡ []) × (len ≡ None)
+HeadIs (Some form) bytes len = (head : SoundHead) × IsHead form bytes head × (head.length ≡ len)
+
+-- the source gave these n bytes before its sound
+pub record ConsumedHead (form : Option SoundForm) (count : ℕ) (len : Option ℕ) (before after : Option (List ℕ)) : Type 0 where
+  pub bytes : List ℕ
+  pub consumed : Consumed before bytes after
+  pub all : length bytes ≡ count
+  pub within : count ≤ most_bytes
+  pub is_head : HeadIs form bytes len
+
+-- A part that reads a sound ended, and the source gave these bytes meanwhile. A part that is done has read the source to its end,
+-- or all of the stated length. The source gave more than n bytes exactly where the part ends as too long.
+pub record TakesSound {X : Type 0} (len : Option ℕ) (most : ℕ) (result : Result X ToolEnd) (before after : Option (List ℕ)) :
+    Type 0 where
+  pub bytes : List ℕ
+  pub consumed : Consumed before bytes after
+  pub spent : IfOk result (λ _. IsSpent after ⊎ (len ≡ Some (length bytes)))
+  pub long : IsErrOf result end.TooLong → most < length bytes
+  pub within : (IsErrOf result end.TooLong → ⊥) → length bytes ≤ most
+
+-- the source gave a header, and as much sound as that states
+pub record ConsumedSound (form : Option SoundForm) (before after : Option (List ℕ)) : Type 0 where
+  pub front : List ℕ
+  pub sound : List ℕ
+  pub consumed : Consumed before (front ++ sound) after
+  pub is_head : HeadIs form front (Some (length sound))
+
+-- the source gave bytes that end where the fault of a header shows
+pub record ConsumedFault (form : Option SoundForm) (fault : SoundFault) (before after : Option (List ℕ)) : Type 0 where
+  pub bytes : List ℕ
+  pub consumed : Consumed before bytes after
+  pub of : SoundForm
+  pub is_form : form ≡ Some of
+  pub has : HasFault of bytes fault
+
+-- the source ended within a header: neither all that it gave, nor any front of it, is a header or has a fault
+pub record ConsumedCut (form : Option SoundForm) (before after : Option (List ℕ)) : Type 0 where
+  pub bytes : List ℕ
+  pub consumed : Consumed before bytes after
+  pub spent : IsSpent after
+  pub of : SoundForm
+  pub is_form : form ≡ Some of
+  pub no_head : (front rest : List ℕ) (head : SoundHead) → bytes ≡ front ++ rest → IsHead of front head → ⊥
+  pub no_fault : (front rest : List ℕ) (fault : SoundFault) → bytes ≡ front ++ rest → HasFault of front fault → ⊥
 
 -- Only a tool that reads its source changes it, and not if memory ran out or its device does not exist. If it is done it has read
 -- the source to its end, or a sound file to that of the stated length. The source gave more than a tool takes exactly if the tool
@@ -104,3 +205,39 @@ pub record TakesFront {X : Type 0} (form : Option SoundForm) (result : Result X 
   pub cut : IsErrOf result end.SoundCut → ConsumedCut form before after
   pub long : IsErrOf result end.TooLong → ConsumedTooMuch most_bytes before after
   pub within : (IsErrOf result end.TooLong → ⊥) → ConsumedWithin most_bytes before after
+
+-- the link gives the reply that a context was made
+abbrev pub GivesReply : Asked → ClientState → Type 0
+GivesReply context w = answer_on context as_done w ≡ Ok tt
+
+-- the device of a job exists, and the link gives the reply that the context of the job was made on it
+abbrev pub GivesContext : PlayJob → List DeviceInfo → ClientState → Type 0
+GivesContext job devices w = (device : DeviceInfo) × (slice_get devices job.device ≡ Some device)
+    × GivesReply (play_context job (unwrap_or job.ty device.ty) device.channels) w
+
+-- the same for a link that is set up first
+abbrev pub LinkGivesContext : Order → PlayJob → List ℕ → Type 0
+LinkGivesContext order job input =
+    (devices : List DeviceInfo) × (setup_answer order input ≡ Ok devices)
+    × GivesContext job devices (client_after_setup order input)
+
+-- the same for the first link that is dialled
+abbrev pub DialGivesContext : Order → PlayJob → List ToldLink → Type 0
+DialGivesContext order job links =
+    (first : ToldLink) × (rest : List ToldLink) × (links ≡ first ∷ rest) × LinkGivesContext order job first.gives
+
+-- A source without a header is as it was, unless an observable link gives the reply that the context was made.
+abbrev pub ReadsAfterContext : {L S : Type 0} → (left : L → Option (List ℕ)) → PlayJob → ConnState L → (source source' : S) →
+    Type 0
+ReadsAfterContext left job conn source source' = job.form ≡ None →
+    (source' ≡ source) ⊎ ((input : List ℕ) → left conn.link ≡ Some input → GivesContext job conn.devices (client_of conn input))
+
+-- The same for a task, if it is aplay: this says that the context was made.
+abbrev pub ReadsLate : {S : Type 0} → Task → (made : PlayJob → Type 0) → (source source' : S) → Type 0
+ReadsLate t made source source' = (job : PlayJob) → t ≡ task.Play job → job.form ≡ None → (source' ≡ source) ⊎ made job
+
+-- the same for a job, over a dial
+abbrev pub JobReadsLate : {D S : Type 0} → (links : D → Option (List ToldLink)) → Job → D → (source source' : S) → Type 0
+JobReadsLate links j dial source source' =
+    (server : Text) (order : Order) (t : Task) → j ≡ one server order t →
+    ReadsLate t (λ job. (told : List ToldLink) → links dial ≡ Some told → DialGivesContext order job told) source source'

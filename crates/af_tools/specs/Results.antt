@@ -1,16 +1,46 @@
--- What a tool on one connection has done.
-use Rattle.std.specs.Prelude.{◌≡◌, ◌<◌, ◌≤◌, ◌↔◌, ◌⊎◌, ℕ, Bool, true, false, List, length, slice_get, IsSome, Option, Some}
+-- What a tool on one connection has done, and how it may end.
+use Rattle.std.specs.Prelude.{Bool, true, false, ◌≡◌, ◌<◌, ◌≤◌, ◌↔◌, ◌⊎◌, ℕ, List, length, slice_get, IsSome, Option, Some}
+use Rattle.af_toolkit.specs.declared.end.ToolEnd.{ToolEnd}
+use Rattle.af_toolkit.specs.declared.end.ToolEnd.TheVariants as end
+use Rattle.af_toolkit.specs.Ends.{is_of_link, is_outer, client_of, EndsByReply, ObservedTrace, IsAnswered}
 use Rattle.af_request.specs.declared.reply.DeviceInfo.{DeviceInfo}
 use Rattle.af_lib.specs.Calls.{ConnState}
 use Rattle.af_cli.specs.declared.job.PlayJob.{PlayJob}
-use Rattle.af_toolkit.specs.declared.end.ToolEnd.{ToolEnd}
-use Rattle.af_toolkit.specs.declared.end.ToolEnd.TheVariants as end
 use Rattle.af_toolkit.specs.Trace.{Trace, ClientState, Finish, bad_sound, channel_mismatch, mismatch, no_device, sound_cut, tool_end}
-use Rattle.af_toolkit.specs.Ends.{is_outer, client_of, EndsByReply, ObservedTrace, IsAnswered}
-use Rattle.af_tools.specs.Limits.{most_bytes}
-use Rattle.af_tools.specs.Play.{aplay_trace}
-use Rattle.af_tools.specs.Sounds.{IsPlayable}
-use Rattle.af_tools.specs.Intent.{IsPlayed}
+use Rattle.af_tools.specs.Sounds.{most_bytes, IsPlayable}
+use Rattle.af_tools.specs.Play.{aplay_trace, IsPlayed}
+
+-- the ends of a part that also reads the source
+abbrev pub is_of_blocks : ToolEnd → Bool
+is_of_blocks end.ReadFault = true
+is_of_blocks end.TooLong = true
+is_of_blocks how = is_of_link how
+
+-- the ends of a part that also writes
+abbrev pub is_of_records : ToolEnd → Bool
+is_of_records end.SinkFault = true
+is_of_records how = is_of_link how
+
+-- A tool may also end in ways that its link does not cause. It ends for its source only if it reads one.
+abbrev pub is_of_tool : (reads : Bool) → ToolEnd → Bool
+is_of_tool reads end.Done = true
+is_of_tool reads (end.NoDevice devices) = true
+is_of_tool reads end.ReadFault = reads
+is_of_tool reads end.TooLong = reads
+is_of_tool reads (end.RateMismatch from to) = reads
+is_of_tool reads (end.ChannelMismatch from to) = reads
+is_of_tool reads (end.BadSound fault) = reads
+is_of_tool reads end.SoundCut = reads
+is_of_tool reads end.SinkFault = true
+is_of_tool reads how = is_of_link how
+
+-- the ends of aplay
+abbrev pub is_of_play : ToolEnd → Bool
+is_of_play how = is_of_tool true how
+
+-- the ends of a tool that reads no source
+abbrev pub is_of_writer : ToolEnd → Bool
+is_of_writer how = is_of_tool false how
 
 -- A tool ran that uses the device with this number, by what its link gives. What the link was sent, and what the sink gained, are
 -- those of the trace, or prefixes of them if something from outside ended it. An end for a reply is that of the trace. If the

@@ -9,9 +9,9 @@ use Rattle.af_toolkit.specs.declared.end.ToolEnd.TheVariants as end
 use Rattle.af_cli.specs.declared.job.Task.{Task}
 use Rattle.af_cli.specs.declared.job.Task.TheVariants as task
 use Rattle.af_toolkit.specs.Trace.{Trace, ClientState, dials, client_after_setup, setup_answer, not_dialled}
-use Rattle.af_tools.specs.Limits.{most_bytes}
-use Rattle.af_tools.specs.Play.{aplay_trace}
-use Rattle.af_tools.specs.Record.{arecord_trace}
+use Rattle.af_tools.specs.Sounds.{most_bytes}
+use Rattle.af_tools.specs.Play.{aplay_trace, IsPlayed}
+use Rattle.af_tools.specs.Record.{arecord_trace, IsRecorded}
 use Rattle.af_tools.specs.Set.{aset_trace}
 use Rattle.af_standing.specs.List.{list_trace, HasLines}
 use Rattle.af_cli.specs.declared.job.PassJob.{PassJob}
@@ -21,14 +21,11 @@ use Rattle.af_cli.specs.declared.job.RecordJob.{RecordJob}
 use Rattle.af_wire.specs.Front.{setup_bytes}
 use Rattle.af_relay.specs.Pass.{RelayTrace, apass_trace, on_from, on_to, ends_both, relay_after_answer, sends_first_from, sends_first_to}
 use Rattle.af_relay.specs.Relayed.{IsRelayed}
-use Rattle.af_tools.specs.Intent.{IsPlayed}
-use Rattle.af_tools.specs.Recorded.{IsRecorded}
 use Rattle.af_cli.specs.Words.{Job, one, relay}
 use Rattle.af_relay.specs.Pair.{is_of_pass}
 use Rattle.af_toolkit.specs.Ends.{MatchesTrace, EndsByReply, IsAnswered, is_outer}
-use Rattle.af_tools.specs.Outcomes.{is_of_tool}
+use Rattle.af_tools.specs.Results.{is_of_tool, is_unfit, EndsIfUnfit}
 use Rattle.af_sound.specs.declared.head.SoundForm.{SoundForm}
-use Rattle.af_tools.specs.Results.{is_unfit, EndsIfUnfit}
 use Rattle.af_tools.specs.Reading.{TellsIfRead, UsesSource}
 use Rattle.af_relay.specs.RelayParts.{ObservedRelayTrace}
 

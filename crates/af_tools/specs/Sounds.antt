@@ -1,5 +1,6 @@
 -- The sound that a source gives to play: samples, or a sound file.
-use Rattle.std.specs.Prelude.{◌≡◌, ℕ, ◌-◌, ◌*◌, ◌==◌, ◌≤◌, nat_lt, min, ⊤, if◌then◌else◌, List, ◌++◌, take, drop, unwrap_or, Option, None, Some}
+use Rattle.std.specs.Prelude.{ℕ, ◌^◌, ◌≡◌, ◌-◌, ◌*◌, ◌==◌, ◌≤◌, nat_lt, min, ⊤, if◌then◌else◌, List, ◌++◌, take, drop}
+use Rattle.std.specs.Prelude.{unwrap_or, Option, None, Some}
 use Rattle.af_sample.specs.declared.sample_type.SampleType.{SampleType}
 use Rattle.af_sample.specs.declared.sample_type.SampleType.TheVariants as ty
 use Rattle.af_sample.specs.SampleTypes.{width_of}
@@ -17,7 +18,10 @@ use Rattle.af_request.specs.declared.reply.DeviceInfo.{DeviceInfo}
 use Rattle.af_cli.specs.declared.job.PlayJob.{PlayJob}
 use Rattle.af_toolkit.specs.Trace.{Trace, bad_sound, channel_mismatch, ends, mismatch, sound_cut, too_long}
 use Rattle.af_tools.specs.declared.sound.SourceSound.{SourceSound}
-use Rattle.af_tools.specs.Limits.{most_bytes}
+
+-- how many bytes a source may give, with the header of a file
+abbrev pub most_bytes : ℕ
+most_bytes = 2 ^ 40
 
 -- the sample type in which a server takes the samples of a file
 abbrev pub served_type : Coding → SampleType

@@ -4,7 +4,7 @@ ghost use Rattle.std.specs.declared.option.Option.TheVariants.{Some};
 ghost use Rattle.af_io.specs.Observed.{CountsFault};
 ghost use Rattle.af_sound.specs.Written.{IsWritableHead};
 ghost use Rattle.af_request.specs.Replies.{IsDeviceInfo};
-ghost use Rattle.af_tools.specs.Files.{as_filed, coding_in, file_head, front_of_recording, pad_after, recorded_sound, recorded_type, stated_length, IsFiledAs};
+ghost use Rattle.af_tools.specs.Record.{as_filed, coding_in, file_head, front_of_recording, pad_after, recorded_sound, recorded_type, stated_length, IsFiledAs};
 ghost use Rattle.af_toolkit.specs.Ends.{Writes};
 ghost use Rattle.af_tools.specs.Sounds.{AreWhole};
 

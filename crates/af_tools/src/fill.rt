@@ -3,7 +3,7 @@ ghost use Rattle.std.specs.Prelude.{◌≡◌, ◌<◌, ◌≤◌, length, take,
 ghost use Rattle.std.specs.declared.option.Option.TheVariants.{Some};
 ghost use Rattle.af_io.specs.Observed.{CountsFault, Consumed};
 ghost use Rattle.af_io.specs.Flow.{ConsumedWithin, IsSpent};
-ghost use Rattle.af_tools.specs.Fill.{fill_end, ConsumedAbove, FillsBlock};
+ghost use Rattle.af_tools.specs.Reading.{fill_end, ConsumedAbove, FillsBlock};
 ghost use Rattle.af_tools.specs.Sounds.{stated_after, FitsStated};
 
 use af_io::{Got, Source};

@@ -9,12 +9,10 @@ ghost use Rattle.af_lib.specs.Calls.{as_time};
 ghost use Rattle.af_toolkit.specs.Trace.{asks};
 ghost use Rattle.af_toolkit.specs.Ends.{is_of_link, KeepsConnection, ObservedPartOver};
 ghost use Rattle.af_sound.specs.Served.{served_length};
-ghost use Rattle.af_tools.specs.Limits.{most_bytes};
+ghost use Rattle.af_tools.specs.Sounds.{most_bytes, as_served, block_bytes, served_room, AreWhole, IsServedAs};
 ghost use Rattle.af_tools.specs.Play.{plays_sound, IsBlock};
-ghost use Rattle.af_tools.specs.Sounds.{as_served, block_bytes, served_room, AreWhole, IsServedAs};
-ghost use Rattle.af_tools.specs.Outcomes.{is_of_blocks};
-ghost use Rattle.af_tools.specs.Fill.{left_before, FillsBlock, IsEarlyBlock, IsNextBlock, TakesSound};
-ghost use Rattle.af_tools.specs.Reading.{ObservedPartReading};
+ghost use Rattle.af_tools.specs.Results.{is_of_blocks};
+ghost use Rattle.af_tools.specs.Reading.{left_before, FillsBlock, IsEarlyBlock, IsNextBlock, TakesSound, ObservedPartReading};
 ghost use Rattle.af_cli.specs.Sizes.{greatest_block};
 
 use crate::fill::{FillFault, fill_stated, still_left};

@@ -9,13 +9,9 @@ ghost use Rattle.af_toolkit.specs.Talk.{creates};
 ghost use Rattle.af_toolkit.specs.Trace.{asks};
 ghost use Rattle.af_toolkit.specs.Ends.{client_of, is_of_link, KeepsConnection, ObservedPartOver};
 ghost use Rattle.af_tools.specs.Play.{play_context, played_frames, plays_on, start_at, IsBlock};
-ghost use Rattle.af_tools.specs.Outcomes.{is_of_blocks, is_of_play};
-ghost use Rattle.af_tools.specs.Fill.{TakesSound};
-ghost use Rattle.af_tools.specs.Limits.{most_bytes};
-ghost use Rattle.af_tools.specs.Sounds.{IsServedAs};
-ghost use Rattle.af_tools.specs.Reading.{ObservedPartReading, UsesSource};
-ghost use Rattle.af_tools.specs.Unread.{GivesReply, ReadsAfterContext};
-ghost use Rattle.af_tools.specs.Results.{LacksDevice, RunsAplay};
+ghost use Rattle.af_tools.specs.Results.{is_of_blocks, is_of_play, LacksDevice, RunsAplay};
+ghost use Rattle.af_tools.specs.Reading.{TakesSound, ObservedPartReading, UsesSource, GivesReply, ReadsAfterContext};
+ghost use Rattle.af_tools.specs.Sounds.{most_bytes, IsServedAs};
 ghost use Rattle.af_cli.specs.Sizes.{greatest_block};
 
 use crate::play::{Playback, play_blocks, read_early, read_first};

@@ -5,9 +5,8 @@ ghost use Rattle.std.specs.declared.option.Option.TheVariants.{None};
 ghost use Rattle.af_io.specs.Observed.{CountsFault};
 ghost use Rattle.af_sample.specs.Channels.{IsChannelCount};
 ghost use Rattle.af_toolkit.specs.Ends.{KeepsConnection, ObservedPartWriting};
-ghost use Rattle.af_tools.specs.Files.{IsFiledAs};
-ghost use Rattle.af_tools.specs.Record.{peak, recorded_frame, records_all, takes_block};
-ghost use Rattle.af_tools.specs.Outcomes.{is_of_records};
+ghost use Rattle.af_tools.specs.Record.{IsFiledAs, peak, recorded_frame, records_all, takes_block};
+ghost use Rattle.af_tools.specs.Results.{is_of_records};
 ghost use Rattle.af_tools.specs.Sounds.{AreWhole};
 ghost use Rattle.af_cli.specs.Sizes.{greatest_block};
 

@@ -6,10 +6,8 @@ ghost use Rattle.af_request.specs.Replies.{IsDeviceInfo};
 ghost use Rattle.af_lib.specs.Calls.{device_channels};
 ghost use Rattle.af_toolkit.specs.Talk.{creates};
 ghost use Rattle.af_toolkit.specs.Ends.{KeepsConnection, ObservedPartWriting};
-ghost use Rattle.af_tools.specs.Record.{arecord_trace, record_context, records_on, writes_recording};
-ghost use Rattle.af_tools.specs.Recorded.{LeavesRecording};
-ghost use Rattle.af_tools.specs.Outcomes.{is_of_writer, is_of_records};
-ghost use Rattle.af_tools.specs.Results.{LacksDevice, RunsTool};
+ghost use Rattle.af_tools.specs.Record.{arecord_trace, record_context, records_on, writes_recording, LeavesRecording};
+ghost use Rattle.af_tools.specs.Results.{is_of_writer, is_of_records, LacksDevice, RunsTool};
 ghost use Rattle.af_cli.specs.Sizes.{greatest_block};
 
 use crate::file::{recorded_sound, write_front, write_pad};

@@ -8,9 +8,8 @@ ghost use Rattle.af_toolkit.specs.Ends.{client_of};
 ghost use Rattle.af_cli.specs.Words.{is_spelled, job, one, Job};
 ghost use Rattle.af_cli.specs.Call.{job_of_call, IsCall};
 ghost use Rattle.af_cli.specs.Ranges.{IsAddress, IsRanged};
-ghost use Rattle.af_tools.specs.Outcomes.{is_of_tool};
-ghost use Rattle.af_tools.specs.Reading.{FollowsTrace, UsesSource};
-ghost use Rattle.af_tools.specs.Unread.{DialGivesContext, GivesContext, JobReadsLate, LinkGivesContext, ReadsLate};
+ghost use Rattle.af_tools.specs.Results.{is_of_tool};
+ghost use Rattle.af_tools.specs.Reading.{FollowsTrace, UsesSource, DialGivesContext, GivesContext, JobReadsLate, LinkGivesContext, ReadsLate};
 ghost use Rattle.af_tools.specs.Run.{form_of, is_of_af, is_of_dial, is_of_far, is_of_job, job_form, job_reads, reads_of, reads_source, servers_of, source_form, task_trace, AskedFor, DoesJob, EndsForCause, RunsJob};
 ghost use Rattle.af_cli.specs.Sizes.{greatest_block};
 

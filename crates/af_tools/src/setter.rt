@@ -6,8 +6,7 @@ ghost use Rattle.af_io.specs.Observed.{CountsFault};
 ghost use Rattle.af_toolkit.specs.Ends.{is_of_report, Reports};
 ghost use Rattle.af_standing.specs.ControlsReport.{controls_report_text};
 ghost use Rattle.af_tools.specs.Set.{aset_trace};
-ghost use Rattle.af_tools.specs.Outcomes.{is_of_writer};
-ghost use Rattle.af_tools.specs.Results.{LacksDevice, RunsTool};
+ghost use Rattle.af_tools.specs.Results.{is_of_writer, LacksDevice, RunsTool};
 
 use crate::set::set_on;
 use af_cli::SetJob;

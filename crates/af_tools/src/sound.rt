@@ -3,8 +3,7 @@ ghost use Rattle.std.specs.Prelude.{◌≡◌, ◌≤◌, ◌*◌, ◌==◌, ◌
 ghost use Rattle.std.specs.declared.option.Option.TheVariants.{None, Some};
 ghost use Rattle.af_io.specs.Observed.{CountsFault};
 ghost use Rattle.af_tools.specs.Sounds.{at_one_shape, file_sound, raw_sound, served_type, source_width, IsServedAs};
-ghost use Rattle.af_tools.specs.Reading.{ends_shape, is_of_front, is_of_sound, HeadCame, SoundCame, TakesFront};
-ghost use Rattle.af_tools.specs.Fill.{ConsumedHead};
+ghost use Rattle.af_tools.specs.Reading.{ends_shape, is_of_front, is_of_sound, HeadCame, SoundCame, TakesFront, ConsumedHead};
 
 use crate::play::MOST_BYTES;
 use af_cli::PlayJob;

@@ -4,7 +4,7 @@ use Rattle.std.proofs.lemmas.List.{take-take}
 use Rattle.af_io.specs.Observed.{Consumed}
 use Rattle.af_toolkit.specs.declared.end.ToolEnd.TheVariants as end
 use Rattle.af_toolkit.specs.Ends.{client_of, is_of_link}
-use Rattle.af_tools.specs.Fill.{fill_end, left_before}
+use Rattle.af_tools.specs.Reading.{fill_end, left_before}
 use Rattle.af_tools.specs.Sounds.{block_bytes}
 use Rattle.af_io.proofs.ConsumedLemmas.{consumed_told}
 use Rattle.af_tools.proofs.EndLemmas.{never}

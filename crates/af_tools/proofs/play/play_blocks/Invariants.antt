@@ -1,7 +1,7 @@
 use Rattle.std.proofs.Common.{Ok, ◌≡◌, ◌<◌, ◌≤◌, ◌⊎◌, ◌+◌, ◌-◌, ◌^◌, ◌++◌, ℕ, List, length, take, IsSome, Option, Some}
 use Rattle.af_io.specs.Flow.{IsSpent}
 use Rattle.af_toolkit.specs.Ends.{client_of, KeepsConnection}
-use Rattle.af_tools.specs.Fill.{left_before}
+use Rattle.af_tools.specs.Reading.{left_before}
 use Rattle.af_tools.specs.Play.{plays_sound}
 use Rattle.af_tools.specs.Sounds.{stated_after, FitsStated}
 use Rattle.af_tools.proofs.PlayBlockLemmas.{ConsumedAll}

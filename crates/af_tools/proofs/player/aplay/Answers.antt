@@ -6,7 +6,7 @@ use Rattle.af_lib.specs.Calls.{channels_or_one}
 use Rattle.af_toolkit.specs.Trace.{done, ends, writes_first}
 use Rattle.af_toolkit.specs.Ends.{client_of, is_of_report}
 use Rattle.af_tools.specs.Play.{played_text}
-use Rattle.af_tools.specs.Outcomes.{is_of_blocks}
+use Rattle.af_tools.specs.Results.{is_of_blocks}
 use Rattle.af_tools.specs.Reading.{is_of_sound}
 use Rattle.af_tools.proofs.HavingRun.{aplay_missing_ran, aplay_there_ran}
 use Rattle.af_tools.proofs.DeviceChoiceLemmas.{followed_same, is_missing, is_there, missing_iff, reported, there_iff}

@@ -2,8 +2,8 @@ use Rattle.std.proofs.Common.{rules, arith, ◌≡◌, ◌-◌, refl, Err}
 use Rattle.af_toolkit.specs.declared.end.ToolEnd.TheVariants as end
 use Rattle.af_toolkit.specs.Ends.{is_of_link}
 use Rattle.af_toolkit.proofs.PartProgressLemmas.{goes_early}
-use Rattle.af_tools.specs.Fill.{fill_end}
-use Rattle.af_tools.specs.Limits.{most_bytes}
+use Rattle.af_tools.specs.Reading.{fill_end}
+use Rattle.af_tools.specs.Sounds.{most_bytes}
 use Rattle.af_tools.specs.Play.{plays_on}
 use Rattle.af_tools.proofs.EndLemmas.{never}
 use Rattle.af_tools.proofs.PartStepLemmas.{part_goes_on, part_is_done, part_stops}

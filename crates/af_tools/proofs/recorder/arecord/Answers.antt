@@ -3,7 +3,7 @@ use Rattle.af_toolkit.specs.declared.end.ToolEnd.TheVariants as end
 use Rattle.af_lib.specs.Calls.{channels_or_one}
 use Rattle.af_toolkit.specs.Trace.{done, ends}
 use Rattle.af_toolkit.specs.Ends.{client_of}
-use Rattle.af_tools.specs.Outcomes.{is_of_records}
+use Rattle.af_tools.specs.Results.{is_of_records}
 use Rattle.af_tools.proofs.FiledLemmas.{is_recorded}
 use Rattle.af_toolkit.proofs.FollowedLemmas.{followed_done}
 use Rattle.af_tools.proofs.HavingRun.{arecord_on, missing_ran, there_ran}

@@ -1,7 +1,6 @@
 use Rattle.std.proofs.Common.{rules, ◌≡◌, ◌*◌, ◌∙◌, ℕ, ap, ap₂, Err}
 use Rattle.af_toolkit.specs.Ends.{client_of}
-use Rattle.af_tools.specs.Files.{pad_after, recorded_sound}
-use Rattle.af_tools.specs.Record.{recorded_frame, writes_recording}
+use Rattle.af_tools.specs.Record.{pad_after, recorded_sound, recorded_frame, writes_recording}
 use Rattle.af_tools.proofs.PartStepLemmas.{part_goes_on, part_stops, part_unwritten, part_writes}
 use Rattle.af_toolkit.proofs.WritingLemmas.{goes_writing}
 use Rattle.af_tools.proofs.recorder.write_recording.Goals as goal

@@ -4,7 +4,7 @@ use Rattle.af_toolkit.specs.declared.end.ToolEnd.TheVariants as end
 use Rattle.af_cli.specs.declared.job.Task.TheVariants as task
 use Rattle.af_standing.specs.List.{is_of_list}
 use Rattle.af_tools.specs.Run.{reads_source}
-use Rattle.af_tools.specs.Outcomes.{is_of_tool}
+use Rattle.af_tools.specs.Results.{is_of_tool}
 use Rattle.af_tools.proofs.run.perform.Goals as goal
 
 pub returns-in-Play-clause-followed : goal.returns-in-Play-clause-followed

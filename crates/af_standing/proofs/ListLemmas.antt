@@ -1,19 +1,17 @@
 -- The lines of devices, one after another.
-use Rattle.std.proofs.Common.{◌≡◌, ◌<◌, ◌≤◌, ◌+◌, ℕ, List, [], ◌∷◌, ◌++◌, drop, length, append-nil, ap, sym, subst, ◌∙◌, refl, inl}
+use Rattle.std.proofs.Common.{◌≡◌, ◌<◌, ◌≤◌, ◌+◌, ℕ, List, [], ◌∷◌, drop, length, ap, sym, subst, ◌∙◌, refl, inl}
 use Rattle.std.proofs.lemmas.List.{drop_all, drop_more}
-use Rattle.std.specs.Prelude.{Ok, Err, slice_index_or}
+use Rattle.std.specs.Prelude.{Result, Ok, Err, slice_index_or}
 use Rattle.std.specs.declared.option.Option.{Option}
 use Rattle.std.specs.declared.option.Option.TheVariants.{Some}
 use Rattle.af_request.specs.declared.reply.DeviceInfo.{DeviceInfo}
 use Rattle.af_request.specs.Asked.{get_time}
 use Rattle.af_lib.specs.Calls.{as_time}
 use Rattle.af_toolkit.specs.declared.end.ToolEnd.{ToolEnd}
-use Rattle.af_toolkit.specs.declared.end.ToolEnd.TheVariants as end
 use Rattle.af_toolkit.specs.Trace.{Trace, ClientState, done, ends}
-use Rattle.af_toolkit.specs.Ends.{MatchesTrace, ObservedPart, ObservedTrace, TracePart, is_outer}
-use Rattle.af_toolkit.proofs.TracePartLemmas.{goes_stop}
-use Rattle.af_toolkit.proofs.PartProgressLemmas.{Reaches, goes_same, goes_value, reaches_goes, reaches_none, reaches_on}
-use Rattle.af_toolkit.proofs.ToolEndLemmas.{IsDoneOrRefused, asked_finish, done_where_answered, ends_by_reply, finish_done}
+use Rattle.af_toolkit.specs.Ends.{ObservedPart, ObservedTrace, TracePart}
+use Rattle.af_toolkit.proofs.TracePartLemmas.{Reaches, part_is_done, part_reaches, part_stops, reaches_as, reaches_none, reaches_on}
+use Rattle.af_toolkit.proofs.ToolEndLemmas.{IsDoneOrRefused, asked_finish, done_where_answered, ends_by_reply, is_whole}
 use Rattle.af_standing.specs.List.{list_trace, tells_device, tells_from, HasLines, ListRan}
 use Rattle.af_standing.proofs.ListedLemmas.{list_lines}
 use Rattle.af_standing.proofs.ControlsReportLemmas.{controls_report_finish}
@@ -27,13 +25,8 @@ pub record IsTelling (devices : List DeviceInfo) (number : ℕ) (first : ClientS
   pub is_told : told ≡ Some input
   pub reaches : Reaches (left_to_tell devices 0 first) (left_to_tell devices number (wire input)) sent sent' held held'
 
-pub telling_begin : (devices : List DeviceInfo) (first : ClientState) (input : List ℕ) (told : Option (List ℕ)) (wire : List ℕ → ClientState) (sent held : Option (List ℕ)) → told ≡ Some input → wire input ≡ first →
-    IsTelling devices 0 first told wire sent sent held held
-telling_begin devices first input told wire sent held is_told is = record {
-  input = input;
-  is_told = is_told;
-  reaches = subst (λ (w : ClientState). Reaches (left_to_tell devices 0 first) (left_to_tell devices 0 w) sent sent held held) (sym is) (reaches_none (left_to_tell devices 0 first) sent held);
-}
+pub telling_begin : {devices : List DeviceInfo} (input : List ℕ) {told : Option (List ℕ)} (wire : List ℕ → ClientState) {sent held : Option (List ℕ)} → told ≡ Some input → IsTelling devices 0 (wire input) told wire sent sent held held
+telling_begin input wire is_told = record { input = input; is_told = is_told; reaches = reaches_none }
 
 -- a device and those after it
 pub device_next : (devices stated : List DeviceInfo) (number : ℕ) (d : DeviceInfo) → stated ≡ devices → number < length devices → drop number devices ≡ slice_index_or stated number d ∷ drop (number + 1) devices
@@ -49,25 +42,20 @@ tell_none : (devices : List DeviceInfo) (number : ℕ) (w : ClientState) → len
 unfolding tells_from
 tell_none devices number w beyond next = ap (λ (l : List DeviceInfo). tells_from number l w next) (drop_all number devices beyond)
 
-module _ (devices : List DeviceInfo) (number : ℕ) (first : ClientState) (told : Option (List ℕ)) (wire : List ℕ → ClientState) (s s' h h' : Option (List ℕ)) (t : IsTelling devices number first told wire s s' h h') where
+module _ {devices : List DeviceInfo} {number : ℕ} {first : ClientState} {told : Option (List ℕ)} {wire : List ℕ → ClientState} {s s' h h' : Option (List ℕ)} (t : IsTelling devices number first told wire s s' h h') where
   -- all were listed
   pub telling_done : length devices ≤ number → ObservedPart (left_to_tell devices 0 first) (Ok tt) told wire s s' h h'
-  telling_done beyond =
-      reaches_goes (left_to_tell devices 0 first) (left_to_tell devices number (wire t.input)) (Ok tt) told wire s s' s' h h' h' t.reaches
-      (goes_value (left_to_tell devices number (wire t.input)) tt t.input told wire s' h' t.is_told (tell_none devices number (wire t.input) beyond))
+  telling_done beyond = part_reaches t.reaches (part_is_done t.is_told (tell_none devices number (wire t.input) beyond))
 
-  module _ (device : DeviceInfo) (is : drop number devices ≡ device ∷ drop (number + 1) devices) (told' : Option (List ℕ)) (wire' : List ℕ → ClientState) (s'' h'' : Option (List ℕ)) where
+  module _ {device : DeviceInfo} (is : drop number devices ≡ device ∷ drop (number + 1) devices) {told' : Option (List ℕ)} {wire' : List ℕ → ClientState} {s'' h'' : Option (List ℕ)} where
     -- the next one could not be listed
-    pub telling_stop : (how : ToolEnd) → ObservedPart {X = Unit {0}} (tells_device number device (wire t.input)) (Err how) told' wire' s' s'' h' h'' → ObservedPart {X = Unit {0}} (left_to_tell devices 0 first) (Err how) told' wire' s s'' h h''
-    telling_stop how g =
-        reaches_goes (left_to_tell devices 0 first) (left_to_tell devices number (wire t.input)) (Err how) told' wire' s s' s'' h h' h'' t.reaches
-        (goes_same (left_to_tell devices number (wire t.input)) (λ next. tells_device number device (wire t.input) (λ _ w. left_to_tell devices (number + 1) w next)) (Err how) told' wire' s' s'' h' h'' (tell_next devices number device (wire t.input) is)
-        (goes_stop (tells_device number device (wire t.input)) (λ _ w. left_to_tell devices (number + 1) w) how told' told' wire' wire' s' s'' h' h'' g))
+    pub telling_stop : {how : ToolEnd} {result : Result (Unit {0}) ToolEnd} → result ≡ Err how → ObservedPart {X = Unit {0}} (tells_device number device (wire t.input)) (Err how) told' wire' s' s'' h' h'' → ObservedPart (left_to_tell devices 0 first) result told' wire' s s'' h h''
+    telling_stop same g = part_reaches (reaches_as t.reaches (tell_next devices number device (wire t.input) is)) (part_stops {second = λ _ w. left_to_tell devices (number + 1) w} same g)
 
     -- the next one was listed
     pub telling_on : ObservedPart {X = Unit {0}} (tells_device number device (wire t.input)) (Ok tt) told' wire' s' s'' h' h'' → IsTelling devices (number + 1) first told' wire' s s'' h h''
     telling_on g =
-        let k = reaches_on (left_to_tell devices 0 first) (left_to_tell devices number (wire t.input)) (tells_device number device (wire t.input)) (λ _ w. left_to_tell devices (number + 1) w) tt told' wire' s s' s'' h h' h'' t.reaches (tell_next devices number device (wire t.input) is) g in
+        let k = reaches_on (λ _ w. left_to_tell devices (number + 1) w) t.reaches (tell_next devices number device (wire t.input) is) g in
         record { input = k.0; is_told = k.1; reaches = k.2 }
 
 -- list is done or refused
@@ -83,17 +71,12 @@ pub list_finish : (devices : List DeviceInfo) (w : ClientState) → IsDoneOrRefu
 unfolding list_trace
 list_finish devices w = tells_finish 0 devices w (λ _ _. ends done) (λ x v. inl refl)
 
-list_listed : (devices : List DeviceInfo) (w : ClientState) (how : ToolEnd) (sends output : List ℕ) → MatchesTrace (list_trace devices w) how sends output → how ≡ end.Done → HasLines 0 devices output
-list_listed devices w how sends output e way =
-    let whole = e.whole (ap is_outer way) in
-    let finish : (list_trace devices w).finish ≡ done = finish_done (list_trace devices w).finish (sym whole.0 ∙ way) in
-    let wrote : (list_trace devices w).output ≡ output = e.wrote ∙ ap (λ (l : List ℕ). output ++ l) whole.2 ∙ append-nil output in
-    subst (λ (l : List ℕ). HasLines 0 devices l) wrote (list_lines devices w finish)
-
 pub list_ran : (devices : List DeviceInfo) (w : ClientState) (how : ToolEnd) (s s' h h' : Option (List ℕ)) → ObservedTrace (list_trace devices w) how s s' h h' → ListRan devices w how s s' h h'
 list_ran devices w how s s' h h' f = record {
   followed = f;
-  listed = λ way. list_listed devices w how f.sends f.output f.ended way;
+  listed = λ way.
+      let whole = is_whole f.ended way in
+      subst (λ (l : List ℕ). HasLines 0 devices l) (sym whole.wrote) (list_lines devices w whole.finish);
   reply = ends_by_reply (list_trace devices w) how s s' h h' f;
   complete = λ answered. done_where_answered (list_trace devices w) how f.sends f.output f.ended (list_finish devices w) answered;
 }

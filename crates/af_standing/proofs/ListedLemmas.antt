@@ -1,30 +1,22 @@
 -- A list that is done has a line for each device.
-use Rattle.std.proofs.Common.{◌≡◌, ◌+◌, Bool, true, false, ℕ, List, [], ◌∷◌, is_some, refl, ◌∙◌}
-use Rattle.std.specs.Prelude.{Result, Ok, Err}
+use Rattle.std.proofs.Common.{◌≡◌, ◌+◌, Bool, true, false, ℕ, List, [], ◌∷◌, is_some, refl, ap, ◌∙◌}
 use Rattle.std.specs.declared.option.Option.{Option}
 use Rattle.std.specs.declared.option.Option.TheVariants.{None, Some}
 use Rattle.af_request.specs.declared.reply.DeviceInfo.{DeviceInfo}
 use Rattle.af_request.specs.declared.reply.Phone.{Phone}
 use Rattle.af_request.specs.Asked.{Asked, get_time, query_controls, query_phone}
 use Rattle.af_request.specs.Answer.{Answer}
-use Rattle.af_request.specs.Requests.{request_bytes}
-use Rattle.af_lib.specs.declared.fault.ConnFault.{ConnFault}
 use Rattle.af_lib.specs.Calls.{as_controls, as_phone, as_time}
-use Rattle.af_toolkit.specs.Trace.{Trace, ClientState, after_reply, answer_on, after_answer, asks, done, ends, refused, sends_first}
+use Rattle.af_toolkit.specs.Trace.{Trace, ClientState, after_reply, asks, done, ends}
+use Rattle.af_toolkit.proofs.ToolEndLemmas.{asks_done}
 use Rattle.af_standing.specs.declared.controls_report.ControlsReport.{ControlsReport}
 use Rattle.af_standing.specs.ControlsReport.{asks_line, asks_controls_report}
 use Rattle.af_standing.specs.List.{list_trace, tells_device, tells_from, HasLines}
 
 -- a trace that is done goes on after a request
-answer_done : {X : Type 0} (bytes : List ℕ) (r : Result X ConnFault) (w : ClientState) (next : X → ClientState → Trace) → (sends_first bytes (after_answer r w next)).finish ≡ done →
-    (x : X) × (v : ClientState) × ((next x v).finish ≡ done) × ((sends_first bytes (after_answer r w next)).output ≡ (next x v).output)
-answer_done bytes (Ok x) w next is = (x, w, is, refl)
-answer_done bytes (Err f) w next is = let bad : refused f ≡ done = is in absurd (cc bad)
-
 asked_done : {X : Type 0} (asked : Asked) (value_of : Answer → Option X) (w : ClientState) (next : X → ClientState → Trace) → (asks asked value_of w next).finish ≡ done →
     (x : X) × (v : ClientState) × ((next x v).finish ≡ done) × ((asks asked value_of w next).output ≡ (next x v).output)
-unfolding asks
-asked_done asked value_of w next is = answer_done (request_bytes w.order asked) (answer_on asked value_of w) (after_reply w) next is
+asked_done asked value_of w next is = let a = asks_done asked value_of w next is in (a.0, after_reply w, a.3, ap (λ (c : Trace). c.output) a.2)
 
 line_done : (line : Bool) (device : ℕ) (w : ClientState) (next : Option Phone → ClientState → Trace) → (asks_line line device w next).finish ≡ done →
     (phone : Option Phone) × (v : ClientState) × (is_some phone ≡ line) × ((next phone v).finish ≡ done) × ((asks_line line device w next).output ≡ (next phone v).output)

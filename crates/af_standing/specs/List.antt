@@ -11,7 +11,7 @@ use Rattle.af_lib.specs.Calls.{ConnState, as_time}
 use Rattle.af_toolkit.specs.declared.end.ToolEnd.{ToolEnd}
 use Rattle.af_toolkit.specs.declared.end.ToolEnd.TheVariants as end
 use Rattle.af_toolkit.specs.Trace.{Trace, ClientState, asks, done, ends, writes_first}
-use Rattle.af_toolkit.specs.Ends.{client_of, is_of_link, is_outer, EndsByReply, IsAnswered, ObservedTrace}
+use Rattle.af_toolkit.specs.Ends.{client_of, is_of_link_or_sink, is_outer, EndsByReply, IsAnswered, ObservedTrace}
 use Rattle.af_standing.specs.declared.controls_report.ControlsReport.{ControlsReport}
 use Rattle.af_standing.specs.ControlsReport.{asks_controls_report, control_text, phone_text}
 
@@ -65,15 +65,10 @@ tells_all devices w next = tells_from 0 devices w next
 unfoldable pub list_trace : List DeviceInfo → ClientState → Trace
 list_trace devices w = tells_all devices w (λ _ _. ends done)
 
--- the ends of telling a device: those of its link, and of writing
-abbrev pub is_of_lines : ToolEnd → Bool
-is_of_lines end.SinkFault = true
-is_of_lines how = is_of_link how
-
 -- the ends of list
 abbrev pub is_of_list : ToolEnd → Bool
 is_of_list end.Done = true
-is_of_list how = is_of_lines how
+is_of_list how = is_of_link_or_sink how
 
 -- A text has a line for each of some devices, in order, from this number on: with some state and some time, and with the flags of
 -- a telephone line exactly if the device has one.

@@ -2,8 +2,8 @@
 ghost use Rattle.std.specs.Prelude.{◌≡◌, true, Err, IfErr};
 ghost use Rattle.std.specs.declared.option.Option.TheVariants.{None};
 ghost use Rattle.af_io.specs.Observed.{CountsFault};
-ghost use Rattle.af_toolkit.specs.Ends.{KeepsConnection, ObservedPartWriting, Writes};
-ghost use Rattle.af_standing.specs.List.{device_line, is_of_lines, is_of_list, tells_all, tells_device, RunsList};
+ghost use Rattle.af_toolkit.specs.Ends.{is_of_link_or_sink, KeepsConnection, ObservedPartWriting, Writes};
+ghost use Rattle.af_standing.specs.List.{device_line, is_of_list, tells_all, tells_device, RunsList};
 
 use crate::ask::controls_report_of;
 use crate::controls_report::ControlsReport;
@@ -41,7 +41,7 @@ fn tell_device<L: Link + Drop, K: Sink>(
     ensures goes { ObservedPartWriting L.left L.sent K.held conn.old conn.new sink.old sink.new
         (λ w. tells_device number device w) result }
     ensures holds { KeepsConnection L.left L.faults conn.old conn.new result }
-    ensures end { IfErr result (λ how. is_of_lines how ≡ true) }
+    ensures end { IfErr result (λ how. is_of_link_or_sink how ≡ true) }
     ensures fault { CountsFault (result ≡ Err ToolEnd.SinkFault) (K.faults sink.old) (K.faults sink.new) }
 {
     let controls_report = controls_report_of(number, device.line, conn)?;
@@ -55,7 +55,7 @@ fn tell_devices<L: Link + Drop, K: Sink>(conn: &mut Conn<L>, sink: &mut K) -> Re
     ensures goes { ObservedPartWriting L.left L.sent K.held conn.old conn.new sink.old sink.new
         (λ w. tells_all conn.old.devices w) result }
     ensures holds { KeepsConnection L.left L.faults conn.old conn.new result }
-    ensures end { IfErr result (λ how. is_of_lines how ≡ true) }
+    ensures end { IfErr result (λ how. is_of_link_or_sink how ≡ true) }
     ensures fault { CountsFault (result ≡ Err ToolEnd.SinkFault) (K.faults sink.old) (K.faults sink.new) }
 {
     let count = conn.devices().len();

@@ -1,5 +1,2 @@
 pub mod TracePartLemmas
-pub mod FollowedLemmas
-pub mod PartProgressLemmas
-pub mod WritingLemmas
 pub mod ToolEndLemmas

@@ -1,14 +1,15 @@
 -- How a tool ends, by its trace.
-use Rattle.std.proofs.Common.{◌≡◌, ℕ, true, false, List, sym, ap, ◌∙◌, refl, inl, inr, ◌⊎◌}
+use Rattle.std.proofs.Common.{◌≡◌, ℕ, true, false, List, [], ◌++◌, append-nil, sym, ap, ◌∙◌, refl, inl, inr, ◌⊎◌}
 use Rattle.std.specs.Prelude.{Result, Ok, Err}
 use Rattle.std.specs.declared.option.Option.{Option}
 use Rattle.af_request.specs.Asked.{Asked}
 use Rattle.af_request.specs.Answer.{Answer}
+use Rattle.af_request.specs.Requests.{request_bytes}
 use Rattle.af_lib.specs.declared.fault.ConnFault.{ConnFault}
 use Rattle.af_lib.specs.declared.fault.ConnFault.TheVariants as fault
 use Rattle.af_toolkit.specs.declared.end.ToolEnd.{ToolEnd}
 use Rattle.af_toolkit.specs.declared.end.ToolEnd.TheVariants as end
-use Rattle.af_toolkit.specs.Trace.{Trace, ClientState, Finish, after_reply, answer_on, after_answer, asks, bad_sound, channel_mismatch, done, tool_end, fault_end, mismatch, no_device, not_dialled, refused, sound_cut, too_long}
+use Rattle.af_toolkit.specs.Trace.{Trace, ClientState, Finish, after_reply, answer_on, after_answer, asks, bad_sound, channel_mismatch, done, tool_end, fault_end, mismatch, no_device, not_dialled, refused, sends_first, sound_cut, too_long}
 use Rattle.af_toolkit.specs.Ends.{MatchesTrace, EndsByReply, ObservedTrace, IsAnswered, is_of_reply, is_outer}
 
 -- the finish of an end that is not from outside
@@ -92,6 +93,37 @@ pub finish_done : (f : Finish) → tool_end f ≡ end.Done → f ≡ done
 finish_done done is = refl
 finish_done (refused f) is = absurd (fault_undone f is)
 finish_done f is = absurd (cc)
+
+-- what was done of all, where nothing is left
+all_done : (whole part rest : List ℕ) → whole ≡ part ++ rest → rest ≡ [] → part ≡ whole
+all_done whole part rest is none = sym (append-nil part) ∙ ap (λ (l : List ℕ). part ++ l) (sym none) ∙ sym is
+
+-- a tool that is done has sent and written all of its trace
+pub record IsWhole (trace : Trace) (sends output : List ℕ) : Type 0 where
+  pub finish : trace.finish ≡ done
+  pub sent : sends ≡ trace.sends
+  pub wrote : output ≡ trace.output
+
+pub is_whole : {trace : Trace} {how : ToolEnd} {sends output : List ℕ} → MatchesTrace trace how sends output → how ≡ end.Done → IsWhole trace sends output
+is_whole {trace} {how} {sends} {output} e way =
+    let whole = e.whole (ap is_outer way) in
+    record {
+      finish = finish_done trace.finish (sym whole.0 ∙ way);
+      sent = all_done trace.sends sends e.unsent e.sent whole.1;
+      wrote = all_done trace.output output e.unwritten e.wrote whole.2;
+    }
+
+-- a trace that is done went on after an answer
+pub answered_done : {X : Type 0} (r : Result X ConnFault) (w : ClientState) (next : X → ClientState → Trace) → (after_answer r w next).finish ≡ done → (x : X) × (r ≡ Ok x) × (after_answer r w next ≡ next x w)
+answered_done (Ok x) w next is = (x, refl, refl)
+answered_done (Err fault) w next is = absurd (cc)
+
+pub asks_done : {X : Type 0} (asked : Asked) (value_of : Answer → Option X) (w : ClientState) (next : X → ClientState → Trace) → (asks asked value_of w next).finish ≡ done →
+    (x : X) × (answer_on asked value_of w ≡ Ok x) × (asks asked value_of w next ≡ sends_first (request_bytes w.order asked) (next x (after_reply w))) × ((next x (after_reply w)).finish ≡ done)
+unfolding asks
+asks_done asked value_of w next is =
+    let r = answered_done (answer_on asked value_of w) (after_reply w) next is in
+    (r.0, r.1, ap (sends_first (request_bytes w.order asked)) r.2, ap (λ (c : Trace). c.finish) (sym r.2) ∙ is)
 
 -- a trace that goes on by the answer to a request
 answer_finish : {X : Type 0} (r : Result X ConnFault) (w : ClientState) (next : X → ClientState → Trace) → ((x : X) (v : ClientState) → IsDoneOrRefused (next x v).finish) → IsDoneOrRefused (after_answer r w next).finish

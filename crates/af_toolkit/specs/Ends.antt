@@ -56,11 +56,12 @@ is_of_reply _ = false
 -- the ends of a part that only sends requests and takes their replies
 abbrev pub is_of_link : ToolEnd → Bool
 is_of_link end.LinkFault = true
-is_of_link end.LinkEnded = true
-is_of_link (end.Refused code value) = true
-is_of_link (end.BadReply header first) = true
-is_of_link end.EventFlood = true
-is_of_link _ = false
+is_of_link how = is_of_reply how
+
+-- the ends of a part that also writes
+abbrev pub is_of_link_or_sink : ToolEnd → Bool
+is_of_link_or_sink end.SinkFault = true
+is_of_link_or_sink how = is_of_link how
 
 -- the ends of writing
 abbrev pub is_of_report : ToolEnd → Bool

@@ -15,8 +15,7 @@ use Rattle.af_request.specs.Asked.{Asked}
 use Rattle.af_tools.specs.declared.sound.SourceSound.{SourceSound}
 use Rattle.af_tools.specs.Play.{played_text, plays_on}
 use Rattle.af_toolkit.specs.Ends.{ObservedTrace}
-use Rattle.af_io.proofs.AppendedLemmas.{appended_none}
-use Rattle.af_toolkit.proofs.TracePartLemmas.{ended_at_once}
+use Rattle.af_toolkit.proofs.TracePartLemmas.{followed_end}
 
 -- the device with a number
 pub record IsThere (devices : List DeviceInfo) (number : ℕ) (device : DeviceInfo) : Type 0 where
@@ -71,8 +70,7 @@ module _ {trace : Trace} {number : ℕ} {devices : List DeviceInfo} (each : Devi
 
   -- one whose device does not exist sends and writes nothing
   pub followed_missing : {how : ToolEnd} {s h : Option (List ℕ)} → IsMissing devices number how → ObservedTrace trace how s s h h
-  followed_missing {how} {s} {h} m =
-      rw (is, m.get) (record { sends = []; output = []; ended = ended_at_once (ends (no_device (length devices))) how [] [] refl refl m.way; link = appended_none s; sink = appended_none h })
+  followed_missing m = rw (is, m.get) (followed_end (no_device (length devices)) m.way)
 
 number_of : (a b : ℕ) → end.NoDevice a ≡ end.NoDevice b → a ≡ b
 number_of a b e = cc

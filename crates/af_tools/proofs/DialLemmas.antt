@@ -16,7 +16,7 @@ use Rattle.af_cli.specs.declared.job.PassJob.{PassJob}
 use Rattle.af_cli.specs.declared.job.Task.{Task}
 use Rattle.af_toolkit.specs.Trace.{Trace, ClientState, new_client, connects, fault_end, client_after_setup, setup_answer, Finish, done, not_dialled, refused, too_long}
 use Rattle.af_relay.specs.RelayParts.{ObservedRelayTrace}
-use Rattle.af_tools.specs.Run.{RelayedOver, as_relay, connects_by, dials_to, is_of_job, job_reads, relay_trace, IsEarly, IsServed, JobRan, RelayRanTo, one_trace, run_trace, task_trace}
+use Rattle.af_tools.specs.Run.{RelayDid, RelayedOver, as_relay, connects_by, dials_to, is_of_job, job_reads, relay_trace, IsEarly, IsServed, JobRan, RelayRanTo, one_trace, run_trace, task_trace}
 use Rattle.af_tools.specs.Reading.{TellsIfRead, UsesSource}
 use Rattle.af_tools.specs.Results.{is_unfit}
 use Rattle.af_toolkit.specs.Ends.{MatchesTrace, ObservedTrace, is_outer}
@@ -25,11 +25,9 @@ use Rattle.af_tools.specs.Sounds.{most_bytes}
 use Rattle.af_cli.specs.Words.{Job, one, relay}
 use Rattle.af_io.proofs.ConsumedLemmas.{consumed_known}
 use Rattle.af_io.proofs.AppendedLemmas.{appended_none, appended_on}
-use Rattle.af_toolkit.proofs.TracePartLemmas.{ended_then, ended_early}
+use Rattle.af_toolkit.proofs.TracePartLemmas.{ended_early, ended_same, ended_then, setup_known}
 use Rattle.af_toolkit.proofs.ToolEndLemmas.{done_unless_outer, ends_as}
-use Rattle.af_toolkit.proofs.FollowedLemmas.{ended_same}
 use Rattle.af_tools.proofs.EndLemmas.{never}
-use Rattle.af_tools.proofs.SetupTraceLemmas.{setup_known}
 use Rattle.af_relay.proofs.RelayPartLemmas.{is_from, is_to, one_goes}
 use Rattle.af_cli.specs.declared.job.Task.TheVariants as task
 use Rattle.af_sound.specs.declared.head.SoundForm.{SoundForm}
@@ -65,37 +63,25 @@ early_none : (j : Job) → IsEarly j [] []
 early_none (one server order task) = (refl, refl)
 early_none (relay from to order job) = (inl refl, refl)
 
+-- a relay that something from outside ended before it did anything
+abbrev relay_idle : (whole : RelayTrace) (how : ToolEnd) {held : Option (List ℕ)} → is_outer how ≡ true → RelayDid whole how held held
+relay_idle whole how {held} outer = record {
+  sends_from = [];
+  sends_to = [];
+  output = [];
+  recorded = ended_early (on_from whole) how [] [] whole.from whole.output outer refl refl;
+  played = ended_early (on_to whole) how [] [] whole.to whole.output outer refl refl;
+  sink = appended_none held;
+}
+
 -- nothing was dialled, or no link came
 pub ran_none : (j : Job) (bytes : List ℕ) (how : ToolEnd) (links : List ToldLink) (links' : Option (List ToldLink)) (held : Option (List ℕ)) (back back' : Option (List (List ℕ))) → is_outer how ≡ true → links' ≡ Some links → back' ≡ back →
     JobRan j bytes how links links' held held back back'
-ran_none j bytes how links links' held back back' outer same is =
-    let r = run_trace j links bytes in
-    record {
-      sends_from = [];
-      sends_to = [];
-      output = [];
-      recorded = ended_early (on_from r) how [] [] r.from r.output outer refl refl;
-      played = ended_early (on_to r) how [] [] r.to r.output outer refl refl;
-      sink = appended_none held;
-      link = inl (refl, refl, same, is);
-      early = λ memory. early_none j;
-    }
+ran_none j bytes how links links' held back back' outer same is = record { did = relay_idle (run_trace j links bytes) how outer; link = inl (refl, refl, same, is); early = λ memory. early_none j }
 
 -- nothing was sent on the second link: memory ran out
 pub over_none : (whole : RelayTrace) (s t h : Option (List ℕ)) → RelayedOver whole end.OutOfMemory s s t t h h
-over_none whole s t h = record {
-  followed = record {
-    sends_from = [];
-    sends_to = [];
-    output = [];
-    recorded = ended_early (on_from whole) end.OutOfMemory [] [] whole.from whole.output refl refl refl;
-    played = ended_early (on_to whole) end.OutOfMemory [] [] whole.to whole.output refl refl refl;
-    link_from = appended_none s;
-    link_to = appended_none t;
-    sink = appended_none h;
-  };
-  early = λ memory. (refl, refl);
-}
+over_none whole s t h = record { did = relay_idle whole end.OutOfMemory refl; link_from = appended_none s; link_to = appended_none t; early = λ memory. (refl, refl) }
 
 pub setup_memory : (f : ConnFault) → (let r : Result (List DeviceInfo) ConnFault = Err f in IsFresh r) → fault_end f ≡ end.OutOfMemory → ⊥
 setup_memory fault.OutOfMemory fresh e = absurd fresh
@@ -112,12 +98,14 @@ module _ (order : Order) where
       let f = follows link.gives first.0 in
       let trace = one_trace order task (link ∷ rest) bytes in
       record {
-        sends_from = f.sends;
-        sends_to = [];
-        output = f.output;
-        recorded = alone_from trace how f.sends f.output f.ended;
-        played = alone_to trace how f.sends f.output f.ended;
-        sink = f.sink;
+        did = record {
+          sends_from = f.sends;
+          sends_to = [];
+          output = f.output;
+          recorded = alone_from trace how f.sends f.output f.ended;
+          played = alone_to trace how f.sends f.output f.ended;
+          sink = f.sink;
+        };
         link = inr (link, rest, back'', refl, consumed_entry back back'' (sent_of far) after link.sent f.sends first.1 f.link (subst (λ (b : Option (List (List ℕ))). AppendedBack b after back'') is_back entry), inl (refl, is_links ∙ first.2, refl));
         early = λ none. (appended_nothing (sent_of far) after link.sent f.sends first.1 f.link (memory none), refl);
       }
@@ -150,16 +138,16 @@ module _ (order : Order) where
       let after = next devices (new_client order ring b.a) in
       let whole = connects_by order sends_first_to input next in
       record {
-        followed = record {
+        did = record {
           sends_from = f.sends_from;
           sends_to = setup_bytes order ++ f.sends_to;
           output = f.output;
           recorded = ended_same (on_from after) (on_from whole) how f.sends_from f.output (ap on_from b.is) f.recorded;
           played = ended_then (on_to after) (on_to whole) how (setup_bytes order) [] f.sends_to f.output (ap on_to b.is) f.played;
-          link_from = f.link_from;
-          link_to = appended_on (sent old) (sent new) t'' (setup_bytes order) f.sends_to b.appended f.link_to;
           sink = f.sink;
         };
+        link_from = f.link_from;
+        link_to = appended_on (sent old) (sent new) t'' (setup_bytes order) f.sends_to b.appended f.link_to;
         early = λ memory. absurd (never memory);
       }
 
@@ -170,27 +158,23 @@ module _ (order : Order) where
       let g = one_goes sends_first_to on_to on_from is_to (setup_bytes order) (setup_answer order input) (client_after_setup order input) (λ next. connects_by order sends_first_to input next) (λ next. refl) (left new) (new_client order ring) (sent old) (sent new) (Err f) is.sends (setup_known order left sent faults old new ring input (Err f) is told) in
       let e = g.came next in
       record {
-        followed = record { sends_from = []; sends_to = g.sends; output = []; recorded = e.1; played = e.0; link_from = appended_none s; link_to = g.link; sink = appended_none h };
+        did = record { sends_from = []; sends_to = g.sends; output = []; recorded = e.1; played = e.0; sink = appended_none h };
+        link_from = appended_none s;
+        link_to = g.link;
         early = λ memory. absurd (never memory);
       }
 
   -- the second server could not be dialled
   module _ (job : PassJob) (from : List DeviceInfo) (v : ClientState) where
-    pub to_none : (how : ToolEnd) (links : List ToldLink) (links' : Option (List ToldLink)) (sent held : Option (List ℕ)) (back back' back'' : Option (List (List ℕ))) → is_outer how ≡ true → links' ≡ Some links → back' ≡ back → AppendedBack back' sent back'' →
-        RelayRanTo order job from v how links links' sent held held back back''
-    to_none how links links' sent held back back' back'' outer same is entry =
-        let r = dials_to order links (λ to w. apass_trace job from to v w) in
+    pub to_none : (how : ToolEnd) (links : List ToldLink) (links' : Option (List ToldLink)) (sent held : Option (List ℕ)) (back back' back'' : Option (List (List ℕ))) → is_outer how ≡ true → links' ≡ Some links → back' ≡ back →
+        {given : Option (List ℕ)} → given ≡ sent → AppendedBack back' given back'' → RelayRanTo order job from v how links links' sent held held back back''
+    to_none how links links' sent held back back' back'' outer same is alike entry =
         record {
-          sends_from = [];
-          sends_to = [];
-          output = [];
-          recorded = ended_early (on_from r) how [] [] r.from r.output outer refl refl;
-          played = ended_early (on_to r) how [] [] r.to r.output outer refl refl;
-          sink = appended_none held;
+          did = relay_idle (dials_to order links (λ to w. apass_trace job from to v w)) how outer;
           after = sent;
           link = appended_none sent;
           between = back'';
-          first = subst (λ (b : Option (List (List ℕ))). AppendedBack b sent back'') is entry;
+          first = subst (λ (b : Option (List (List ℕ))). AppendedBack b sent back'') is (subst (λ (x : Option (List ℕ)). AppendedBack back' x back'') alike entry);
           second = inl (refl, same, refl);
           early = λ memory. (refl, refl);
         }
@@ -202,19 +186,13 @@ module _ (order : Order) where
     to_over left_of sent_of far how [] between gives goes is_back first second is_links = absurd gives
     to_over left_of sent_of far how (link ∷ rest) {sent'} {after} between {back''} gives goes is_back first second is_links =
         let r = goes link.gives gives.0 in
-        let f = r.followed in
         record {
-          sends_from = f.sends_from;
-          sends_to = f.sends_to;
-          output = f.output;
-          recorded = f.recorded;
-          played = f.played;
-          sink = f.sink;
+          did = r.did;
           after = sent';
-          link = f.link_from;
+          link = r.link_from;
           between = between;
           first = subst (λ (b : Option (List (List ℕ))). AppendedBack b sent' between) is_back first;
-          second = inr (link, rest, refl, is_links ∙ gives.2, consumed_entry between back'' (sent_of far) after link.sent f.sends_to gives.1 f.link_to second);
+          second = inr (link, rest, refl, is_links ∙ gives.2, consumed_entry between back'' (sent_of far) after link.sent r.did.sends_to gives.1 r.link_to second);
           early = r.early;
         }
 
@@ -232,13 +210,15 @@ module _ (order : Order) where
         let r = goes rest b.a gives.2 b.told in
         let first = subst (λ (x : Option (List (List ℕ))). AppendedBack x r.after r.between) same r.first in
         record {
-          sends_from = setup_bytes order ++ r.sends_from;
-          sends_to = r.sends_to;
-          output = r.output;
-          recorded = ended_then (on_from after) (on_from (connects_by order sends_first_from link.gives next)) how (setup_bytes order) [] r.sends_from r.output (ap on_from b.is) r.recorded;
-          played = ended_same (on_to after) (on_to (connects_by order sends_first_from link.gives next)) how r.sends_to r.output (ap on_to b.is) r.played;
-          sink = r.sink;
-          link = inr (link, rest, r.between, refl, consumed_entry back r.between (sent_of old) r.after link.sent (setup_bytes order ++ r.sends_from) gives.1 (appended_on (sent_of old) (sent_of new) r.after (setup_bytes order) r.sends_from b.appended r.link) first, r.second);
+          did = record {
+            sends_from = setup_bytes order ++ r.did.sends_from;
+            sends_to = r.did.sends_to;
+            output = r.did.output;
+            recorded = ended_then (on_from after) (on_from (connects_by order sends_first_from link.gives next)) how (setup_bytes order) [] r.did.sends_from r.did.output (ap on_from b.is) r.did.recorded;
+            played = ended_same (on_to after) (on_to (connects_by order sends_first_from link.gives next)) how r.did.sends_to r.did.output (ap on_to b.is) r.did.played;
+            sink = r.did.sink;
+          };
+          link = inr (link, rest, r.between, refl, consumed_entry back r.between (sent_of old) r.after link.sent (setup_bytes order ++ r.did.sends_from) gives.1 (appended_on (sent_of old) (sent_of new) r.after (setup_bytes order) r.did.sends_from b.appended r.link) first, r.second);
           early = λ memory. (let e = r.early memory in (inr (ap (λ (l : List ℕ). setup_bytes order ++ l) e.0 ∙ append-nil (setup_bytes order)), e.1));
         }
 
@@ -248,12 +228,7 @@ module _ (order : Order) where
         (how ≡ end.OutOfMemory → (sends ≡ []) ⊎ (sends ≡ setup_bytes order)) → JobRan (relay from to order job) bytes how links links'' held held back back''
     ran_first left_of sent_of far how [] after sends gives recorded played appended is_back entry is_links early = absurd gives
     ran_first left_of sent_of far how (link ∷ rest) after {held} {back} {back''} sends gives recorded played appended is_back entry is_links early = record {
-      sends_from = sends;
-      sends_to = [];
-      output = [];
-      recorded = recorded;
-      played = played;
-      sink = appended_none held;
+      did = record { sends_from = sends; sends_to = []; output = []; recorded = recorded; played = played; sink = appended_none held };
       link = inr (link, rest, back'', refl, consumed_entry back back'' (sent_of far) after link.sent sends gives.1 appended (subst (λ (b : Option (List (List ℕ))). AppendedBack b after back'') is_back entry), inl (refl, is_links ∙ gives.2, refl));
       early = λ memory. (early memory, refl);
     }

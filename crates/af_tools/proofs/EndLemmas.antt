@@ -18,25 +18,6 @@ of_err {T} how other bad = cc bad
 pub never : (is_one : ToolEnd → Bool) (how other : ToolEnd) → is_one how ≡ true → is_one other ≡ false → how ≡ other → ⊥
 never is_one how other is none same = let bad : false ≡ true = sym none ∙ ap is_one (sym same) ∙ is in cc
 
--- what was done of all, where nothing is left
-all_done : (whole part rest : List ℕ) → whole ≡ part ++ rest → rest ≡ [] → part ≡ whole
-all_done whole part rest is none = sym (append-nil part) ∙ ap (λ (l : List ℕ). part ++ l) (sym none) ∙ sym is
-
--- a tool that is done has sent and written all of its trace
-pub record IsWhole (trace : Trace) (sends output : List ℕ) : Type 0 where
-  pub finish : trace.finish ≡ done
-  pub sent : sends ≡ trace.sends
-  pub wrote : output ≡ trace.output
-
-pub is_whole : {trace : Trace} {how : ToolEnd} {sends output : List ℕ} → MatchesTrace trace how sends output → how ≡ end.Done → IsWhole trace sends output
-is_whole {trace} {how} {sends} {output} e way =
-    let whole = e.whole (ap is_outer way) in
-    record {
-      finish = finish_done trace.finish (sym whole.0 ∙ way);
-      sent = all_done trace.sends sends e.unsent e.sent whole.1;
-      wrote = all_done trace.output output e.unwritten e.wrote whole.2;
-    }
-
 -- an end for an unfit device or source is not from outside
 unfit_inner : (finish : Finish) → is_unfit finish ≡ true → is_outer (tool_end finish) ≡ false
 unfit_inner (no_device devices) is = refl

@@ -25,11 +25,11 @@ use Rattle.af_toolkit.specs.declared.end.ToolEnd.{ToolEnd}
 use Rattle.af_toolkit.specs.declared.end.ToolEnd.TheVariants as end
 use Rattle.af_toolkit.specs.Trace.{Trace, ClientState, after_reply, answer_on, after_answer, asks, done, ends, next_message, writes_first}
 use Rattle.af_toolkit.specs.Ends.{ObservedTrace}
-use Rattle.af_tools.proofs.EndLemmas.{is_whole}
 use Rattle.af_tools.specs.declared.record.RecordedSound.{RecordedSound}
 use Rattle.af_tools.specs.Record.{as_filed, as_raw, coding_in, front_of_recording, pad_after, recorded_sound, recorded_type, IsFiledAs, arecord_trace, block_lengths, ends_row, peak, record_context, recorded_frame, records_on, records, records_all, writes_recording, IsRecorded}
 use Rattle.af_tools.specs.Sounds.{AreWhole}
 use Rattle.af_tools.proofs.PlayedBlockLemmas.{on_device_done}
+use Rattle.af_toolkit.proofs.ToolEndLemmas.{is_whole}
 use Rattle.af_tools.proofs.RecordBlockLemmas.{whole_frames}
 
 -- A trace that writes a file, beside one that writes its samples raw, when n bytes of these were written before. They send the

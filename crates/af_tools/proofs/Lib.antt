@@ -1,5 +1,3 @@
-pub mod PartStepLemmas
-pub mod SetupTraceLemmas
 pub mod EndLemmas
 pub mod PlayBlockLemmas
 pub mod PlayStepLemmas

@@ -35,10 +35,10 @@ use Rattle.af_relay.specs.Relayed.{IsRelayed}
 use Rattle.af_standing.specs.List.{HasLines}
 use Rattle.af_standing.proofs.ListLemmas.{list_ran}
 use Rattle.af_cli.specs.Words.{Job, one, relay}
-use Rattle.af_toolkit.proofs.ToolEndLemmas.{reply_of}
-use Rattle.af_tools.proofs.EndLemmas.{ends_if_unfit, is_whole}
+use Rattle.af_toolkit.proofs.ToolEndLemmas.{answered_done, is_whole, reply_of}
+use Rattle.af_tools.proofs.EndLemmas.{ends_if_unfit}
 use Rattle.af_relay.proofs.RelayedLemmas.{answered_from, answered_to, trace_relayed}
-use Rattle.af_tools.proofs.PlayedBlockLemmas.{answered_done, is_played}
+use Rattle.af_tools.proofs.PlayedBlockLemmas.{is_played}
 use Rattle.af_tools.proofs.FiledLemmas.{is_recorded}
 use Rattle.af_tools.proofs.DialLemmas.{served_done}
 
@@ -120,8 +120,8 @@ module _ (order : Order) where
     -- a relay that is done has passed all blocks
     ran_relayed : {from to : Text} (job : PassJob) → JobRan (relay from to order job) bytes how links links' held held' back back' → IsPaced job → RelayRan order job links links' held held' back back'
     ran_relayed job r paced =
-        let recorded = is_whole r.recorded way in
-        let played = is_whole r.played way in
+        let recorded = is_whole r.did.recorded way in
+        let played = is_whole r.did.played way in
         let b = after_both job links held held' paced recorded.finish in
         let output = recorded.wrote ∙ ap (λ (x : RelayTrace). x.output) b.whole in
         record {
@@ -131,7 +131,7 @@ module _ (order : Order) where
           to_is_next = b.after.links_are;
           sends_from = b.after.part.from;
           sends_to = b.after.part.to;
-          relayed = b.after.relayed (subst (λ (l : List ℕ). Appended held l held') output r.sink);
+          relayed = b.after.relayed (subst (λ (l : List ℕ). Appended held l held') output r.did.sink);
           link = rw (recorded.sent ∙ ap (λ (x : RelayTrace). x.from) b.whole, played.sent ∙ ap (λ (x : RelayTrace). x.to) b.whole) at r.link;
         }
 
@@ -139,15 +139,15 @@ module _ (order : Order) where
     one_done : {server : Text} (t : Task) → JobRan (one server order t) bytes how links links' held held' back back' →
         UsedServer order links links' back back' (λ devices w sends. ObservedTrace (task_trace t devices bytes w) how (Some []) (Some sends) held held')
     one_done t r =
-        let recorded = is_whole r.recorded way in
+        let recorded = is_whole r.did.recorded way in
         let b = after_dial_setup t bytes links recorded.finish in
         let inner = task_trace t b.server.devices bytes (client_after_setup order b.server.link.gives) in
         let output = recorded.wrote ∙ ap (λ (x : Trace). x.output) b.whole in
         record {
           server = b.server;
           sends = inner.sends;
-          used = followed_whole inner how held held' way (ap (λ (x : Trace). x.finish) (sym b.whole) ∙ recorded.finish) (subst (λ (l : List ℕ). Appended held l held') output r.sink);
-          link = rw (recorded.sent ∙ ap (λ (x : Trace). x.sends) b.whole, (is_whole r.played way).sent) at r.link;
+          used = followed_whole inner how held held' way (ap (λ (x : Trace). x.finish) (sym b.whole) ∙ recorded.finish) (subst (λ (l : List ℕ). Appended held l held') output r.did.sink);
+          link = rw (recorded.sent ∙ ap (λ (x : Trace). x.sends) b.whole, (is_whole r.did.played way).sent) at r.link;
         }
 
     -- aplay: what it has played is heard as it was intended
@@ -181,11 +181,11 @@ did j bytes how links links' held held' back back' r ranged short =
     let ran : (k : Job) → j ≡ k → JobRan k bytes how links links' held held' back back' = λ k same. subst (λ (x : Job). JobRan x bytes how links links' held held' back back') same r in
     record {
       ran = r;
-      reply = reply_of _ _ _ _ r.recorded;
-      unfit = ends_if_unfit r.recorded;
+      reply = reply_of _ _ _ _ r.did.recorded;
+      unfit = ends_if_unfit r.did.recorded;
       heard = λ server order play same way. (let range = subst IsInRange same (ranged way) in ran_played order way play (ran (one server order (task.Play play)) same) range.0);
       recorded = λ server order recording same way. ran_recorded order way recording (ran (one server order (task.Record recording)) same);
       listed = λ server order same way. ran_listed order way (ran (one server order task.List) same);
       relayed = λ from to order pass same way. ran_relayed order way pass (ran (relay from to order pass) same) (subst IsInRange same (ranged way));
-      complete = λ few served. served_done _ how _ _ r.recorded (short few) served;
+      complete = λ few served. served_done _ how _ _ r.did.recorded (short few) served;
     }

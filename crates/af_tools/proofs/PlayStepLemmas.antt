@@ -1,5 +1,5 @@
 -- The steps of playing a source: a block is read and played, or the tool ends.
-use Rattle.std.proofs.Common.{◌≡◌, ◌⊎◌, ℕ, zero, suc, ◌+◌, ◌-◌, ◌*◌, ◌/◌, ◌<◌, ◌≤◌, false, List, [], ◌++◌, length, take, sym, ap, ap₂, ◌∙◌, refl, subst, arith, append-nil, length-take-le, IsSome, inl, inr, Ok, Err, Option, None, Some}
+use Rattle.std.proofs.Common.{◌≡◌, ◌⊎◌, ℕ, zero, suc, ◌+◌, ◌-◌, ◌*◌, ◌/◌, ◌<◌, ◌≤◌, false, List, [], ◌++◌, length, take, sym, ap, ap₂, ◌∙◌, refl, subst, arith, append-nil, length-take-le, IsSome, inl, inr, Result, Ok, Err, Option, None, Some}
 use Rattle.std.proofs.lemmas.Option.{same_Some}
 use Rattle.std.proofs.lemmas.List.{take-take}
 use Rattle.std.proofs.Math.Seq.{take-append-add}
@@ -21,8 +21,7 @@ use Rattle.af_tools.specs.Play.{block_time, blocks, frames_in, plays, plays_soun
 use Rattle.af_tools.specs.Reading.{fill_end, ConsumedAbove, FillsBlock, IsFirstBlock}
 use Rattle.af_toolkit.specs.Ends.{ObservedPart, TracePart}
 use Rattle.af_io.proofs.ConsumedLemmas.{consumed_known, consumed_told}
-use Rattle.af_toolkit.proofs.PartProgressLemmas.{goes_at_once, goes_early, Reaches, reaches_none, reaches_on}
-use Rattle.af_tools.proofs.PartStepLemmas.{part_is_done, part_reaches, part_stops, reaches_as}
+use Rattle.af_toolkit.proofs.TracePartLemmas.{Reaches, part_cut, part_ends, part_is_done, part_reaches, part_stops, reaches_as, reaches_none, reaches_on}
 use Rattle.af_tools.proofs.PlayBlockLemmas.{plays_beyond, plays_next, plays_over}
 use Rattle.af_tools.proofs.SourceCountLemmas.{spent_none, whole_of}
 use Rattle.af_tools.proofs.SourceFrameLemmas.{BlockFits, block_short}
@@ -90,7 +89,7 @@ module _ {part : TracePart ℕ} {coding : Option Coding} {width start size frame
       let part_fits = fits_room of size (length above.bytes) above.within in
       let fits = part_fits.0 in
       part_reaches p.reaches
-      (goes_at_once _ too_long end.TooLong told' wire' sent' held (λ next. plays_beyond coding width start frames given (wire p.input) next size (stated_part of p.rest) above.bytes
+      (part_ends too_long (λ next. plays_beyond coding width start frames given (wire p.input) next size (stated_part of p.rest) above.bytes
       (stated_part (stated_after of (length above.bytes)) k.0) some (ap (stated_part of) k.2 ∙ part_front of above.bytes k.0 part_fits.1) fits (omega arith) (omega arith)) refl)
 
   -- nothing is left of the sound
@@ -124,13 +123,12 @@ pub play_begin : (sound : SourceSound) (block start width : ℕ) (bytes input : 
     IsPlaying (plays_sound sound block start bytes (wire input)) sound.coding width start (block * width) 0 given sound.length left told wire sent sent held
 unfolding plays_sound
 play_begin sound block start width bytes input left told wire sent held same_head same is_left is_told =
-    let whole : TracePart ℕ = plays_sound sound block start bytes (wire input) in
     record {
       rest = bytes;
       input = input;
       is_left = is_left;
       is_told = is_told;
-      reaches = rw (← same_head, same) (reaches_none whole sent held);
+      reaches = rw (← same_head, same) reaches_none;
     }
 
 module _ {part : TracePart ℕ} {coding : Option Coding} {width start size frames given n : ℕ} {of : Option ℕ} {room : List ℕ} {left told : Option (List ℕ)} {wire : List ℕ → ClientState} {sent sent' held : Option (List ℕ)}
@@ -161,14 +159,14 @@ module _ {part : TracePart ℕ} {coding : Option Coding} {width start size frame
         ∙ ap₂ (λ (k m : ℕ). asks (play_run false 1 at (as_served coding (take (n / width * width) room))) as_time (wire f.input) (λ _ v. plays coding width start (frames + k) (given + m) (blocks size (stated_part (stated_after of n) f.after)) v next)) count full
 
     module _ {told' : Option (List ℕ)} {wire' : List ℕ → ClientState} {sent'' : Option (List ℕ)} where
-      pub play_refused : {how : ToolEnd} → ((input : List ℕ) → told ≡ Some input → ObservedPart {X = DevTime} (asks (play_run false 1 at (as_served coding (take (n / width * width) room))) as_time (wire input)) (Err how) told' wire' sent' sent'' held held) →
-          ObservedPart {X = ℕ} part (Err how) told' wire' sent sent'' held held
-      play_refused goes = part_reaches (reaches_as f.reaches asked_next) (part_stops (goes f.input f.is_told))
+      pub play_refused : {how : ToolEnd} {result : Result ℕ ToolEnd} → result ≡ Err how → ((input : List ℕ) → told ≡ Some input → ObservedPart {X = DevTime} (asks (play_run false 1 at (as_served coding (take (n / width * width) room))) as_time (wire input)) (Err how) told' wire' sent' sent'' held held) →
+          ObservedPart part result told' wire' sent sent'' held held
+      play_refused same goes = part_reaches (reaches_as f.reaches asked_next) (part_stops same (goes f.input f.is_told))
 
       module _ {now : DevTime} (goes : (input : List ℕ) → told ≡ Some input → ObservedPart (asks (play_run false 1 at (as_served coding (take (n / width * width) room))) as_time (wire input)) (Ok now) told' wire' sent' sent'' held held) where
         play_on : {given' : ℕ} {of' : Option ℕ} → given + n ≡ given' → of' ≡ stated_after of n → IsPlaying part coding width start size (frames + n / width) given' of' left told' wire' sent sent'' held
         play_on {given'} {of'} count same =
-            let k = reaches_on _ _ _ (λ _ v. plays coding width start (frames + n / width) (given + n) (blocks size (stated_part (stated_after of n) f.after)) v) now told' wire' sent sent' sent'' held held held f.reaches asked_next (goes f.input f.is_told) in
+            let k = reaches_on (λ _ v. plays coding width start (frames + n / width) (given + n) (blocks size (stated_part (stated_after of n) f.after)) v) f.reaches asked_next (goes f.input f.is_told) in
             record {
               rest = f.after;
               input = k.0;
@@ -191,7 +189,7 @@ module _ {part : TracePart ℕ} {coding : Option Coding} {width start size frame
         -- the next one is not had
         pub play_unfilled : {allowed : ℕ} {of' : Option ℕ} {room' : List ℕ} {left' : Option (List ℕ)} (fault : FillFault) → of' ≡ stated_after of n → FillsBlock (length room') allowed of' (Err fault) room' left left' → length room' ≡ size → IsSome left' → allowed + (given + n) ≡ most_bytes →
             ObservedPart {X = ℕ} part (Err (fill_end fault)) told' wire' sent sent'' held held
-        play_unfilled fill.ReadFault same block sized tells limit = part_reaches (play_on refl refl).reaches (goes_early _ end.ReadFault _ _ _ _ refl)
+        play_unfilled fill.ReadFault same block sized tells limit = part_reaches (play_on refl refl).reaches (part_cut end.ReadFault refl)
         play_unfilled {allowed} {of'} {left'} fill.TooLong same block sized tells limit =
             play_too_long (play_on refl same) allowed left' fits.some limit (subst (λ (k : ℕ). ConsumedAbove allowed (stated_room of' k) left left') sized (block.long refl)) tells
 

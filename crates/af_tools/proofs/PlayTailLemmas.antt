@@ -11,7 +11,7 @@ use Rattle.af_toolkit.specs.declared.end.ToolEnd.TheVariants as end
 use Rattle.af_toolkit.specs.Trace.{ClientState, asks}
 use Rattle.af_toolkit.specs.Ends.{ObservedPart, TracePart}
 use Rattle.af_io.proofs.ConsumedLemmas.{consumed_known, consumed_none, consumed_told}
-use Rattle.af_toolkit.proofs.PartProgressLemmas.{goes_early}
+use Rattle.af_toolkit.proofs.TracePartLemmas.{part_cut}
 use Rattle.af_tools.specs.declared.fill.FillFault.{FillFault}
 use Rattle.af_tools.specs.declared.fill.FillFault.TheVariants as fill
 use Rattle.af_tools.specs.declared.player.Played.{Played}
@@ -39,7 +39,7 @@ tail_named sound w same blocks starts g = rw (same, ← blocks, ← starts) g
 pub first_unfilled : (sound : SourceSound) {block : ℕ} (start : ℕ) {bytes room : List ℕ} (w : ClientState) {gives gives' left : Option (List ℕ)} {wire : List ℕ → ClientState} {s h : Option (List ℕ)} (fault : FillFault) → IsBlock sound.ty sound.channels block → sound.head ≤ most_bytes → gives ≡ Some bytes →
     FillsBlock (block_bytes sound block) (most_bytes - sound.head) sound.length (Err fault) room gives gives' → IsSome gives' → ObservedPart {X = ℕ} (plays_sound sound block start bytes w) (Err (fill_end fault)) left wire s s h h
 unfolding plays_sound
-first_unfilled sound start w fill.ReadFault b low is unfilled tells = goes_early _ end.ReadFault _ _ _ _ refl
+first_unfilled sound start w fill.ReadFault b low is unfilled tells = part_cut end.ReadFault refl
 first_unfilled sound {block} start {bytes} w {gives} {gives'} {s} {h} fill.TooLong b low is unfilled tells =
     let width = source_width sound.coding sound.ty sound.channels in
     let some = some_size_of sound.coding sound.ty sound.channels block width b.count b.some refl in

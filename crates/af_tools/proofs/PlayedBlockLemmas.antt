@@ -18,7 +18,6 @@ use Rattle.af_lib.specs.Calls.{as_done, as_time}
 use Rattle.af_toolkit.specs.declared.end.ToolEnd.{ToolEnd}
 use Rattle.af_toolkit.specs.declared.end.ToolEnd.TheVariants as end
 use Rattle.af_cli.specs.declared.job.PlayJob.{PlayJob}
-use Rattle.af_tools.proofs.EndLemmas.{is_whole}
 use Rattle.af_toolkit.specs.Trace.{Trace, ClientState, answer_on, after_answer, asks, after_reply, done, ends, on_device, sends_first, too_long, writes_first}
 use Rattle.af_sound.specs.declared.head.Coding.{Coding}
 use Rattle.af_sound.specs.declared.head.SoundForm.{SoundForm}
@@ -29,19 +28,8 @@ use Rattle.af_toolkit.specs.Ends.{ObservedTrace}
 use Rattle.af_tools.proofs.PlayBlockLemmas.{plays_block, plays_last, plays_long, plays_none}
 use Rattle.af_tools.proofs.SentBlockLemmas.{frames_sent, sent_first, sent_last, sent_more, sent_no_more, frames_converted, sent_converted, sent_served, served_block}
 use Rattle.af_tools.proofs.HeardAsIntendedLemmas.{heard_as_intended}
+use Rattle.af_toolkit.proofs.ToolEndLemmas.{answered_done, asks_done, is_whole}
 use Rattle.af_tools.proofs.SoundFitLemmas.{sound_cases, SoundRead, SoundRefused}
-
--- a trace that is done went on after an answer
-pub answered_done : {X : Type 0} (r : Result X ConnFault) (w : ClientState) (next : X → ClientState → Trace) → (after_answer r w next).finish ≡ done → (x : X) × (r ≡ Ok x) × (after_answer r w next ≡ next x w)
-answered_done (Ok x) w next is = (x, refl, refl)
-answered_done (Err fault) w next is = absurd (cc)
-
-pub asks_done : {X : Type 0} (asked : Asked) (value_of : Answer → Option X) (w : ClientState) (next : X → ClientState → Trace) → (asks asked value_of w next).finish ≡ done →
-    (x : X) × (answer_on asked value_of w ≡ Ok x) × (asks asked value_of w next ≡ sends_first (request_bytes w.order asked) (next x (after_reply w))) × ((next x (after_reply w)).finish ≡ done)
-unfolding asks
-asks_done asked value_of w next is =
-    let r = answered_done (answer_on asked value_of w) (after_reply w) next is in
-    (r.0, r.1, ap (sends_first (request_bytes w.order asked)) r.2, ap (λ (c : Trace). c.finish) (sym r.2) ∙ is)
 
 sending_twice : (a b : List ℕ) (c : Trace) → sends_first a (sends_first b c) ≡ sends_first (a ++ b) c
 sending_twice a b c = ap (λ (s : List ℕ). (let d : Trace = record { sends = s; output = c.output; finish = c.finish } in d)) (sym (append_assoc a b c.sends))

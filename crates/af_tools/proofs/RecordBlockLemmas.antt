@@ -22,8 +22,7 @@ use Rattle.af_cli.proofs.FrameSizeLemmas.{frame_size, some_frames}
 use Rattle.af_tools.specs.declared.record.RecordedSound.{RecordedSound}
 use Rattle.af_tools.specs.Record.{IsFiledAs, block_lengths, ends_row, greatest_of, peak, recorded_frame, records, records_all, row_below, takes_block}
 use Rattle.af_tools.specs.Sounds.{AreWhole}
-use Rattle.af_toolkit.proofs.PartProgressLemmas.{Reaches, reaches_none, reaches_on}
-use Rattle.af_tools.proofs.PartStepLemmas.{part_is_done, part_reaches, part_stops, reaches_as}
+use Rattle.af_toolkit.proofs.TracePartLemmas.{Reaches, part_is_done, part_reaches, part_stops, reaches_as, reaches_none, reaches_on}
 use Rattle.af_time.specs.declared.DevTime.{DevTime}
 use Rattle.af_request.specs.Asked.{Asked}
 
@@ -118,15 +117,15 @@ module _ {part : TracePart ℕ} {job : RecordJob} {sound : RecordedSound} {block
 
     module _ {told' : Option (List ℕ)} {wire' : List ℕ → ClientState} {sent'' held'' : Option (List ℕ)} where
       -- the tool ended within the block
-      pub record_stopped : {how : ToolEnd} → ((input : List ℕ) → told ≡ Some input → ObservedPart {X = ℕ} (takes_block sound at size (wire input)) (Err how) told' wire' sent' sent'' held' held'') → ObservedPart {X = ℕ} part (Err how) told' wire' sent sent'' held held''
-      record_stopped goes = part_reaches (reaches_as r.reaches next_block) (part_stops {second = after_one_block} (goes r.input r.is_told))
+      pub record_stopped : {how : ToolEnd} {result : Result ℕ ToolEnd} → result ≡ Err how → ((input : List ℕ) → told ≡ Some input → ObservedPart {X = ℕ} (takes_block sound at size (wire input)) (Err how) told' wire' sent' sent'' held' held'') → ObservedPart part result told' wire' sent sent'' held held''
+      record_stopped same goes = part_reaches (reaches_as r.reaches next_block) (part_stops {second = after_one_block} same (goes r.input r.is_told))
 
       module _ {p : ℕ} (goes : (input : List ℕ) → told ≡ Some input → ObservedPart (takes_block sound at size (wire input)) (Ok p) told' wire' sent' sent'' held' held'') {row' : ℕ} (is_row : row' ≡ (if nat_lt p job.stop_peak then row + 1 else 0)) where
         row_grown : row' ≡ row_below job.stop_peak (p ∷ r.peaks)
         row_grown = is_row ∙ ap (λ (k : ℕ). if nat_lt p job.stop_peak then k else 0) (ap (λ (k : ℕ). k + 1) r.is_row ∙ (let e : row_below job.stop_peak r.peaks + 1 ≡ suc (row_below job.stop_peak r.peaks) = omega arith in e))
 
         reached : (input : List ℕ) × (told' ≡ Some input) × Reaches part (after_one_block p (wire' input)) sent sent'' held held''
-        reached = reaches_on _ _ _ after_one_block _ _ _ _ _ _ _ _ _ r.reaches next_block (goes r.input r.is_told)
+        reached = reaches_on after_one_block r.reaches next_block (goes r.input r.is_told)
 
         decided : {b : Bool} → ends_row job (p ∷ r.peaks) ≡ b → Reaches part (after_block job sound block at n r.before (frames - n) r.peaks b p (wire' reached.0)) sent sent'' held held''
         decided is = subst (λ (b : Bool). Reaches part (after_block job sound block at n r.before (frames - n) r.peaks b p (wire' reached.0)) sent sent'' held held'') is reached.2
@@ -163,7 +162,7 @@ record_begin job sound start input wire {sent} {held} same is_told = record {
   is_told = is_told;
   is_row = refl;
   is_before = omega arith;
-  reaches = rw same (reaches_none (records_all job sound start (wire input)) sent held);
+  reaches = rw same reaches_none;
 }
 
 -- a block has a frame

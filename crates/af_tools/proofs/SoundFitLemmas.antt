@@ -14,10 +14,8 @@ use Rattle.af_cli.specs.declared.job.PlayJob.{PlayJob}
 use Rattle.af_toolkit.specs.declared.end.ToolEnd.{ToolEnd}
 use Rattle.af_toolkit.specs.Trace.{Trace, Finish, bad_sound, channel_mismatch, done, ends, mismatch, sound_cut, tool_end, too_long}
 use Rattle.af_toolkit.specs.Ends.{ObservedTrace}
-use Rattle.af_io.proofs.AppendedLemmas.{appended_none}
-use Rattle.af_toolkit.proofs.TracePartLemmas.{ended_at_once}
+use Rattle.af_toolkit.proofs.TracePartLemmas.{followed_end, followed_early}
 use Rattle.af_tools.specs.declared.sound.SourceSound.{SourceSound}
-use Rattle.af_toolkit.proofs.FollowedLemmas.{followed_early}
 use Rattle.af_tools.proofs.DeviceChoiceLemmas.{followed_same}
 use Rattle.af_tools.specs.Sounds.{most_bytes, after_header, as_served, at_one_shape, file_sound, raw_sound, reads_front, reads_sound, stated_part, GivesSamples, IsServedAs}
 use Rattle.af_tools.specs.Reading.{ends_shape, SoundCame}
@@ -120,11 +118,5 @@ sound_cases (Some form) job device bytes = by (front_of form bytes).says (front_
 -- a tool that ends for its source, before anything was sent
 pub followed_unsound : (job : PlayJob) (device : DeviceInfo) (bytes : List ℕ) (next : SourceSound → List ℕ → Trace) (how : ToolEnd) (s h : Option (List ℕ)) (left : Option (List ℕ)) → SoundCame job device bytes (Err how) left →
     ObservedTrace (reads_sound job.form job device bytes next) how s s h h
-followed_unsound job device bytes next how s h left (inl outer) = followed_early (reads_sound job.form job device bytes next) how s h outer
-followed_unsound job device bytes next how s h left (inr f) = followed_same (ends f.0) (reads_sound job.form job device bytes next) how s s h h (f.2 next) (record {
-  sends = [];
-  output = [];
-  ended = ended_at_once (ends f.0) how [] [] refl refl f.1;
-  link = appended_none s;
-  sink = appended_none h;
-})
+followed_unsound job device bytes next how s h left (inl outer) = followed_early (reads_sound job.form job device bytes next) how outer
+followed_unsound job device bytes next how s h left (inr f) = followed_same (ends f.0) (reads_sound job.form job device bytes next) how s s h h (f.2 next) (followed_end f.0 f.1)

@@ -13,7 +13,7 @@ use Rattle.af_tools.specs.Reading.{fill_end, left_before, ConsumedHead, Consumed
 use Rattle.af_io.proofs.ConsumedLemmas.{consumed_none, consumed_on}
 use Rattle.af_tools.proofs.EndLemmas.{err_of, of_err, never}
 use Rattle.af_tools.proofs.PlayBlockLemmas.{ConsumedAll}
-use Rattle.af_toolkit.specs.Ends.{is_of_report}
+use Rattle.af_toolkit.specs.Ends.{is_of_link, is_of_report}
 use Rattle.af_tools.specs.Results.{is_of_blocks}
 
 -- what was given so far, and a block more
@@ -42,7 +42,7 @@ module _ {X : Type 0} {len : Option ℕ} {most : ℕ} where
   takes_first {n} {block} {a} {b} {c} h t = record { bytes = t.bytes; consumed = consumed_first a b c (take n block) t.bytes h.consumed t.consumed; spent = t.spent; long = t.long; within = t.within }
 
   -- a part that is done, or ends for another cause than the size of the source
-  pub takes_all : {x : X} {n : ℕ} {a b : Option (List ℕ)} → ConsumedAll n a b → n ≤ most → IsSpent b ⊎ (len ≡ Some n) → TakesSound len most (Ok x) a b
+  takes_all : {x : X} {n : ℕ} {a b : Option (List ℕ)} → ConsumedAll n a b → n ≤ most → IsSpent b ⊎ (len ≡ Some n) → TakesSound len most (Ok x) a b
   takes_all {n} {b} given few spent = record {
     bytes = given.bytes;
     consumed = given.consumed;
@@ -51,31 +51,34 @@ module _ {X : Type 0} {len : Option ℕ} {most : ℕ} where
     within = λ _. subst (λ (k : ℕ). k ≤ most) (sym given.all) few;
   }
 
-  pub takes_some : {how : ToolEnd} {a b : Option (List ℕ)} → ConsumedWithin most a b → (how ≡ end.TooLong → ⊥) → TakesSound {X = X} len most (Err how) a b
-  takes_some given other = record { bytes = given.text; consumed = given.consumed; spent = tt; long = λ bad. absurd (other (cc bad)); within = λ _. given.within }
+  pub takes_some : {how : ToolEnd} {result : Result X ToolEnd} {a b : Option (List ℕ)} → result ≡ Err how → ConsumedWithin most a b → (how ≡ end.TooLong → ⊥) → TakesSound len most result a b
+  takes_some same given other = rw same (record { bytes = given.text; consumed = given.consumed; spent = tt; long = λ bad. absurd (other (cc bad)); within = λ _. given.within })
+
+  pub takes_link : {how : ToolEnd} {result : Result X ToolEnd} {a b : Option (List ℕ)} → result ≡ Err how → ConsumedWithin most a b → is_of_link how ≡ true → TakesSound len most result a b
+  takes_link {how} same given is = takes_some same given (never is_of_link how end.TooLong is refl)
 
   -- one that ends as reading a block does, after so many bytes
-  pub takes_fault : {n room allowed : ℕ} {left : Option ℕ} {bytes : List ℕ} {a b c : Option (List ℕ)} (fault : FillFault) → ConsumedAll n a b → FillsBlock room allowed left (Err fault) bytes b c → n + allowed ≡ most → TakesSound {X = X} len most (Err (fill_end fault)) a c
-  takes_fault {a} {b} {c} fill.ReadFault given block limit =
+  pub takes_fault : {n room allowed : ℕ} {left : Option ℕ} {bytes : List ℕ} {result : Result X ToolEnd} {a b c : Option (List ℕ)} (fault : FillFault) → result ≡ Err (fill_end fault) → ConsumedAll n a b → FillsBlock room allowed left (Err fault) bytes b c → n + allowed ≡ most → TakesSound len most result a c
+  takes_fault {a} {b} {c} fill.ReadFault same given block limit =
       let more = block.cut refl in
       let all = given.all in
       let within = more.within in
-      takes_some (record { text = given.bytes ++ more.text; consumed = consumed_on a b c given.bytes more.text given.consumed more.consumed; within = omega (arith, length-append given.bytes more.text) }) (λ e. cc e)
-  takes_fault {a} {b} {c} fill.TooLong given block limit =
+      takes_some same (record { text = given.bytes ++ more.text; consumed = consumed_on a b c given.bytes more.text given.consumed more.consumed; within = omega (arith, length-append given.bytes more.text) }) (λ e. cc e)
+  takes_fault {a} {b} {c} fill.TooLong same given block limit =
       let more = block.long refl in
       let all = given.all in
       let beyond = more.beyond in
-      record {
+      rw same (record {
         bytes = given.bytes ++ more.bytes;
         consumed = consumed_on a b c given.bytes more.bytes given.consumed more.consumed;
         spent = tt;
         long = λ _. omega (arith, length-append given.bytes more.bytes);
         within = λ other. absurd (other refl);
-      }
+      })
 
   -- the same end, or another value
-  pub takes_end : {Y : Type 0} {how : ToolEnd} {a b : Option (List ℕ)} → TakesSound {X = Y} len most (Err how) a b → TakesSound {X = X} len most (Err how) a b
-  takes_end {Y} {how} t = record { bytes = t.bytes; consumed = t.consumed; spent = tt; long = λ bad. t.long (err_of how end.TooLong (of_err how end.TooLong bad)); within = λ other. t.within (λ bad. other (err_of how end.TooLong (of_err how end.TooLong bad))) }
+  pub takes_end : {Y : Type 0} {how : ToolEnd} {result : Result X ToolEnd} {a b : Option (List ℕ)} → result ≡ Err how → TakesSound {X = Y} len most (Err how) a b → TakesSound len most result a b
+  takes_end {Y} {how} same t = rw same (record { bytes = t.bytes; consumed = t.consumed; spent = tt; long = λ bad. t.long (err_of how end.TooLong (of_err how end.TooLong bad)); within = λ other. t.within (λ bad. other (err_of how end.TooLong (of_err how end.TooLong bad))) })
 
   pub takes_value : {Y : Type 0} {y : Y} {x : X} {a b : Option (List ℕ)} → TakesSound len most (Ok y) a b → TakesSound len most (Ok x) a b
   takes_value t = record { bytes = t.bytes; consumed = t.consumed; spent = t.spent; long = λ bad. cc bad; within = λ _. t.within (λ bad. cc bad) }
@@ -125,13 +128,16 @@ rest_on of left after given n is then = then ∙ ap (λ (l : Option ℕ). stated
   twice (Some m) = ap (λ (k : ℕ). Some k) (let same : m - given - n ≡ m - (given + n) = omega arith in same)
 
 -- all that was stated was given
-pub stated_all : (of left : Option ℕ) (given : ℕ) {n : ℕ} (c : Option (List ℕ)) → left ≡ stated_after of given → FitsStated of given → IsSpent c ⊎ (left ≡ Some n) → IsSpent c ⊎ (of ≡ Some (given + n))
+stated_all : (of left : Option ℕ) (given : ℕ) {n : ℕ} (c : Option (List ℕ)) → left ≡ stated_after of given → FitsStated of given → IsSpent c ⊎ (left ≡ Some n) → IsSpent c ⊎ (of ≡ Some (given + n))
 stated_all of left given c is fits (inl spent) = inl spent
 stated_all None left given {n} c is fits (inr all) = absurd (let bad : (let o : Option ℕ = None in o) ≡ Some n = sym is ∙ all in cc)
 stated_all (Some m) left given {n} c is fits (inr all) =
     let same : Some (m - given) ≡ Some n = sym is ∙ all in
     let count : m - given ≡ n = cc in
     inr (ap (λ (k : ℕ). Some k) (let whole : m ≡ given + n = omega arith in whole))
+
+pub takes_ended : {X : Type 0} {x : X} {len left : Option ℕ} {most : ℕ} (given n : ℕ) {a b : Option (List ℕ)} → ConsumedAll (given + n) a b → given + n ≤ most → left ≡ stated_after len given → FitsStated len given → IsSpent b ⊎ (left ≡ Some n) → TakesSound len most (Ok x) a b
+takes_ended {len = len} {left = left} given n {b = b} all few is fits spent = takes_all all few (stated_all len left given b is fits spent)
 
 -- what was read of a source with the bytes before its sound
 module _ {form : Option SoundForm} {n : ℕ} {len : Option ℕ} {X : Type 0} {r : Result X ToolEnd} {a b c : Option (List ℕ)} (h : ConsumedHead form n len a b) (t : TakesSound len (most_bytes - n) r b c) where

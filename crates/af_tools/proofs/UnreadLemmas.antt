@@ -10,11 +10,10 @@ use Rattle.af_lib.specs.Calls.{ConnState, IsSetUp, as_done}
 use Rattle.af_toolkit.specs.Trace.{Trace, ClientState, asks, done, ends}
 use Rattle.af_toolkit.specs.declared.end.ToolEnd.{ToolEnd}
 use Rattle.af_toolkit.specs.Ends.{PartCompletes, client_of, ObservedPartOver}
-use Rattle.af_toolkit.proofs.TracePartLemmas.{client_begun}
+use Rattle.af_toolkit.proofs.TracePartLemmas.{client_begun, setup_known}
 use Rattle.af_cli.specs.declared.job.PlayJob.{PlayJob}
+use Rattle.af_toolkit.proofs.ToolEndLemmas.{asks_done}
 use Rattle.af_tools.specs.Reading.{DialGivesContext, GivesContext, GivesReply, LinkGivesContext}
-use Rattle.af_tools.proofs.PlayedBlockLemmas.{asks_done}
-use Rattle.af_tools.proofs.SetupTraceLemmas.{setup_known}
 
 -- if the request for a context came to its value, the context was made
 asks_replied : (context : Asked) (w w' : ClientState) (u : Unit {0}) (s o : List ℕ) → PartCompletes (asks context as_done w) u w' s o → GivesReply context w

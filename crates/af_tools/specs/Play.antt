@@ -44,8 +44,7 @@ whole_frames width block = take (frames_in width block * width) block
 abbrev pub block_time : (start sent : ℕ) → ℕ
 block_time start sent = (start + sent) % 2 ^ 32
 
--- Each block is played after those before it, as a server takes it. What follows gets how many frames there were in all. A block
--- without a whole frame is not sent. If the source has given too much, the tool ends.
+-- each block is played after those before it, as a server takes it, until one has no whole frame or the source gave too much
 unfoldable pub plays : Option Coding → (width start sent given : ℕ) → List (List ℕ) → ClientState → (ℕ → ClientState → Trace) →
     Trace
 plays coding width start sent given [] w next = next sent w
@@ -85,8 +84,7 @@ play_context job ty channels = create_ac job.device 1 (code_of ty) channels (fla
 abbrev pub played_frames : PlayJob → SampleType → (channels : ℕ) → ℕ
 played_frames job ty channels = block_frames job.block (frame_bytes ty channels)
 
--- a context is made and the device's time asked for, the blocks are played, and the context is freed; what follows gets how many
--- frames these were, and their start
+-- a context is made, the device's time asked for, the blocks played, and the context freed: how many frames, and from when on
 unfoldable pub plays_on : PlayJob → SourceSound → DeviceInfo → List ℕ → ClientState → (ℕ → ℕ → ClientState → Trace) → Trace
 plays_on job sound device bytes w next =
     begins (play_context job sound.ty sound.channels) job.device w (λ now w.
@@ -94,8 +92,7 @@ plays_on job sound device bytes w next =
     plays_sound sound (played_frames job sound.ty sound.channels) start bytes w (λ frames w.
     asks (free_ac 1) as_done w (λ _ w. next frames start w)))
 
--- the trace of aplay, by the devices of the server, the bytes of the source, and what the link gives: it reads a header, if the
--- source has one, plays all, and then writes how much, and from when on
+-- the trace of aplay: it reads a header, if the source has one, plays all, and then writes how much, and from when on
 unfoldable pub aplay_trace : PlayJob → List DeviceInfo → List ℕ → ClientState → Trace
 aplay_trace job devices bytes w = with_job_device job.device devices (λ device.
     reads_sound job.form job device bytes (λ sound rest.
@@ -128,8 +125,7 @@ pub record IsEntryOf (ty : SampleType) (gain : ℤ) (start : ℕ) (block : Block
   pub its_samples : entry.samples ≡ gained_samples ty gain block.bytes
   pub in_time : entry.at ≤ entry.start
 
--- Each block has a play in an accepted list of a device with so many channels, at a place of its own, and no play at another
--- place covers a time of the frames.
+-- Each block has a play of its own in a device's accepted list, and no other play covers a time of the frames.
 pub record AreAccepted (ty : SampleType) (channels : ℕ) (gain : ℤ) (start frames : ℕ) (sent : List Block)
     (accepted : List AcceptedPlay) : Type 0 where
   pub place : ℕ → ℕ
@@ -159,17 +155,13 @@ play_of order start block = request_bytes order (play_run false 1 ((start + bloc
 abbrev pub blocks_sent : PlayJob → SampleType → (channels : ℕ) → List ℕ → List Block
 blocks_sent job ty channels samples = sent_blocks ty channels (played_frames job ty channels) samples
 
--- what is sent for samples of a type, with so many channels: a context is made and the time asked for, each block is played, and
--- the context is freed
+-- what is sent: a context is made and the time asked for, each block of the samples is played, and the context is freed
 abbrev pub played_whole : Order → PlayJob → SampleType → (channels : ℕ) → List ℕ → ℕ → List ℕ
 played_whole order job ty channels samples start =
     request_bytes order (play_context job ty channels) ++ (request_bytes order (get_time job.device)
     ++ (flat_map (play_of order start) (blocks_sent job ty channels samples) ++ request_bytes order (free_ac 1)))
 
--- A job is done on the device with the samples that the source gives, raw or in a sound file, from a start on. The start is
--- stated, or follows the device's time, and is written after the number of whole frames. Take a device with the channels that the
--- context names, which accepts the blocks from a whole time on that is this start modulo 2^32: it plays the samples of the source
--- in each channel.
+-- A job is done: the samples of the source were played from a start on, and a device that accepts the blocks plays all of them.
 pub record IsPlayed (job : PlayJob) (devices : List DeviceInfo) (bytes : List ℕ) (w : ClientState)
     (sent sent' held held' : Option (List ℕ)) : Type 0 where
   pub device : DeviceInfo

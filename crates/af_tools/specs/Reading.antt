@@ -47,8 +47,7 @@ abbrev pub left_before : List ℕ → Option (List ℕ) → Option (List ℕ)
 left_before bytes None = None
 left_before bytes (Some rest) = Some (bytes ++ rest)
 
--- The block that was read has n bytes. These are as many as it has room for, or fewer at the end of the source, or of a sound
--- with this length left.
+-- The block that was read has n bytes: as many as it has room for, or fewer at the end of the source or of the stated sound.
 pub record IsNextBlock (room allowed : ℕ) (len : Option ℕ) (count : ℕ) (after : Option (List ℕ)) : Type 0 where
   pub within : count ≤ room
   pub permitted : count ≤ allowed
@@ -86,8 +85,7 @@ pub record ConsumedHead (form : Option SoundForm) (count : ℕ) (len : Option �
   pub within : count ≤ most_bytes
   pub is_head : HeadIs form bytes len
 
--- A part that reads a sound ended, and the source gave these bytes meanwhile. A part that is done has read the source to its end,
--- or all of the stated length. The source gave more than n bytes exactly where the part ends as too long.
+-- A part that reads a sound ended: done at the end of the sound, and too long exactly where the source gave more than n bytes.
 pub record TakesSound {X : Type 0} (len : Option ℕ) (most : ℕ) (result : Result X ToolEnd) (before after : Option (List ℕ)) :
     Type 0 where
   pub bytes : List ℕ
@@ -121,10 +119,7 @@ pub record ConsumedCut (form : Option SoundForm) (before after : Option (List �
   pub no_head : (front rest : List ℕ) (head : SoundHead) → bytes ≡ front ++ rest → IsHead of front head → ⊥
   pub no_fault : (front rest : List ℕ) (fault : SoundFault) → bytes ≡ front ++ rest → HasFault of front fault → ⊥
 
--- Only a tool that reads its source changes it, and not if memory ran out or its device does not exist. If it is done it has read
--- the source to its end, or a sound file to that of the stated length. The source gave more than a tool takes exactly if the tool
--- ends as too long. A read failed only if the count of its faults rose. A tool ends for a bad or cut sound file only after bytes
--- that show it.
+-- What a tool makes of its source: only a tool that reads one changes it, and each end for it shows in the bytes that it gave.
 pub record UsesSource {S : Type 0} (left : S → Option (List ℕ)) (faults : S → ℕ) (reads : Bool) (form : Option SoundForm)
     (how : ToolEnd) (source source' : S) : Type 0 where
   pub untouched : reads ≡ false → source' ≡ source
@@ -178,8 +173,7 @@ ends_shape head device =
     then (if head.channels == device.channels then Ok tt else Err (end.ChannelMismatch head.channels device.channels))
     else Err (end.RateMismatch head.rate device.rate)
 
--- The front of a file was read of these bytes, and what is left stands after it; or the tool ends as it does there, or for
--- something from outside.
+-- The front of a file was read, and the source stands after it; or the tool ends as it does there, or for something from outside.
 abbrev pub HeadCame : SoundForm → List ℕ → Result FileHead ToolEnd → Option (List ℕ) → Type 0
 HeadCame form bytes (Ok file) left =
     (front_of form bytes ≡ record { says = step.Head file.head; size = file.size }) × (left ≡ Some (drop file.size bytes))
@@ -197,8 +191,7 @@ SoundCame job device bytes (Err how) left =
     (is_outer how ≡ true) ⊎ ((finish : Finish) × (how ≡ tool_end finish)
     × ((next : SourceSound → List ℕ → Trace) → reads_sound job.form job device bytes next ≡ ends finish))
 
--- A part that reads what stands before a sound ended. The source gave more than aplay takes exactly where the part ends as too
--- long, and for a sound file that is bad or cut the part ends only after bytes that show it.
+-- A part that reads what stands before a sound ended, and each end for the source shows in the bytes that it gave.
 pub record TakesFront {X : Type 0} (form : Option SoundForm) (result : Result X ToolEnd) (before after : Option (List ℕ)) :
     Type 0 where
   pub bad : (fault : SoundFault) → IsErrOf result (end.BadSound fault) → ConsumedFault form fault before after

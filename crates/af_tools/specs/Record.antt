@@ -56,8 +56,7 @@ recorded_sound job device =
     let ty = recorded_type job.form (unwrap_or job.ty device.ty) in
     record { ty = ty; coding = option_map (λ form. coding_in form ty) job.form; channels = device.channels }
 
--- the length that a header states: that of all frames, each of so many bytes, if quiet cannot end the recording and a header can
--- state it
+-- the length that a header states: that of all frames, if quiet cannot end the recording and a header can state it
 abbrev pub stated_length : RecordJob → (frame : ℕ) → Option ℕ
 stated_length job frame =
     if (job.stop_peak == 0) && nat_lt (job.frames * frame) unknown_length then Some (job.frames * frame) else None
@@ -127,8 +126,7 @@ abbrev pub takes_block : RecordedSound → (at size : ℕ) → ClientState → (
 takes_block sound at size w next = asks (record_run true 1 at size) (as_recorded true size) w (λ r v.
     writes_first (as_filed sound.coding r.samples) (next (peak sound.ty r.samples) v))
 
--- Blocks of these lengths are recorded, one after another and after so many frames, and written. After a row of quiet ones no
--- more are asked for. What follows gets how many frames there were in all.
+-- blocks of these lengths are recorded and written, until a row of quiet ones: how many frames there were in all
 unfoldable pub records : RecordJob → RecordedSound → (at before : ℕ) (peaks : List ℕ) → List ℕ → ClientState →
     (ℕ → ClientState → Trace) → Trace
 records job sound at before peaks [] w next = next before w
@@ -145,8 +143,7 @@ records_all job sound start w next =
 abbrev pub record_context : RecordJob → DeviceInfo → Asked
 record_context job device = create_ac job.device 1 (code_of (recorded_sound job device).ty) device.channels 0 (pos 0) job.gain
 
--- the blocks are recorded from a start on; a file has its header written before them, and after them the byte that makes the
--- sound of a WAVE file even
+-- the blocks are recorded from a start on, between the header of a file and the byte that makes the sound of a WAVE file even
 unfoldable pub writes_recording : RecordJob → DeviceInfo → (start : ℕ) → ClientState → (Unit {0} → ClientState → Trace) → Trace
 writes_recording job device start w next =
     let sound = recorded_sound job device in
@@ -154,8 +151,7 @@ writes_recording job device start w next =
     records_all job sound start w (λ frames w.
     writes_first (pad_after job.form (frames * recorded_frame sound)) (next tt w)))
 
--- a context is made and the device's time asked for, all is recorded and written from the stated start or else from that time on,
--- and the context is freed
+-- a context is made, all is recorded from the stated start or else from the device's time on, and the context is freed
 unfoldable pub records_on : RecordJob → DeviceInfo → ClientState → (Unit {0} → ClientState → Trace) → Trace
 records_on job device w next =
     begins (record_context job device) job.device w (λ now w.
@@ -166,8 +162,7 @@ records_on job device w next =
 unfoldable pub arecord_trace : RecordJob → List DeviceInfo → ClientState → Trace
 arecord_trace job devices w = with_job_device job.device devices (λ device. records_on job device w (λ _ _. ends done))
 
--- A job is done on a device. It sent the same requests as a raw recording, and wrote that recording as a sound file, if it writes
--- one.
+-- A job is done: it sent the requests of a raw recording, and wrote that recording, as a sound file if it writes one.
 pub record IsRecorded (job : RecordJob) (devices : List DeviceInfo) (w : ClientState)
     (sent sent' held held' : Option (List ℕ)) : Type 0 where
   pub device : DeviceInfo

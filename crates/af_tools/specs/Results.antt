@@ -16,11 +16,6 @@ is_of_blocks end.ReadFault = true
 is_of_blocks end.TooLong = true
 is_of_blocks how = is_of_link how
 
--- the ends of a part that also writes
-abbrev pub is_of_records : ToolEnd → Bool
-is_of_records end.SinkFault = true
-is_of_records how = is_of_link how
-
 -- A tool may also end in ways that its link does not cause. It ends for its source only if it reads one.
 abbrev pub is_of_tool : (reads : Bool) → ToolEnd → Bool
 is_of_tool reads end.Done = true
@@ -42,9 +37,7 @@ is_of_play how = is_of_tool true how
 abbrev pub is_of_writer : ToolEnd → Bool
 is_of_writer how = is_of_tool false how
 
--- A tool ran that uses the device with this number, by what its link gives. What the link was sent, and what the sink gained, are
--- those of the trace, or prefixes of them if something from outside ended it. An end for a reply is that of the trace. If the
--- device exists and each request gets its reply it is done, unless something from outside ended it.
+-- A tool followed its trace, and ends for a reply where that does; where its device exists and all is answered, it is done.
 pub record ToolRan (trace : Trace) (device : ℕ) (devices : List DeviceInfo) (how : ToolEnd)
     (sent sent' held held' : Option (List ℕ)) : Type 0 where
   pub followed : ObservedTrace trace how sent sent' held held'
@@ -57,8 +50,7 @@ abbrev pub RunsTool : {L K : Type 0} → (left sent : L → Option (List ℕ)) �
 RunsTool left sent held trace device how conn conn' sink sink' = (input : List ℕ) → left conn.link ≡ Some input →
     ToolRan (trace (client_of conn input)) device conn.devices how (sent conn.link) (sent conn'.link) (held sink) (held sink')
 
--- a device that does not exist, a source that is no sound file, or a file or a device whose rate or channels differ from those of
--- the playing device
+-- a device that does not exist, a source that is no sound file, or two whose rates or channels differ
 abbrev pub is_unfit : Finish → Bool
 is_unfit (no_device devices) = true
 is_unfit (mismatch from to) = true
@@ -67,15 +59,13 @@ is_unfit (bad_sound fault) = true
 is_unfit sound_cut = true
 is_unfit _ = false
 
--- If a device does not exist, a source is no sound that its device plays, or a device has what another does not play, the tool
--- ends with that, unless something from outside has ended it. It ends so in no other case.
+-- A tool ends for an unfit device or source exactly where its trace does, unless something from outside has ended it.
 pub record EndsIfUnfit (trace : Trace) (how : ToolEnd) : Type 0 where
   pub only : (finish : Finish) → is_unfit finish ≡ true → how ≡ tool_end finish → trace.finish ≡ finish
   pub always : (finish : Finish) → is_unfit finish ≡ true → trace.finish ≡ finish →
       (how ≡ tool_end finish) ⊎ (is_outer how ≡ true)
 
--- aplay ran, by what its link and its source give: as above, if the source gives what the device plays, and at most what aplay
--- takes. If it is done, each block was played at its time, and is heard there on a device that accepts it in time.
+-- The same of aplay, if it gets a sound that its device plays: if it is done, each block was played at its time and is heard.
 pub record AplayRan (job : PlayJob) (devices : List DeviceInfo) (bytes : List ℕ) (w : ClientState) (how : ToolEnd)
     (sent sent' held held' : Option (List ℕ)) : Type 0 where
   pub followed : ObservedTrace (aplay_trace job devices bytes w) how sent sent' held held'

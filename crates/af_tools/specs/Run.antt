@@ -27,7 +27,6 @@ use Rattle.af_toolkit.specs.Ends.{MatchesTrace, EndsByReply, IsAnswered, is_oute
 use Rattle.af_tools.specs.Results.{is_of_tool, is_unfit, EndsIfUnfit}
 use Rattle.af_sound.specs.declared.head.SoundForm.{SoundForm}
 use Rattle.af_tools.specs.Reading.{TellsIfRead, UsesSource}
-use Rattle.af_relay.specs.RelayParts.{ObservedRelayTrace}
 
 -- the setup of an order is sent on one of the links, and what follows goes by the devices of its answer
 abbrev pub connects_by : Order → (List ℕ → RelayTrace → RelayTrace) → List ℕ → (List DeviceInfo → ClientState → RelayTrace) →
@@ -50,10 +49,21 @@ relay_trace order job (link ∷ links) =
 abbrev pub as_relay : Trace → RelayTrace
 as_relay c = record { from = c.sends; to = []; output = c.output; finish = c.finish }
 
--- A relay ended, as in `ObservedRelayTrace`, whose second link was not set up before; if memory ran out, nothing was sent.
+-- A relay ended, and sent and wrote this: all of its trace, or prefixes if something from outside ended it.
+pub record RelayDid (relay : RelayTrace) (how : ToolEnd) (held held' : Option (List ℕ)) : Type 0 where
+  pub sends_from : List ℕ
+  pub sends_to : List ℕ
+  pub output : List ℕ
+  pub recorded : MatchesTrace (on_from relay) how sends_from output
+  pub played : MatchesTrace (on_to relay) how sends_to output
+  pub sink : Appended held output held'
+
+-- The same over two links, of which the second was not set up before; if memory ran out, nothing was sent.
 pub record RelayedOver (relay : RelayTrace) (how : ToolEnd) (from from' to to' held held' : Option (List ℕ)) : Type 0 where
-  pub followed : ObservedRelayTrace relay how from from' to to' held held'
-  pub early : how ≡ end.OutOfMemory → (followed.sends_from ≡ []) × (followed.sends_to ≡ [])
+  pub did : RelayDid relay how held held'
+  pub link_from : Appended from did.sends_from from'
+  pub link_to : Appended to did.sends_to to'
+  pub early : how ≡ end.OutOfMemory → (did.sends_from ≡ []) × (did.sends_to ≡ [])
 
 -- the trace of a task on a server that was set up
 abbrev pub task_trace : Task → List DeviceInfo → List ℕ → ClientState → Trace
@@ -118,8 +128,7 @@ is_of_af (Some j) how = is_of_job j how
 is_of_af None end.OutOfMemory = true
 is_of_af None _ = false
 
--- Each link that was dialled was given back: none, and then nothing was sent; or the first, which was sent this after what it had
--- been sent before.
+-- Each dialled link was given back: none, where nothing was sent; or the first, sent this after what it had been sent before.
 abbrev pub ReturnedLink : List ToldLink → Option (List ToldLink) → List ℕ → Option (List (List ℕ)) → Option (List (List ℕ)) →
     Type 0
 ReturnedLink links links' sends back back' =
@@ -127,26 +136,19 @@ ReturnedLink links links' sends back back' =
     ⊎ ((link : ToldLink) × (rest : List ToldLink) × (links ≡ link ∷ rest) × (links' ≡ Some rest)
     × Appended back ((link.sent ++ sends) ∷ []) back')
 
--- What a relay does after the setup of its first link, which gives this and had been sent that: the second server is dialled, or
--- not, and both links are given back in the order in which they were dialled.
+-- A relay dialled its second server, or not, after the setup of its first link, and gave both links back in their order.
 pub record RelayRanTo (order : Order) (job : PassJob) (from : List DeviceInfo) (v : ClientState) (how : ToolEnd)
     (links : List ToldLink) (links' : Option (List ToldLink)) (sent held held' : Option (List ℕ))
     (back back' : Option (List (List ℕ))) : Type 0 where
-  pub sends_from : List ℕ
-  pub sends_to : List ℕ
-  pub output : List ℕ
-  pub recorded : MatchesTrace (on_from (dials_to order links (λ to w. apass_trace job from to v w))) how sends_from output
-  pub played : MatchesTrace (on_to (dials_to order links (λ to w. apass_trace job from to v w))) how sends_to output
-  pub sink : Appended held output held'
+  pub did : RelayDid (dials_to order links (λ to w. apass_trace job from to v w)) how held held'
   pub after : Option (List ℕ)
-  pub link : Appended sent sends_from after
+  pub link : Appended sent did.sends_from after
   pub between : Option (List (List ℕ))
   pub first : AppendedBack back after between
-  pub second : ReturnedLink links links' sends_to between back'
-  pub early : how ≡ end.OutOfMemory → (sends_from ≡ []) × (sends_to ≡ [])
+  pub second : ReturnedLink links links' did.sends_to between back'
+  pub early : how ≡ end.OutOfMemory → (did.sends_from ≡ []) × (did.sends_to ≡ [])
 
--- Each link that was dialled was given back, in the order of dialling: none, and then nothing was sent; or the first, which was
--- sent this after what it had been sent before, and then none or the second likewise.
+-- The same for two links: none, or the first, and then none or the second likewise.
 abbrev pub ReturnedLinks : List ToldLink → Option (List ToldLink) → (sends_from sends_to : List ℕ) → Option (List (List ℕ)) →
     Option (List (List ℕ)) → Type 0
 ReturnedLinks links links' sends_from sends_to back back' =
@@ -159,18 +161,12 @@ abbrev pub IsEarly : Job → (sends_from sends_to : List ℕ) → Type 0
 IsEarly (one server order task) sends_from sends_to = (sends_from ≡ []) × (sends_to ≡ [])
 IsEarly (relay from to order job) sends_from sends_to = ((sends_from ≡ []) ⊎ (sends_from ≡ setup_bytes order)) × (sends_to ≡ [])
 
--- A tool ran: what it sent on its one or two links and what it wrote are those of its trace, or prefixes if something from
--- outside ended it, and the links were given back.
+-- A tool ran, and gave back each link that was dialled.
 pub record JobRan (j : Job) (bytes : List ℕ) (how : ToolEnd) (links : List ToldLink) (links' : Option (List ToldLink))
     (held held' : Option (List ℕ)) (back back' : Option (List (List ℕ))) : Type 0 where
-  pub sends_from : List ℕ
-  pub sends_to : List ℕ
-  pub output : List ℕ
-  pub recorded : MatchesTrace (on_from (run_trace j links bytes)) how sends_from output
-  pub played : MatchesTrace (on_to (run_trace j links bytes)) how sends_to output
-  pub sink : Appended held output held'
-  pub link : ReturnedLinks links links' sends_from sends_to back back'
-  pub early : how ≡ end.OutOfMemory → IsEarly j sends_from sends_to
+  pub did : RelayDid (run_trace j links bytes) how held held'
+  pub link : ReturnedLinks links links' did.sends_from did.sends_to back back'
+  pub early : how ≡ end.OutOfMemory → IsEarly j did.sends_from did.sends_to
 
 -- the first link of a dial, whose setup was answered with these devices
 pub record SetUpFirst (order : Order) (links : List ToldLink) : Type 0 where
@@ -194,8 +190,7 @@ pub record RelayRan (order : Order) (job : PassJob) (links : List ToldLink) (lin
       (Some []) (Some sends_to) held held'
   pub link : ReturnedLinks links links' (setup_bytes order ++ sends_from) (setup_bytes order ++ sends_to) back back'
 
--- What a tool has done on its server, by the devices, what the link gives, and what was sent: the link was set up and then used,
--- and given back.
+-- What a tool has done on its server: the link was set up, used as this says, and given back.
 pub record UsedServer (order : Order) (links : List ToldLink) (links' : Option (List ToldLink))
     (back back' : Option (List (List ℕ))) (use_of : List DeviceInfo → ClientState → List ℕ → Type 0) : Type 0 where
   pub server : SetUpFirst order links
@@ -211,8 +206,7 @@ RunsJob links back gives held j how dial dial' source source' sink sink' =
     (told : List ToldLink) (bytes : List ℕ) → links dial ≡ Some told → TellsIfRead gives (job_reads j) bytes source source' →
     JobRan j bytes how told (links dial') (held sink) (held sink') (back dial) (back dial')
 
--- Each end of a tool that dials has its cause. Nothing was written where memory ran out, and nothing was read or written where a
--- server was not had. A failed dial, a failed link and a failed write end the tool exactly where they are counted.
+-- Each end of a tool that dials has its cause, and memory or a server that was not had leaves source and sink as they were.
 pub record EndsForCause {S K D : Type 0} (left : S → Option (List ℕ)) (read_faults : S → ℕ) (write_faults : K → ℕ)
     (dial_faults hurt : D → ℕ) (reads : Bool) (form : Option SoundForm) (how : ToolEnd) (before after : S) (held held' : K)
     (dial dial' : D) : Type 0 where
@@ -242,9 +236,7 @@ pub record IsServed (trace : Trace) : Type 0 where
   pub fits : is_unfit trace.finish ≡ false
   pub answered : IsAnswered trace
 
--- What the tools did for a job: it ran, and each end for a reply or for devices is that of its trace. If it is done, what aplay
--- played is heard as intended, arecord left a recording, list wrote a line for each device, and a relay has passed all blocks. If
--- the source gives at most what a tool takes, and the job is served, it is done, unless something from outside ended it.
+-- What the tools did for a job: it ran, each end is that of its trace, and if it is done, all that its tool promises holds.
 pub record JobDone (j : Job) (bytes : List ℕ) (how : ToolEnd) (links : List ToldLink) (links' : Option (List ToldLink))
     (held held' : Option (List ℕ)) (back back' : Option (List (List ℕ))) : Type 0 where
   pub ran : JobRan j bytes how links links' held held' back back'

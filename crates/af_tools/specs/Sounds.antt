@@ -52,8 +52,7 @@ source_width coding ty channels = source_sample coding ty * channels
 abbrev pub block_bytes : SourceSound → (frames : ℕ) → ℕ
 block_bytes sound frames = frames * source_width sound.coding sound.ty sound.channels
 
--- A source's bytes are a file of this form, whose header states the device's rate and channels. These are the samples of the
--- sound after it, as a server takes them in this type.
+-- A source's bytes are a file whose header has the device's rate and channels: its samples, as a server takes them in this type.
 pub record IsFileSound (form : SoundForm) (device : DeviceInfo) (bytes : List ℕ) (ty : SampleType)
     (samples : List ℕ) : Type 0 where
   pub front : List ℕ
@@ -66,8 +65,7 @@ pub record IsFileSound (form : SoundForm) (device : DeviceInfo) (bytes : List �
   pub is_type : ty ≡ served_type head.coding
   pub is_samples : samples ≡ served_bytes head.coding (stated_part head.length rest)
 
--- What a source gives to be heard: samples of a type. They are its bytes, in the stated type or else the device's, or what a
--- sound file means.
+-- What a source gives to be heard: its bytes, in the stated type or else the device's, or the samples that a sound file means.
 abbrev pub GivesSamples : Option SoundForm → PlayJob → DeviceInfo → List ℕ → SampleType → List ℕ → Type 0
 GivesSamples None job device bytes ty samples = (ty ≡ unwrap_or job.ty device.ty) × (samples ≡ bytes)
 GivesSamples (Some form) job device bytes ty samples = IsFileSound form device bytes ty samples

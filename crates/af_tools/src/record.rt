@@ -4,9 +4,8 @@ ghost use Rattle.std.specs.declared.option.Option.{Option};
 ghost use Rattle.std.specs.declared.option.Option.TheVariants.{None};
 ghost use Rattle.af_io.specs.Observed.{CountsFault};
 ghost use Rattle.af_sample.specs.Channels.{IsChannelCount};
-ghost use Rattle.af_toolkit.specs.Ends.{KeepsConnection, ObservedPartWriting};
+ghost use Rattle.af_toolkit.specs.Ends.{is_of_link_or_sink, KeepsConnection, ObservedPartWriting};
 ghost use Rattle.af_tools.specs.Record.{IsFiledAs, peak, recorded_frame, records_all, takes_block};
-ghost use Rattle.af_tools.specs.Results.{is_of_records};
 ghost use Rattle.af_tools.specs.Sounds.{AreWhole};
 ghost use Rattle.af_cli.specs.Sizes.{greatest_block};
 
@@ -73,7 +72,7 @@ fn record_block<L: Link + Drop, K: Sink>(
     ensures goes { ObservedPartWriting L.left L.sent K.held conn.old conn.new sink.old sink.new
         (λ w. takes_block sound at.0 (length block.old) w) result }
     ensures holds { KeepsConnection L.left L.faults conn.old conn.new result }
-    ensures end { IfErr result (λ how. is_of_records how ≡ true) }
+    ensures end { IfErr result (λ how. is_of_link_or_sink how ≡ true) }
     ensures fault { CountsFault (result ≡ Err ToolEnd.SinkFault) (K.faults sink.old) (K.faults sink.new) }
 {
     conn.record_run(CONTEXT, at, true, block)?;
@@ -104,7 +103,7 @@ pub fn record_blocks<L: Link + Drop, K: Sink>(
     ensures goes { ObservedPartWriting L.left L.sent K.held conn.old conn.new sink.old sink.new
         (λ w. records_all job.now sound start.0 w) result }
     ensures holds { KeepsConnection L.left L.faults conn.old conn.new result }
-    ensures end { IfErr result (λ how. is_of_records how ≡ true) }
+    ensures end { IfErr result (λ how. is_of_link_or_sink how ≡ true) }
     ensures fault { CountsFault (result ≡ Err ToolEnd.SinkFault) (K.faults sink.old) (K.faults sink.new) }
 {
     let frame = sound.frame_bytes();

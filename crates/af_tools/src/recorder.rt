@@ -5,9 +5,9 @@ ghost use Rattle.af_io.specs.Observed.{CountsFault};
 ghost use Rattle.af_request.specs.Replies.{IsDeviceInfo};
 ghost use Rattle.af_lib.specs.Calls.{device_channels};
 ghost use Rattle.af_toolkit.specs.Talk.{creates};
-ghost use Rattle.af_toolkit.specs.Ends.{KeepsConnection, ObservedPartWriting};
+ghost use Rattle.af_toolkit.specs.Ends.{is_of_link_or_sink, KeepsConnection, ObservedPartWriting};
 ghost use Rattle.af_tools.specs.Record.{arecord_trace, record_context, records_on, writes_recording, LeavesRecording};
-ghost use Rattle.af_tools.specs.Results.{is_of_writer, is_of_records, LacksDevice, RunsTool};
+ghost use Rattle.af_tools.specs.Results.{is_of_writer, LacksDevice, RunsTool};
 ghost use Rattle.af_cli.specs.Sizes.{greatest_block};
 
 use crate::file::{recorded_sound, write_front, write_pad};
@@ -61,7 +61,7 @@ fn write_recording<L: Link + Drop, K: Sink>(
     ensures goes { ObservedPartWriting L.left L.sent K.held conn.old conn.new sink.old sink.new
         (λ w. writes_recording job.now device start.0 w) result }
     ensures holds { KeepsConnection L.left L.faults conn.old conn.new result }
-    ensures end { IfErr result (λ how. is_of_records how ≡ true) }
+    ensures end { IfErr result (λ how. is_of_link_or_sink how ≡ true) }
     ensures fault { CountsFault (result ≡ Err ToolEnd.SinkFault) (K.faults sink.old) (K.faults sink.new) }
 {
     let sound = recorded_sound(job, device);
@@ -88,7 +88,7 @@ fn record_on<L: Link + Drop, K: Sink>(
     ensures goes { ObservedPartWriting L.left L.sent K.held conn.old conn.new sink.old sink.new
         (λ w. records_on job.now device w) result }
     ensures holds { KeepsConnection L.left L.faults conn.old conn.new result }
-    ensures end { IfErr result (λ how. is_of_records how ≡ true) }
+    ensures end { IfErr result (λ how. is_of_link_or_sink how ≡ true) }
     ensures fault { CountsFault (result ≡ Err ToolEnd.SinkFault) (K.faults sink.old) (K.faults sink.new) }
 {
     let context = context_of(job, device);

@@ -1,15 +1,12 @@
-use Rattle.std.proofs.Common.{◌≡◌, ◌≤◌, ℕ, List, IsSome}
-use Rattle.std.specs.declared.option.Option.TheVariants.{None, Some}
-use Rattle.af_toolkit.specs.Ends.{client_of}
+use Rattle.std.proofs.Common.{◌≡◌, ◌≤◌, ℕ, List, Ok}
+use Rattle.std.specs.declared.option.Option.TheVariants.{Some}
+use Rattle.af_toolkit.specs.Ends.{client_of, KeepsConnection}
 use Rattle.af_standing.proofs.ListLemmas.{IsTelling}
 use Rattle.af_standing.proofs.lister.tell_devices.Given as goal
 
 abbrev pub invariant-loop-number : goal.invariant-loop-number
 invariant-loop-number g l = record {
-  usable : l.conn.cause ≡ None;
-  devices : l.conn.devices ≡ l.initial.conn.devices;
-  tells : IsSome (g.L.Link.left l.initial.conn.link) → IsSome (g.L.Link.left l.conn.link);
-  link_count : g.L.Link.faults l.initial.conn.link ≤ g.L.Link.faults l.conn.link;
+  holds : KeepsConnection {X = Unit {0}} g.L.Link.left g.L.Link.faults l.initial.conn l.conn (Ok tt);
   count : g.K.Sink.faults l.initial.sink ≤ g.K.Sink.faults l.sink;
   telling : (input : List ℕ) → g.L.Link.left l.initial.conn.link ≡ Some input →
       IsTelling l.initial.conn.devices l.number (client_of l.initial.conn input) (g.L.Link.left l.conn.link) (client_of l.conn) (g.L.Link.sent l.initial.conn.link) (g.L.Link.sent l.conn.link) (g.K.Sink.held l.initial.sink) (g.K.Sink.held l.sink);

@@ -1,17 +1,9 @@
-use Rattle.std.proofs.Common.{◌≡◌, rules}
-use Rattle.std.specs.Prelude.{Ok, Err}
-use Rattle.af_request.specs.Asked.{free_ac}
-use Rattle.af_lib.specs.Calls.{as_done}
-use Rattle.af_toolkit.specs.Trace.{fault_end}
-use Rattle.af_toolkit.proofs.TracePartLemmas.{asked_goes}
+use Rattle.std.proofs.Common.{refl, rules}
+use Rattle.af_toolkit.proofs.TracePartLemmas.{part_asks}
 use Rattle.af_toolkit.proofs.talk.finish.Goals as goal
 
 pub returns-in_err-free_ac-clause-goes : goal.returns-in_err-free_ac-clause-goes
-returns-in_err-free_ac-clause-goes g c input held told =
-    let same : c.from_residual.result ≡ Err (fault_end c.in_err-free_ac.field-0.0) = search rules in
-    let h = asked_goes g.L.Link.left g.L.Link.sent g.L.Link.faults (free_ac 1) as_done c.args.conn.now c.free_ac.new.self input held (Err c.in_err-free_ac.field-0.0) c.in_err-free_ac.ensures c.requires told in
-    rw same h
+returns-in_err-free_ac-clause-goes g c input held told = part_asks (search rules) c.in_err-free_ac.ensures c.requires told
 
 pub returns-clause-goes : goal.returns-clause-goes
-returns-clause-goes g c input held told =
-    asked_goes g.L.Link.left g.L.Link.sent g.L.Link.faults (free_ac 1) as_done c.args.conn.now c.free_ac.new.self input held (Ok c.in_ok-free_ac.field-0) c.in_ok-free_ac.ensures c.requires told
+returns-clause-goes g c input held told = part_asks refl c.in_ok-free_ac.ensures c.requires told

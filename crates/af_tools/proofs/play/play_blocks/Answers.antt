@@ -8,10 +8,10 @@ use Rattle.af_tools.specs.Reading.{fill_end, left_before}
 use Rattle.af_tools.specs.Sounds.{block_bytes}
 use Rattle.af_io.proofs.ConsumedLemmas.{consumed_told}
 use Rattle.af_tools.proofs.EndLemmas.{never}
-use Rattle.af_tools.proofs.PartStepLemmas.{keeps_all, keeps_on}
+use Rattle.af_toolkit.proofs.TracePartLemmas.{keeps_all, keeps_on}
 use Rattle.af_tools.proofs.PlayStepLemmas.{play_begin, play_filled, play_last, play_next, play_over, play_refused, play_unfilled, told_unfilled}
 use Rattle.af_tools.proofs.SourceFrameLemmas.{block_fits, block_short, size_fits}
-use Rattle.af_tools.proofs.SourceCountLemmas.{fits_begin, fits_on, given_on, given_within, read_before, rest_begin, rest_on, stated_all, takes_all, takes_fault, takes_some}
+use Rattle.af_tools.proofs.SourceCountLemmas.{fits_begin, fits_on, given_on, given_within, read_before, rest_begin, rest_on, takes_ended, takes_fault, takes_link}
 use Rattle.af_tools.proofs.play.play_blocks.Goals as goal
 
 pub loop-block-init : goal.loop-block-init
@@ -59,19 +59,17 @@ returns-then-count-eq0-clause-goes g c input bytes held told is tells =
 pub returns-then-count-eq0-clause-takes : goal.returns-then-count-eq0-clause-takes
 returns-then-count-eq0-clause-takes g c =
     let i = c.loop-block.invariant in
-    takes_all i.given i.permitted (stated_all c.args.playback.sound.length c.loop-block.left c.loop-block.given (g.S.Source.left c.loop-block.source) i.rest i.fits (i.ended (block_short i.block_fits c.if-count-eq0.true)))
+    takes_ended c.loop-block.given c.loop-block.filled i.given i.permitted i.rest i.fits (i.ended (block_short i.block_fits c.if-count-eq0.true))
 
 pub returns-in_err-play_block-clause-goes : goal.returns-in_err-play_block-clause-goes
 returns-in_err-play_block-clause-goes g c input bytes held told is tells =
     let i = c.loop-block.invariant in
-    let same : c.from_residual.result ≡ Err c.in_err-play_block.field-0.0 = search rules in
-    rw same (play_refused (i.playing input bytes held told is tells) i.block_fits c.time_after_frames-at.ensures (omega arith) (λ j t. c.in_err-play_block.ensures.goes j held t))
+    play_refused (i.playing input bytes held told is tells) i.block_fits c.time_after_frames-at.ensures (omega arith) (search rules) (λ j t. c.in_err-play_block.ensures.goes j held t)
 
 pub returns-in_err-play_block-clause-takes : goal.returns-in_err-play_block-clause-takes
 returns-in_err-play_block-clause-takes g c =
     let i = c.loop-block.invariant in
-    let same : c.from_residual.result ≡ Err c.in_err-play_block.field-0.0 = search rules in
-    rw same (takes_some (given_within i.given i.permitted) (never is_of_link c.in_err-play_block.field-0.0 end.TooLong c.in_err-play_block.ensures.end refl))
+    takes_link (search rules) (given_within i.given i.permitted) c.in_err-play_block.ensures.end
 
 pub returns-then-filled-size-clause-goes : goal.returns-then-filled-size-clause-goes
 returns-then-filled-size-clause-goes g c input bytes held told is tells =
@@ -83,7 +81,7 @@ pub returns-then-filled-size-clause-takes : goal.returns-then-filled-size-clause
 returns-then-filled-size-clause-takes g c =
     let i = c.loop-block.invariant in
     let short = c.if-filled-size.true in
-    takes_all i.given i.permitted (stated_all c.args.playback.sound.length c.loop-block.left c.loop-block.given (g.S.Source.left c.loop-block.source) i.rest i.fits (i.ended (omega arith)))
+    takes_ended c.loop-block.given c.loop-block.filled i.given i.permitted i.rest i.fits (i.ended (omega arith))
 
 pub returns-in_err-filled-clause-goes : goal.returns-in_err-filled-clause-goes
 returns-in_err-filled-clause-goes g c input bytes held told is tells =
@@ -99,8 +97,7 @@ pub returns-in_err-filled-clause-takes : goal.returns-in_err-filled-clause-takes
 returns-in_err-filled-clause-takes g c =
     let i = c.loop-block.invariant in
     let permitted = i.permitted in
-    let same : c.from_residual-in_err-filled.result ≡ Err (fill_end c.in_err-filled.field-0.0) = search rules in
-    rw same (takes_fault c.in_err-filled.field-0.0 i.given c.in_err-filled.ensures.fills (omega arith))
+    takes_fault c.in_err-filled.field-0.0 (search rules) i.given c.in_err-filled.ensures.fills (omega arith)
 
 pub loop-block-preserved : goal.loop-block-preserved
 loop-block-preserved g c =

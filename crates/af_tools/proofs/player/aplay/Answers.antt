@@ -11,7 +11,7 @@ use Rattle.af_tools.specs.Reading.{is_of_sound}
 use Rattle.af_tools.proofs.HavingRun.{aplay_missing_ran, aplay_there_ran}
 use Rattle.af_tools.proofs.DeviceChoiceLemmas.{followed_same, is_missing, is_there, missing_iff, reported, there_iff}
 use Rattle.af_tools.proofs.EndLemmas.{never}
-use Rattle.af_tools.proofs.PartStepLemmas.{trace_goes_on, trace_stops}
+use Rattle.af_toolkit.proofs.TracePartLemmas.{trace_goes_on, trace_stops}
 use Rattle.af_tools.proofs.SoundFitLemmas.{followed_unsound}
 use Rattle.af_tools.proofs.UnreadLemmas.{read_late}
 use Rattle.af_tools.proofs.SourceCountLemmas.{played_use, refused_use, unsound_use}

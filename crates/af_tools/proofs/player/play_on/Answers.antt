@@ -1,67 +1,60 @@
 use Rattle.std.proofs.Common.{rules, arith, ◌≡◌, ◌-◌, refl, Err}
 use Rattle.af_toolkit.specs.declared.end.ToolEnd.TheVariants as end
 use Rattle.af_toolkit.specs.Ends.{is_of_link}
-use Rattle.af_toolkit.proofs.PartProgressLemmas.{goes_early}
+use Rattle.af_toolkit.proofs.TracePartLemmas.{part_cut, part_goes_on, part_is_done, part_stops}
 use Rattle.af_tools.specs.Reading.{fill_end}
 use Rattle.af_tools.specs.Sounds.{most_bytes}
 use Rattle.af_tools.specs.Play.{plays_on}
 use Rattle.af_tools.proofs.EndLemmas.{never}
-use Rattle.af_tools.proofs.PartStepLemmas.{part_goes_on, part_is_done, part_stops}
 use Rattle.af_tools.proofs.PlayTailLemmas.{early_fault, early_within, first_known, first_unfilled, tail_named}
-use Rattle.af_tools.proofs.SourceCountLemmas.{given_none, given_within, takes_end, takes_fault, takes_first, takes_some, takes_value, takes_within}
+use Rattle.af_tools.proofs.SourceCountLemmas.{given_none, given_within, takes_end, takes_fault, takes_first, takes_link, takes_some, takes_value, takes_within}
 use Rattle.af_tools.proofs.player.play_on.Goals as goal
 
 pub returns-in_err-make_play_context-clause-goes : goal.returns-in_err-make_play_context-clause-goes
 unfolding plays_on
 returns-in_err-make_play_context-clause-goes g c input bytes held told is tells =
-    let same : c.from_residual.result ≡ Err c.in_err-make_play_context.field-0.0 = search rules in
-    rw same (part_stops (c.in_err-make_play_context.ensures.goes input held told))
+    part_stops (search rules) (c.in_err-make_play_context.ensures.goes input held told)
 
 pub returns-in_err-make_play_context-clause-takes : goal.returns-in_err-make_play_context-clause-takes
 returns-in_err-make_play_context-clause-takes g c =
-    let same : c.from_residual.result ≡ Err c.in_err-make_play_context.field-0.0 = search rules in
-    rw same (takes_some (given_within (given_none (g.S.Source.left c.args.source.now)) (omega arith)) (never is_of_link c.in_err-make_play_context.field-0.0 end.TooLong c.in_err-make_play_context.ensures.end refl))
+    takes_link (search rules) (given_within (given_none (g.S.Source.left c.args.source.now)) (omega arith)) c.in_err-make_play_context.ensures.end
 
 pub returns-in_err-early-clause-goes : goal.returns-in_err-early-clause-goes
 unfolding plays_on
 returns-in_err-early-clause-goes g c input bytes held told is tells =
     let same : c.from_residual-in_err-early.result ≡ Err (fill_end c.in_err-early.field-0.0) = search rules in
     let fault = early_fault c.in_err-early.field-0.0 c.in_err-early.ensures.only in
-    rw (same, fault.1) (part_goes_on (c.in_ok-make_play_context.ensures.goes input held told) (λ i t. goes_early _ end.ReadFault _ _ _ _ refl))
+    rw (same, fault.1) (part_goes_on (c.in_ok-make_play_context.ensures.goes input held told) (λ i t. part_cut end.ReadFault refl))
 
 pub returns-in_err-early-clause-takes : goal.returns-in_err-early-clause-takes
 returns-in_err-early-clause-takes g c =
     let same : c.from_residual-in_err-early.result ≡ Err (fill_end c.in_err-early.field-0.0) = search rules in
     let fault = early_fault c.in_err-early.field-0.0 c.in_err-early.ensures.only in
-    rw (same, fault.1) (takes_some (c.in_err-early.ensures.cut fault.0) (λ bad. cc bad))
+    rw (same, fault.1) (takes_some refl (c.in_err-early.ensures.cut fault.0) (λ bad. cc bad))
 
 pub returns-in_err-now-clause-goes : goal.returns-in_err-now-clause-goes
 unfolding plays_on
 returns-in_err-now-clause-goes g c input bytes held told is tells =
-    let same : c.from_residual-in_err-now.result ≡ Err c.in_err-now.field-0.0 = search rules in
-    rw same (part_goes_on (c.in_ok-make_play_context.ensures.goes input held told) (λ i t. part_stops (c.in_err-now.ensures.goes i held t)))
+    part_goes_on (c.in_ok-make_play_context.ensures.goes input held told) (λ i t. part_stops (search rules) (c.in_err-now.ensures.goes i held t))
 
 pub returns-in_err-now-clause-takes : goal.returns-in_err-now-clause-takes
 returns-in_err-now-clause-takes g c =
-    let same : c.from_residual-in_err-now.result ≡ Err c.in_err-now.field-0.0 = search rules in
     let few = early_within _ (most_bytes - c.args.plan.sound.head) _ _ _ (g.S.Source.left c.args.source.now) _ c.in_ok-early.ensures.early in
-    rw same (takes_some few (never is_of_link c.in_err-now.field-0.0 end.TooLong c.in_err-now.ensures.end refl))
+    takes_link (search rules) few c.in_err-now.ensures.end
 
 pub returns-in_err-first-clause-goes : goal.returns-in_err-first-clause-goes
 unfolding plays_on
 returns-in_err-first-clause-goes g c input bytes held told is tells =
-    let same : c.from_residual-in_err-first.result ≡ Err (fill_end c.in_err-first.field-0.0) = search rules in
     let unfilled = c.in_err-first.ensures.fills (g.S.Source.left c.args.source.now) c.in_ok-early.ensures.early in
-    rw same (part_goes_on (c.in_ok-make_play_context.ensures.goes input held told) (λ i t.
+    part_goes_on (c.in_ok-make_play_context.ensures.goes input held told) (λ i t.
     part_goes_on (c.in_ok-now.ensures.goes i held t) (λ j u.
     tail_named _ _ refl c.block_of-block.ensures.value c.start_of-start.ensures
-    (part_stops (first_unfilled c.args.plan.sound _ _ c.in_err-first.field-0.0 c.block_of-block.ensures.block c.requires.sound.1 is unfilled tells)))))
+    (part_stops (search rules) (first_unfilled c.args.plan.sound _ _ c.in_err-first.field-0.0 c.block_of-block.ensures.block c.requires.sound.1 is unfilled tells))))
 
 pub returns-in_err-first-clause-takes : goal.returns-in_err-first-clause-takes
 returns-in_err-first-clause-takes g c =
-    let same : c.from_residual-in_err-first.result ≡ Err (fill_end c.in_err-first.field-0.0) = search rules in
     let before = g.S.Source.left c.args.source.now in
-    rw same (takes_fault c.in_err-first.field-0.0 (given_none before) (c.in_err-first.ensures.fills before c.in_ok-early.ensures.early) (omega arith))
+    takes_fault c.in_err-first.field-0.0 (search rules) (given_none before) (c.in_err-first.ensures.fills before c.in_ok-early.ensures.early) (omega arith)
 
 pub returns-in_err-frames-clause-goes : goal.returns-in_err-frames-clause-goes
 unfolding plays_on
@@ -69,16 +62,14 @@ returns-in_err-frames-clause-goes g c input bytes held told is tells =
     let e = c.in_err-frames.ensures in
     let first = (c.in_ok-first.ensures.fills (g.S.Source.left c.args.source.now) c.in_ok-early.ensures.early).had in
     let k = first_known is first e.takes tells in
-    let same : c.from_residual-in_err-frames.result ≡ Err c.in_err-frames.field-0.0 = search rules in
-    rw same (part_goes_on (c.in_ok-make_play_context.ensures.goes input held told) (λ i t.
+    part_goes_on (c.in_ok-make_play_context.ensures.goes input held told) (λ i t.
     part_goes_on (c.in_ok-now.ensures.goes i held t) (λ j u.
-    tail_named _ _ k.2 c.block_of-block.ensures.value c.start_of-start.ensures (part_stops (e.goes j k.0 held u k.1 tells)))))
+    tail_named _ _ k.2 c.block_of-block.ensures.value c.start_of-start.ensures (part_stops (search rules) (e.goes j k.0 held u k.1 tells))))
 
 pub returns-in_err-frames-clause-takes : goal.returns-in_err-frames-clause-takes
 returns-in_err-frames-clause-takes g c =
-    let same : c.from_residual-in_err-frames.result ≡ Err c.in_err-frames.field-0.0 = search rules in
     let first = (c.in_ok-first.ensures.fills (g.S.Source.left c.args.source.now) c.in_ok-early.ensures.early).had in
-    rw same (takes_end (takes_first first c.in_err-frames.ensures.takes))
+    takes_end (search rules) (takes_first first c.in_err-frames.ensures.takes)
 
 pub returns-in_err-finish-clause-goes : goal.returns-in_err-finish-clause-goes
 unfolding plays_on
@@ -86,17 +77,15 @@ returns-in_err-finish-clause-goes g c input bytes held told is tells =
     let e = c.in_ok-frames.ensures in
     let first = (c.in_ok-first.ensures.fills (g.S.Source.left c.args.source.now) c.in_ok-early.ensures.early).had in
     let k = first_known is first e.takes tells in
-    let same : c.from_residual-in_err-finish.result ≡ Err c.in_err-finish.field-0.0 = search rules in
-    rw same (part_goes_on (c.in_ok-make_play_context.ensures.goes input held told) (λ i t.
+    part_goes_on (c.in_ok-make_play_context.ensures.goes input held told) (λ i t.
     part_goes_on (c.in_ok-now.ensures.goes i held t) (λ j u.
     tail_named _ _ k.2 c.block_of-block.ensures.value c.start_of-start.ensures
-    (part_goes_on (e.goes j k.0 held u k.1 tells) (λ i' t'. part_stops (c.in_err-finish.ensures.goes i' held t'))))))
+    (part_goes_on (e.goes j k.0 held u k.1 tells) (λ i' t'. part_stops (search rules) (c.in_err-finish.ensures.goes i' held t')))))
 
 pub returns-in_err-finish-clause-takes : goal.returns-in_err-finish-clause-takes
 returns-in_err-finish-clause-takes g c =
-    let same : c.from_residual-in_err-finish.result ≡ Err c.in_err-finish.field-0.0 = search rules in
     let first = (c.in_ok-first.ensures.fills (g.S.Source.left c.args.source.now) c.in_ok-early.ensures.early).had in
-    rw same (takes_some (takes_within (takes_first first c.in_ok-frames.ensures.takes)) (never is_of_link c.in_err-finish.field-0.0 end.TooLong c.in_err-finish.ensures.end refl))
+    takes_link (search rules) (takes_within (takes_first first c.in_ok-frames.ensures.takes)) c.in_err-finish.ensures.end
 
 pub returns-clause-goes : goal.returns-clause-goes
 unfolding plays_on

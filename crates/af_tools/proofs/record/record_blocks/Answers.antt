@@ -1,8 +1,8 @@
-use Rattle.std.proofs.Common.{rules, arith, ◌≡◌, ◌≤◌, ◌*◌, ℕ, length, refl, ap, ◌∙◌, length-take-le, Err}
+use Rattle.std.proofs.Common.{rules, arith, ◌≡◌, ◌≤◌, ◌*◌, ℕ, length, refl, ap, ◌∙◌, length-take-le}
 use Rattle.af_toolkit.specs.Ends.{client_of}
 use Rattle.af_cli.specs.Sizes.{block_frames}
 use Rattle.af_tools.specs.Record.{recorded_frame}
-use Rattle.af_tools.proofs.PartStepLemmas.{keeps_all, keeps_on}
+use Rattle.af_toolkit.proofs.TracePartLemmas.{keeps_all, keeps_on}
 use Rattle.af_tools.proofs.RecordBlockLemmas.{record_begin, record_done, record_on, record_quiet, record_stopped, some_recorded}
 use Rattle.af_tools.proofs.record.record_blocks.Goals as goal
 
@@ -23,10 +23,9 @@ loop-left-init g c =
 pub returns-in_err-peak-clause-goes : goal.returns-in_err-peak-clause-goes
 returns-in_err-peak-clause-goes g c input told =
     let i = c.loop-left.invariant in
-    let same : c.from_residual.result ≡ Err c.in_err-peak.field-0.0 = search rules in
     let fits : c.min-count.result * c.frame_bytes-frame.result ≤ length c.loop-left.room = search rules in
     let size = length-take-le _ c.loop-left.room fits ∙ ap (λ (w : ℕ). c.min-count.result * w) c.frame_bytes-frame.ensures in
-    rw same (record_stopped (i.recording input told) i.some (omega arith) c.min-count.ensures size c.in_err-peak.ensures.goes)
+    record_stopped (i.recording input told) i.some (omega arith) c.min-count.ensures size (search rules) c.in_err-peak.ensures.goes
 
 pub returns-then-row-job-clause-goes : goal.returns-then-row-job-clause-goes
 returns-then-row-job-clause-goes g c input told =

@@ -17,13 +17,9 @@ returns-in-Far-clause-ran g c v links told_from told =
 pub returns-in-Failed-clause-ran : goal.returns-in-Failed-clause-ran
 returns-in-Failed-clause-ran g c v links told_from told =
     let e = c.in-Failed.ensures in
-    let conn = c.args.conn in
-    let entry = subst (λ (x : Option (List ℕ)). AppendedBack (g.D.Dial.back c.dial.new.self) x (g.D.Dial.back c.hang_up-in-Failed.new.self)) (ap g.D.Far.Link.sent c.into_link-in-Failed.ensures) c.hang_up-in-Failed.ensures.back in
-    to_none c.args.call.now.order c.args.call.now.job conn.devices (client_of conn v) end.DialFault links _ _ _ _ _ _ refl (c.hang_up-in-Failed.ensures.gives ∙ e.gives ∙ told) e.back entry
+    to_none c.args.call.now.order c.args.call.now.job c.args.conn.devices (client_of c.args.conn v) end.DialFault links _ _ _ _ _ _ refl (c.hang_up-in-Failed.ensures.gives ∙ e.gives ∙ told) e.back (ap g.D.Far.Link.sent c.into_link-in-Failed.ensures) c.hang_up-in-Failed.ensures.back
 
 pub returns-in-OutOfMemory-clause-ran : goal.returns-in-OutOfMemory-clause-ran
 returns-in-OutOfMemory-clause-ran g c v links told_from told =
     let e = c.in-OutOfMemory.ensures in
-    let conn = c.args.conn in
-    let entry = subst (λ (x : Option (List ℕ)). AppendedBack (g.D.Dial.back c.dial.new.self) x (g.D.Dial.back c.hang_up-in-OutOfMemory.new.self)) (ap g.D.Far.Link.sent c.into_link-in-OutOfMemory.ensures) c.hang_up-in-OutOfMemory.ensures.back in
-    to_none c.args.call.now.order c.args.call.now.job conn.devices (client_of conn v) end.OutOfMemory links _ _ _ _ _ _ refl (c.hang_up-in-OutOfMemory.ensures.gives ∙ e.gives ∙ told) e.back entry
+    to_none c.args.call.now.order c.args.call.now.job c.args.conn.devices (client_of c.args.conn v) end.OutOfMemory links _ _ _ _ _ _ refl (c.hang_up-in-OutOfMemory.ensures.gives ∙ e.gives ∙ told) e.back (ap g.D.Far.Link.sent c.into_link-in-OutOfMemory.ensures) c.hang_up-in-OutOfMemory.ensures.back

@@ -1,11 +1,8 @@
-use Rattle.std.proofs.Common.{◌≡◌, ap, ◌∙◌, refl, inl, inr, Ok, Err}
+use Rattle.std.proofs.Common.{◌≡◌, ap, ◌∙◌, refl, inl, inr}
 use Rattle.af_toolkit.specs.declared.end.ToolEnd.TheVariants as end
 use Rattle.af_toolkit.specs.Trace.{connects, fault_end}
 use Rattle.af_tools.specs.Run.{task_trace}
-use Rattle.af_toolkit.proofs.TracePartLemmas.{client_begun}
-use Rattle.af_toolkit.proofs.FollowedLemmas.{followed_early}
-use Rattle.af_tools.proofs.PartStepLemmas.{trace_goes_on, trace_stops}
-use Rattle.af_tools.proofs.SetupTraceLemmas.{setup_goes}
+use Rattle.af_toolkit.proofs.TracePartLemmas.{client_begun, followed_early, setup_goes, trace_goes_on, trace_stops}
 use Rattle.af_tools.proofs.UnreadLemmas.{link_gives}
 use Rattle.af_tools.proofs.run.perform_over.Goals as goal
 
@@ -13,9 +10,8 @@ pub returns-in-Ok-clause-followed : goal.returns-in-Ok-clause-followed
 returns-in-Ok-clause-followed g c input bytes told tells =
     let e = c.in-Ok.ensures in
     let conn = c.in-Ok.conn in
-    let g0 = setup_goes c.args.order g.L.Link.left g.L.Link.sent g.L.Link.faults c.args.far conn.link conn.ring input (g.K.Sink.held c.args.sink.now) (Ok conn.devices) e.3 told in
     let same : c.into_link.result ≡ c.perform-end.new.conn.link = c.into_link.ensures in
-    rw same (trace_goes_on (λ devices w. task_trace c.args.task.now devices bytes w) g0 (λ i t.
+    rw same (trace_goes_on (λ devices w. task_trace c.args.task.now devices bytes w) (setup_goes c.args.order e.3 told) (λ i t.
     rw (client_begun c.args.order conn i e.0 e.1) at (c.perform-end.ensures.followed i bytes t tells)))
 
 pub returns-in-Err-clause-followed : goal.returns-in-Err-clause-followed
@@ -23,11 +19,10 @@ returns-in-Err-clause-followed g c input bytes told tells =
     elim (c.in-Err.ensures) [
       | inl none ↦
           let way : c.from.result ≡ end.OutOfMemory = c.from.ensures ∙ ap fault_end none.0 in
-          rw (way, none.1) (followed_early (connects c.args.order input (λ devices w. task_trace c.args.task.now devices bytes w)) end.OutOfMemory _ _ refl)
+          rw (way, none.1) (followed_early (connects c.args.order input (λ devices w. task_trace c.args.task.now devices bytes w)) end.OutOfMemory refl)
       | inr setup ↦
-          let g0 = setup_goes c.args.order g.L.Link.left g.L.Link.sent g.L.Link.faults c.args.far c.in-Err.far setup.0 input (g.K.Sink.held c.args.sink.now) (Err c.in-Err.fault) setup.1 told in
           let way : c.from.result ≡ fault_end c.in-Err.fault = c.from.ensures in
-          rw way (trace_stops (λ devices w. task_trace c.args.task.now devices bytes w) g0)
+          rw way (trace_stops (λ devices w. task_trace c.args.task.now devices bytes w) (setup_goes c.args.order setup.1 told))
     ]
 
 pub returns-in-Ok-clause-unread : goal.returns-in-Ok-clause-unread

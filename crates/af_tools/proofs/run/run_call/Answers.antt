@@ -1,8 +1,24 @@
 use Rattle.std.proofs.Common.{rules, ◌≡◌, ◌∷◌, [], refl}
+use Rattle.af_toolkit.specs.declared.end.ToolEnd.TheVariants as end
+use Rattle.af_cli.specs.Call.{job_of_call}
 use Rattle.af_cli.specs.declared.call.Call.TheVariants as call
+use Rattle.af_tools.proofs.DialLemmas.{ran_none}
 use Rattle.af_tools.proofs.run.run_call.Goals as goal
 
 pub returns-in-One-clause-asked : goal.returns-in-One-clause-asked
 returns-in-One-clause-asked g c =
     let one : c.args.call.now ≡ call.One c.in-One.call = search rules in
     rw one (record { named = c.in-One.call.server.now ∷ []; others = []; whole = refl; appended = c.run_one.ensures.asked; none = λ e. cc; all = λ e. refl })
+
+pub returns-in_default-clause-ran : goal.returns-in_default-clause-ran
+returns-in_default-clause-ran g c told bytes is tells = ran_none (job_of_call c.args.call.now) bytes end.OutOfMemory told _ _ _ _ refl is refl
+
+pub returns-in-One-clause-ran : goal.returns-in-One-clause-ran
+returns-in-One-clause-ran g c told bytes is tells =
+    let one : c.args.call.now ≡ call.One c.in-One.call = search rules in
+    rw one (c.run_one.ensures.ran told bytes is (rw one at tells))
+
+pub returns-clause-ran : goal.returns-clause-ran
+returns-clause-ran g c told bytes is tells =
+    let relayed : c.args.call.now ≡ call.Relay c.in-Relay.call = search rules in
+    rw relayed (c.run_relay.ensures.ran told bytes is)

@@ -6,7 +6,7 @@ use Rattle.af_standing.specs.ControlsReport.{controls_report_text}
 use Rattle.af_tools.proofs.HavingRun.{aset_on, missing_ran, there_ran}
 use Rattle.af_tools.proofs.DeviceChoiceLemmas.{is_missing, is_there, missing_iff, there_iff}
 use Rattle.af_tools.proofs.EndLemmas.{never}
-use Rattle.af_tools.proofs.PartStepLemmas.{trace_goes_on, trace_stops}
+use Rattle.af_toolkit.proofs.TracePartLemmas.{trace_goes_on, trace_stops}
 use Rattle.af_tools.proofs.setter.aset.Goals as goal
 
 pub returns-in-Err-clause-ran : goal.returns-in-Err-clause-ran

@@ -70,17 +70,14 @@ abbrev pub is_of_list : ToolEnd → Bool
 is_of_list end.Done = true
 is_of_list how = is_of_link_or_sink how
 
--- A text has a line for each of some devices, in order, from this number on: with some state and some time, and with the flags of
--- a telephone line exactly if the device has one.
+-- A text has a line for each of some devices, in order, from this number on, with the flags of a line where the device has one.
 abbrev pub HasLines : (number : ℕ) → List DeviceInfo → List ℕ → Type 0
 HasLines number [] text = text ≡ []
 HasLines number (device ∷ more) text =
     (controls_report : ControlsReport) × (now : ℕ) × (rest : List ℕ) × (is_some controls_report.phone ≡ device.line)
     × (text ≡ device_line number device controls_report now ++ rest) × HasLines (number + 1) more rest
 
--- list ran, by the devices of its server and what its link gives. What the link was sent, and what the sink gained, are those of
--- the trace, or prefixes of them if something from outside ended it. If it is done, it wrote a line for each device. An end for a
--- reply is that of the trace. If each request gets its reply it is done, unless something from outside ended it.
+-- list ran: it followed its trace; if it is done, it wrote a line for each device, and it is if each request gets its reply.
 pub record ListRan (devices : List DeviceInfo) (w : ClientState) (how : ToolEnd)
     (sent sent' held held' : Option (List ℕ)) : Type 0 where
   pub followed : ObservedTrace (list_trace devices w) how sent sent' held held'

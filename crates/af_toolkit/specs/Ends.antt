@@ -19,8 +19,7 @@ is_outer end.SinkFault = true
 is_outer end.OutOfMemory = true
 is_outer _ = false
 
--- A tool ended, and sent and wrote this: prefixes of what its trace has. If nothing from outside ended it, this is all of that,
--- and the end is that of the trace.
+-- A tool ended, and sent and wrote all of its trace and ends as that does, or prefixes if something from outside ended it.
 pub record MatchesTrace (trace : Trace) (how : ToolEnd) (sends output : List ℕ) : Type 0 where
   pub unsent : List ℕ
   pub unwritten : List ℕ
@@ -69,8 +68,7 @@ is_of_report end.Done = true
 is_of_report end.SinkFault = true
 is_of_report _ = false
 
--- If a request is answered with a fault, the tool ends with that, unless something from outside has ended it. It ends so in no
--- other case.
+-- A tool ends for a reply exactly where a request is answered so, unless something from outside has ended it.
 pub record EndsByReply (trace : Trace) (how : ToolEnd) : Type 0 where
   pub only : (fault : ConnFault) → is_of_reply (fault_end fault) ≡ true → how ≡ fault_end fault → trace.finish ≡ refused fault
   pub always : (fault : ConnFault) → trace.finish ≡ refused fault → (how ≡ fault_end fault) ⊎ (is_outer how ≡ true)

@@ -22,8 +22,7 @@ use Rattle.af_sound.specs.declared.head.SoundFault.{SoundFault}
 use Rattle.af_toolkit.specs.declared.end.ToolEnd.{ToolEnd}
 use Rattle.af_toolkit.specs.declared.end.ToolEnd.TheVariants as end
 
--- a client's byte order, and how far it has come with what its link gives: the number of its last request, its ring of events,
--- and the bytes that it has not taken
+-- a client's byte order, the number of its last request, its ring of events, and what its link gives that it has not taken
 pub record ClientState : Type 0 where
   pub order : Order
   pub sequence : ℕ

@@ -198,14 +198,6 @@ pub record UsedServer (order : Order) (links : List ToldLink) (links' : Option (
   pub used : use_of server.devices (client_after_setup order server.link.gives) sends
   pub link : ReturnedLinks links links' (setup_bytes order ++ sends) [] back back'
 
--- the same by what is observable of the links that a dial gives, a sink, and a source if the job reads it
-abbrev pub RunsJob : {D S K : Type 0} → (links : D → Option (List ToldLink)) → (back : D → Option (List (List ℕ))) →
-    (gives : S → Option (List ℕ)) → (held : K → Option (List ℕ)) →
-    Job → ToolEnd → (dial dial' : D) → (source source' : S) → (sink sink' : K) → Type 0
-RunsJob links back gives held j how dial dial' source source' sink sink' =
-    (told : List ToldLink) (bytes : List ℕ) → links dial ≡ Some told → TellsIfRead gives (job_reads j) bytes source source' →
-    JobRan j bytes how told (links dial') (held sink) (held sink') (back dial) (back dial')
-
 -- Each end of a tool that dials has its cause, and memory or a server that was not had leaves source and sink as they were.
 pub record EndsForCause {S K D : Type 0} (left : S → Option (List ℕ)) (read_faults : S → ℕ) (write_faults : K → ℕ)
     (dial_faults hurt : D → ℕ) (reads : Bool) (form : Option SoundForm) (how : ToolEnd) (before after : S) (held held' : K)

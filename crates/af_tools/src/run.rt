@@ -9,8 +9,8 @@ ghost use Rattle.af_cli.specs.Words.{is_spelled, job, one, Job};
 ghost use Rattle.af_cli.specs.Call.{job_of_call, IsCall};
 ghost use Rattle.af_cli.specs.Ranges.{IsAddress, IsRanged};
 ghost use Rattle.af_tools.specs.Results.{is_of_tool};
-ghost use Rattle.af_tools.specs.Reading.{FollowsTrace, UsesSource, DialGivesContext, GivesContext, JobReadsLate, LinkGivesContext, ReadsLate};
-ghost use Rattle.af_tools.specs.Run.{form_of, is_of_af, is_of_dial, is_of_far, is_of_job, job_form, job_reads, reads_of, reads_source, servers_of, source_form, task_trace, AskedFor, DoesJob, EndsForCause, RunsJob};
+ghost use Rattle.af_tools.specs.Reading.{FollowsTrace, TellsIfRead, UsesSource, DialGivesContext, GivesContext, JobReadsLate, LinkGivesContext, ReadsLate};
+ghost use Rattle.af_tools.specs.Run.{form_of, is_of_af, is_of_dial, is_of_far, is_of_job, job_form, job_reads, reads_of, reads_source, servers_of, source_form, task_trace, AskedFor, DoesJob, EndsForCause, JobRan};
 ghost use Rattle.af_cli.specs.Sizes.{greatest_block};
 
 use crate::memory::Memory;
@@ -97,8 +97,10 @@ fn run_one<S: Source, K: Sink, D: Dial>(
     requires range { IsRanged call.now.task }
     requires server { IsAddress call.now.server.now }
     requires room { greatest_block ≤ length memory.old.room.items }
-    ensures ran { RunsJob D.links D.back S.left K.held (one call.now.server.now call.now.order call.now.task) result
-        dial.old dial.new source.old source.new sink.old sink.new }
+    ensures ran { (links : List ToldLink) (bytes : List ℕ) → D.links dial.old ≡ Some links →
+        TellsIfRead S.left (reads_source call.now.task) bytes source.old source.new →
+        JobRan (one call.now.server.now call.now.order call.now.task) bytes result links (D.links dial.new)
+        (K.held sink.old) (K.held sink.new) (D.back dial.old) (D.back dial.new) }
     ensures asked { Appended (D.asked dial.old) (call.now.server.now ∷ []) (D.asked dial.new) }
     ensures end { is_of_dial (is_of_tool (reads_source call.now.task)) result ≡ true }
     ensures causes { EndsForCause S.left S.faults K.faults D.faults D.hurt
@@ -127,8 +129,10 @@ fn run_call<S: Source, K: Sink, D: Dial>(
     dial: &mut D,
 ) -> ToolEnd
     requires { IsCall call.now }
-    ensures ran { RunsJob D.links D.back S.left K.held (job_of_call call.now) result
-        dial.old dial.new source.old source.new sink.old sink.new }
+    ensures ran { (links : List ToldLink) (bytes : List ℕ) → D.links dial.old ≡ Some links →
+        TellsIfRead S.left (job_reads (job_of_call call.now)) bytes source.old source.new →
+        JobRan (job_of_call call.now) bytes result links (D.links dial.new)
+        (K.held sink.old) (K.held sink.new) (D.back dial.old) (D.back dial.new) }
     ensures asked { AskedFor (servers_of (job_of_call call.now)) result (D.asked dial.old) (D.asked dial.new) }
     ensures end { is_of_job (job_of_call call.now) result ≡ true }
     ensures causes { EndsForCause S.left S.faults K.faults D.faults D.hurt

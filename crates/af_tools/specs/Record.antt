@@ -73,12 +73,8 @@ file_head form job device =
     }
 
 -- what is written before the sound: the header of a file
-abbrev pub front_in : Option SoundForm → RecordJob → DeviceInfo → List ℕ
-front_in (Some form) job device = written_head form (file_head form job device)
-front_in None job device = []
-
 abbrev pub front_of_recording : RecordJob → DeviceInfo → List ℕ
-front_of_recording job device = front_in job.form job device
+front_of_recording job device = unwrap_or (option_map (λ form. written_head form (file_head form job device)) job.form) []
 
 -- and after its n bytes: a byte that makes the sound of a WAVE file even
 abbrev pub pad_after : Option SoundForm → ℕ → List ℕ

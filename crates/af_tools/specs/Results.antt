@@ -1,14 +1,15 @@
 -- What a tool on one connection has done, and how it may end.
-use Rattle.std.specs.Prelude.{Bool, true, false, ◌≡◌, ◌<◌, ◌≤◌, ◌↔◌, ◌⊎◌, ℕ, List, length, slice_get, IsSome, Option, Some}
+use Rattle.std.specs.Prelude.{Bool, true, false, ◌||◌, ◌&&◌, ◌≡◌, ◌<◌, ◌≤◌, ◌↔◌, ◌⊎◌, ℕ, List, length, slice_get, IsSome, Option, Some}
 use Rattle.af_toolkit.specs.declared.end.ToolEnd.{ToolEnd}
 use Rattle.af_toolkit.specs.declared.end.ToolEnd.TheVariants as end
-use Rattle.af_toolkit.specs.Ends.{is_of_link, is_outer, client_of, EndsByReply, ObservedTrace, IsAnswered}
+use Rattle.af_toolkit.specs.Ends.{is_of_link, is_of_link_or_sink, is_outer, client_of, EndsByReply, ObservedTrace, IsAnswered}
 use Rattle.af_request.specs.declared.reply.DeviceInfo.{DeviceInfo}
 use Rattle.af_lib.specs.Calls.{ConnState}
 use Rattle.af_cli.specs.declared.job.PlayJob.{PlayJob}
 use Rattle.af_toolkit.specs.Trace.{Trace, ClientState, Finish, bad_sound, channel_mismatch, mismatch, no_device, sound_cut, tool_end}
 use Rattle.af_tools.specs.Sounds.{most_bytes, IsPlayable}
 use Rattle.af_tools.specs.Play.{aplay_trace, IsPlayed}
+use Rattle.af_tools.specs.Reading.{is_of_sound}
 
 -- the ends of a part that also reads the source
 abbrev pub is_of_blocks : ToolEnd → Bool
@@ -16,18 +17,11 @@ is_of_blocks end.ReadFault = true
 is_of_blocks end.TooLong = true
 is_of_blocks how = is_of_link how
 
--- A tool may also end in ways that its link does not cause. It ends for its source only if it reads one.
+-- the ends of a tool of one link, which ends for its source only if it reads one
 abbrev pub is_of_tool : (reads : Bool) → ToolEnd → Bool
 is_of_tool reads end.Done = true
 is_of_tool reads (end.NoDevice devices) = true
-is_of_tool reads end.ReadFault = reads
-is_of_tool reads end.TooLong = reads
-is_of_tool reads (end.RateMismatch from to) = reads
-is_of_tool reads (end.ChannelMismatch from to) = reads
-is_of_tool reads (end.BadSound fault) = reads
-is_of_tool reads end.SoundCut = reads
-is_of_tool reads end.SinkFault = true
-is_of_tool reads how = is_of_link how
+is_of_tool reads how = is_of_link_or_sink how || (is_of_sound how && reads)
 
 -- the ends of aplay
 abbrev pub is_of_play : ToolEnd → Bool

@@ -1,5 +1,5 @@
 -- A tool on a device that is there, or not.
-use Rattle.std.proofs.Common.{◌≡◌, ℕ, ◌<◌, ◌≤◌, ◌↔◌, List, [], length, slice_get, sym, ap, ◌∙◌, subst, refl, arith, inl, inr, Result, Ok, Err, Option, None, Some}
+use Rattle.std.proofs.Common.{◌≡◌, ℕ, ◌<◌, ◌≤◌, ◌↔◌, List, length, slice_get, sym, ap, ◌∙◌, subst, refl, arith, inl, inr, Result, Ok, Err, Option, None, Some}
 use Rattle.std.proofs.lemmas.Option.{slice_get_cases, none-some, same_Some, slice_get_within}
 use Rattle.af_request.specs.declared.reply.DeviceInfo.{DeviceInfo}
 use Rattle.af_request.specs.Replies.{IsDeviceInfo}

@@ -1,5 +1,6 @@
 -- Tools that dial: one server, or the two of a relay.
 use Rattle.std.proofs.Common.{◌≡◌, ℕ, ◌≤◌, ◌⊎◌, inl, inr, true, false, List, [], ◌∷◌, ◌++◌, length, sym, ap, ◌∙◌, subst, refl, append-nil, ◌+◌, arith, length-append, Result, Ok, Err, Option, None, Some}
+use Rattle.std.proofs.lemmas.List.{append_cancel_left}
 use Rattle.clap.specs.Words.{Text}
 use Rattle.af_io.specs.Observed.{Appended}
 use Rattle.af_io.specs.Dial.{AppendedBack, IsFirstOf, ToldLink}
@@ -41,16 +42,11 @@ consumed_entry back back' (Some x) (Some all) first sends is appended entry =
     let whole : all ≡ first ++ sends = appended ∙ ap (λ (l : List ℕ). l ++ sends) same in
     subst (λ (e : List ℕ). Appended back (e ∷ []) back') whole entry
 
-none_of : (xs : List ℕ) → length xs ≡ 0 → xs ≡ []
-none_of [] none = refl
-none_of (x ∷ xs) none = absurd (omega (arith, none))
-
 -- a list that stays has grown by nothing
 pub appended_nothing : (before after : Option (List ℕ)) (first sends : List ℕ) → before ≡ Some first → Appended before sends after → after ≡ before → sends ≡ []
 appended_nothing before after first sends is appended same =
     let whole : first ≡ first ++ sends = subst (λ (b : Option (List ℕ)). Appended b sends (Some first)) is (subst (λ (a : Option (List ℕ)). Appended before sends a) (same ∙ is) appended) in
-    let len = ap length whole in
-    none_of sends (omega (arith, length-append first sends))
+    append_cancel_left first sends [] (sym whole ∙ sym (append-nil first))
 
 -- a tool with one server is a relay that does not use its second link
 alone_from : (c : Trace) (how : ToolEnd) (sends output : List ℕ) → MatchesTrace c how sends output → MatchesTrace (on_from (as_relay c)) how sends output

@@ -1,10 +1,9 @@
 -- Which end a tool has, and what it has done if it is done.
-use Rattle.std.proofs.Common.{◌≡◌, ℕ, Bool, true, false, List, [], ◌++◌, IsErrOf, append-nil, refl, sym, ap, ◌∙◌, Result, Err}
+use Rattle.std.proofs.Common.{◌≡◌, ℕ, Bool, true, false, List, IsErrOf, refl, sym, ap, ◌∙◌, Result, Err}
 use Rattle.af_toolkit.specs.declared.end.ToolEnd.{ToolEnd}
-use Rattle.af_toolkit.specs.declared.end.ToolEnd.TheVariants as end
-use Rattle.af_toolkit.specs.Trace.{Trace, Finish, bad_sound, channel_mismatch, done, mismatch, no_device, sound_cut, tool_end}
+use Rattle.af_toolkit.specs.Trace.{Trace, Finish, bad_sound, channel_mismatch, mismatch, no_device, sound_cut, tool_end}
 use Rattle.af_toolkit.specs.Ends.{MatchesTrace, is_outer}
-use Rattle.af_toolkit.proofs.ToolEndLemmas.{ends_as, finish_done, finish_is}
+use Rattle.af_toolkit.proofs.ToolEndLemmas.{ends_as, finish_is}
 use Rattle.af_tools.specs.Results.{is_unfit, EndsIfUnfit}
 
 -- an end of a result

@@ -1,7 +1,7 @@
 -- What is played is heard as intended, in each channel.
 use Rattle.std.proofs.Common.{◌≡◌, ℕ, ◌+◌, ◌-◌, ◌*◌, ◌/◌, ◌<◌, ◌≤◌, ◌&&◌, nat_le, nat_lt, ℤ, pos, true, List, length, take, drop, get_or, slice_get, slice_index_or, slice_range, sym, ap, ap₂, ◌∙◌, subst, arith, inl, inr, Some}
 use Rattle.std.proofs.Math.Nat.{div-div-eq-div-mul, mul-div-le}
-use Rattle.std.proofs.lemmas.List.{get_or-map, length-map}
+use Rattle.std.proofs.lemmas.List.{drop-drop, get_or-map, length-map}
 use Rattle.std.proofs.lemmas.List.FromFn.{get_or-map-range_with_len, length-map-range_with_len}
 use Rattle.std.proofs.lemmas.Option.{slice_get-get_or, same_Some}
 use Rattle.std.proofs.lemmas.Bool.{and_parts}
@@ -15,7 +15,7 @@ use Rattle.af_sample.specs.Gains.{gained}
 use Rattle.af_sample.specs.Heard.{sound_with_sample, covers, heard_sample, AcceptedPlay}
 use Rattle.af_tools.specs.Play.{blocks, gained_samples, sample_in, sent_blocks, AreAccepted, Block, HeardAsIntended, IsEntryOf}
 use Rattle.af_cli.proofs.FrameSizeLemmas.{frame_size}
-use Rattle.af_tools.proofs.SentBlockLemmas.{drop_twice, find_block, frame, one_block, range_within, IsAt}
+use Rattle.af_tools.proofs.SentBlockLemmas.{find_block, frame, one_block, range_within, IsAt}
 use Rattle.af_sample.proofs.FrameLemmas.{one_or_two, place_before}
 use Rattle.af_sample.proofs.SinglePlayLemmas.{blended_with_silence, covers_its, heard_alone}
 
@@ -64,7 +64,7 @@ part_of_frame ty channels bytes i c count low =
     let long : (k n : ℕ) → k + n - k ≡ n = λ k n. omega arith in
     ap (λ k. take k (drop ((channels * i + c) * w) bytes)) (long ((channels * i + c) * w) w)
     ∙ ap (λ k. take w (drop k bytes)) (sym f.at)
-    ∙ ap (take w) (sym (drop_twice (i * size) (c * w) bytes))
+    ∙ ap (take w) (sym (drop-drop (c * w) (i * size) bytes))
     ∙ sym (range_within (c * w) w size (drop (i * size) bytes) f.within)
     ∙ ap₂ (λ (k m : ℕ). take k (drop (c * w) (take m (drop (i * size) bytes)))) (sym (long (c * w) w)) (sym (long (i * size) size))
 

@@ -1,5 +1,5 @@
 -- If aplay is done, each block was played.
-use Rattle.std.proofs.Common.{◌≡◌, ◌⊎◌, ℕ, ap₂, ◌+◌, ◌*◌, ◌/◌, ◌%◌, ◌^◌, ◌<◌, ◌≤◌, false, List, [], ◌∷◌, ◌++◌, length, map, slice_get, sym, ap, ◌∙◌, append_assoc, append-nil, subst, refl, arith, inl, inr, Result, Ok, Err, flat_map, Option, None, Some}
+use Rattle.std.proofs.Common.{◌≡◌, ◌⊎◌, ℕ, ap₂, ◌+◌, ◌*◌, ◌/◌, ◌%◌, ◌^◌, ◌<◌, ◌≤◌, false, List, [], ◌∷◌, ◌++◌, length, map, slice_get, sym, ap, ◌∙◌, append_assoc, append-nil, subst, refl, arith, inl, inr, Ok, flat_map, Option, None, Some}
 use Rattle.std.proofs.lemmas.Bool.{cases_lt}
 use Rattle.af_time.specs.DeviceTime.{frames_lasting}
 use Rattle.af_time.specs.declared.DevTime.{DevTime}
@@ -9,16 +9,14 @@ use Rattle.af_request.specs.Replies.{IsDeviceInfo}
 use Rattle.af_cli.proofs.FrameSizeLemmas.{frame_size, some_frames}
 use Rattle.af_io.specs.Observed.{Appended}
 use Rattle.af_request.specs.declared.reply.DeviceInfo.{DeviceInfo}
-use Rattle.af_request.specs.Asked.{Asked, free_ac, get_time, play_run}
-use Rattle.af_request.specs.Answer.{Answer}
+use Rattle.af_request.specs.Asked.{free_ac, get_time, play_run}
 use Rattle.af_request.specs.Requests.{request_bytes}
 use Rattle.af_wire.specs.declared.order.Order.{Order}
-use Rattle.af_lib.specs.declared.fault.ConnFault.{ConnFault}
 use Rattle.af_lib.specs.Calls.{as_done, as_time}
 use Rattle.af_toolkit.specs.declared.end.ToolEnd.{ToolEnd}
 use Rattle.af_toolkit.specs.declared.end.ToolEnd.TheVariants as end
 use Rattle.af_cli.specs.declared.job.PlayJob.{PlayJob}
-use Rattle.af_toolkit.specs.Trace.{Trace, ClientState, answer_on, after_answer, asks, after_reply, done, ends, on_device, sends_first, too_long, writes_first}
+use Rattle.af_toolkit.specs.Trace.{Trace, ClientState, answer_on, asks, after_reply, done, ends, on_device, sends_first, too_long, writes_first}
 use Rattle.af_sound.specs.declared.head.Coding.{Coding}
 use Rattle.af_sound.specs.declared.head.SoundForm.{SoundForm}
 use Rattle.af_tools.specs.declared.sound.SourceSound.{SourceSound}
@@ -28,7 +26,7 @@ use Rattle.af_toolkit.specs.Ends.{ObservedTrace}
 use Rattle.af_tools.proofs.PlayBlockLemmas.{plays_block, plays_last, plays_long, plays_none}
 use Rattle.af_tools.proofs.SentBlockLemmas.{frames_sent, sent_first, sent_last, sent_more, sent_no_more, frames_converted, sent_converted, sent_served, served_block}
 use Rattle.af_tools.proofs.HeardAsIntendedLemmas.{heard_as_intended}
-use Rattle.af_toolkit.proofs.ToolEndLemmas.{answered_done, asks_done, is_whole}
+use Rattle.af_toolkit.proofs.ToolEndLemmas.{asks_done, is_whole}
 use Rattle.af_tools.proofs.SoundFitLemmas.{sound_cases, SoundRead, SoundRefused}
 
 sending_twice : (a b : List ℕ) (c : Trace) → sends_first a (sends_first b c) ≡ sends_first (a ++ b) c

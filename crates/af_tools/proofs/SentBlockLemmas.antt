@@ -3,8 +3,7 @@ use Rattle.std.proofs.Common.{◌≡◌, ℕ, zero, suc, ◌+◌, ◌-◌, ◌*�
 use Rattle.std.proofs.lemmas.Option.{none-some, same_Some}
 use Rattle.std.proofs.lemmas.Bool.Decides.{nat_tests}
 use Rattle.std.proofs.lemmas.Bool.{cases_lt}
-use Rattle.std.proofs.lemmas.List.{take-take, drop-take}
-use Rattle.std.proofs.Math.Seq.{drop-nil}
+use Rattle.std.proofs.lemmas.List.{take-take, drop-drop, drop-take}
 use Rattle.af_cli.proofs.FrameSizeLemmas.{by_size, IsFrameSize, frame_size}
 use Rattle.af_tools.specs.Play.{blocks, cut_blocks, frames_in, whole_frames, sent_after, Block, sent_blocks}
 use Rattle.std.proofs.Math.Nat.{div-div-eq-div-mul, div-le_self, div-mul-le_self, mul_assoc, mul_comm}
@@ -67,17 +66,12 @@ cut w small frames bytes some = by some (length bytes) _ _ (length-take (frames 
 frame_place : (w : ℕ) → IsFrameSize w → (n i : ℕ) → n ≤ i → n * w + (i - n) * w ≡ i * w
 frame_place w small n i low = by_size (λ w. n * w + (i - n) * w ≡ i * w) (omega arith) (omega arith) (omega arith) (omega arith) w small
 
-pub drop_twice : (n m : ℕ) (xs : List ℕ) → drop m (drop n xs) ≡ drop (n + m) xs
-drop_twice zero m xs = ap (λ k. drop k xs) (let e : m ≡ 0 + m = omega arith in e)
-drop_twice (suc n) m [] = drop-nil m ∙ sym (drop-nil (suc n + m))
-drop_twice (suc n) m (x ∷ xs) = drop_twice n m xs ∙ ap (λ k. drop k (x ∷ xs)) (let e : suc (n + m) ≡ suc n + m = omega arith in e)
-
 -- a frame after the first frames
 frame_after : (w : ℕ) → IsFrameSize w → (bytes : List ℕ) (n i : ℕ) → n ≤ i → frame w (drop (n * w) bytes) (i - n) ≡ frame w bytes i
 frame_after w small bytes n i low =
     let count : (k : ℕ) → k + w - k ≡ w = λ k. omega arith in
     ap (λ k. take k (drop ((i - n) * w) (drop (n * w) bytes))) (count ((i - n) * w))
-    ∙ ap (take w) (drop_twice (n * w) ((i - n) * w) bytes ∙ ap (λ k. drop k bytes) (frame_place w small n i low))
+    ∙ ap (take w) (drop-drop ((i - n) * w) (n * w) bytes ∙ ap (λ k. drop k bytes) (frame_place w small n i low))
     ∙ ap (λ k. take k (drop (i * w) bytes)) (sym (count (i * w)))
 
 pub range_within : (n m k : ℕ) (xs : List ℕ) → n + m ≤ k → take m (drop n (take k xs)) ≡ take m (drop n xs)

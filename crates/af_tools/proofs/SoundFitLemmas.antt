@@ -1,5 +1,5 @@
 -- A file and its device, which fit each other or do not.
-use Rattle.std.proofs.Common.{◌≡◌, ◌≢◌, ◌≤◌, ◌⊎◌, ◌==◌, ℕ, Bool, true, false, nat_lt, List, [], take, drop, refl, ap, ap₂, ◌∙◌, sym, arith, inl, inr, if◌then◌else◌, Result, Ok, Err, Option, None, Some}
+use Rattle.std.proofs.Common.{◌≡◌, ◌≢◌, ◌≤◌, ◌⊎◌, ◌==◌, ℕ, Bool, true, false, nat_lt, List, take, drop, refl, ap, ap₂, ◌∙◌, sym, arith, inl, inr, if◌then◌else◌, Result, Ok, Err, Option, None, Some}
 use Rattle.std.proofs.lemmas.Bool.{cases_lt}
 use Rattle.std.proofs.lemmas.List.{take-append-drop}
 use Rattle.std.proofs.lemmas.Bool.Decides.{nat_tests}

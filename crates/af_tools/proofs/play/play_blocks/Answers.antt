@@ -2,12 +2,10 @@ use Rattle.std.proofs.Common.{rules, arith, ◌≡◌, ◌≤◌, ◌<◌, ◌+�
 use Rattle.std.proofs.Math.Nat.{div-le_self}
 use Rattle.std.proofs.lemmas.List.{take-take}
 use Rattle.af_io.specs.Observed.{Consumed}
-use Rattle.af_toolkit.specs.declared.end.ToolEnd.TheVariants as end
-use Rattle.af_toolkit.specs.Ends.{client_of, is_of_link}
+use Rattle.af_toolkit.specs.Ends.{client_of}
 use Rattle.af_tools.specs.Reading.{fill_end, left_before}
 use Rattle.af_tools.specs.Sounds.{block_bytes}
 use Rattle.af_io.proofs.ConsumedLemmas.{consumed_told}
-use Rattle.af_tools.proofs.EndLemmas.{never}
 use Rattle.af_toolkit.proofs.TracePartLemmas.{keeps_all, keeps_on}
 use Rattle.af_tools.proofs.PlayStepLemmas.{play_begin, play_filled, play_last, play_next, play_over, play_refused, play_unfilled, told_unfilled}
 use Rattle.af_tools.proofs.SourceFrameLemmas.{block_fits, block_short, size_fits}

@@ -1,11 +1,9 @@
 use Rattle.std.proofs.Common.{rules, arith, ◌≡◌, ◌-◌, refl, Err}
 use Rattle.af_toolkit.specs.declared.end.ToolEnd.TheVariants as end
-use Rattle.af_toolkit.specs.Ends.{is_of_link}
 use Rattle.af_toolkit.proofs.TracePartLemmas.{part_cut, part_goes_on, part_is_done, part_stops}
 use Rattle.af_tools.specs.Reading.{fill_end}
 use Rattle.af_tools.specs.Sounds.{most_bytes}
 use Rattle.af_tools.specs.Play.{plays_on}
-use Rattle.af_tools.proofs.EndLemmas.{never}
 use Rattle.af_tools.proofs.PlayTailLemmas.{early_fault, early_within, first_known, first_unfilled, tail_named}
 use Rattle.af_tools.proofs.SourceCountLemmas.{given_none, given_within, takes_end, takes_fault, takes_first, takes_link, takes_some, takes_value, takes_within}
 use Rattle.af_tools.proofs.player.play_on.Goals as goal

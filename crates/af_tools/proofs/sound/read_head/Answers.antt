@@ -41,35 +41,27 @@ returns-in-Head-clause-read g c =
     let i = c.loop-size.invariant in
     let r = i.read in
     let more = byte_read c.in-Bytes.field-0 c.read.new.into (g.S.Source.left c.loop-size.source) (g.S.Source.left c.read.new.self) (search rules) c.in-Bytes.ensures.bound.0 c.in-Bytes.ensures.consumed in
-    let few = c.if-size-eq-MOST_BYTES.false in
-    let most = i.permitted in
-    read_head r more c.in-Head.head (omega arith) ((c.in-Head.ensures.head c.args.form r.bytes c.in-Head.head r.taken).0 refl)
+    read_head r more c.in-Head.head (omega (arith, c.if-size-eq-MOST_BYTES.false, i.permitted)) ((c.in-Head.ensures.head c.args.form r.bytes c.in-Head.head r.taken).0 refl)
 
 pub returns-in-Head-clause-takes : goal.returns-in-Head-clause-takes
 returns-in-Head-clause-takes g c =
     let i = c.loop-size.invariant in
     let more = byte_read c.in-Bytes.field-0 c.read.new.into (g.S.Source.left c.loop-size.source) (g.S.Source.left c.read.new.self) (search rules) c.in-Bytes.ensures.bound.0 c.in-Bytes.ensures.consumed in
-    let few = c.if-size-eq-MOST_BYTES.false in
-    let most = i.permitted in
-    takes_head i.read more (omega arith)
+    takes_head i.read more (omega (arith, c.if-size-eq-MOST_BYTES.false, i.permitted))
 
 pub returns-in-Bad-clause-brings : goal.returns-in-Bad-clause-brings
 returns-in-Bad-clause-brings g c bytes told tells =
     let i = c.loop-size.invariant in
     let r = i.read in
     let more = byte_read c.in-Bytes.field-0 c.read.new.into (g.S.Source.left c.loop-size.source) (g.S.Source.left c.read.new.self) (search rules) c.in-Bytes.ensures.bound.0 c.in-Bytes.ensures.consumed in
-    let few = c.if-size-eq-MOST_BYTES.false in
-    let most = i.permitted in
-    read_bad r more c.in-Bad.fault (omega arith) ((c.in-Bad.ensures.bad c.args.form r.bytes c.in-Bad.fault r.taken).0 refl) bytes told tells
+    read_bad r more c.in-Bad.fault (omega (arith, c.if-size-eq-MOST_BYTES.false, i.permitted)) ((c.in-Bad.ensures.bad c.args.form r.bytes c.in-Bad.fault r.taken).0 refl) bytes told tells
 
 pub returns-in-Bad-clause-takes : goal.returns-in-Bad-clause-takes
 returns-in-Bad-clause-takes g c =
     let i = c.loop-size.invariant in
     let r = i.read in
     let more = byte_read c.in-Bytes.field-0 c.read.new.into (g.S.Source.left c.loop-size.source) (g.S.Source.left c.read.new.self) (search rules) c.in-Bytes.ensures.bound.0 c.in-Bytes.ensures.consumed in
-    let few = c.if-size-eq-MOST_BYTES.false in
-    let most = i.permitted in
-    takes_bad r more c.in-Bad.fault (omega arith) ((c.in-Bad.ensures.bad c.args.form r.bytes c.in-Bad.fault r.taken).0 refl)
+    takes_bad r more c.in-Bad.fault (omega (arith, c.if-size-eq-MOST_BYTES.false, i.permitted)) ((c.in-Bad.ensures.bad c.args.form r.bytes c.in-Bad.fault r.taken).0 refl)
 
 pub loop-size-preserved : goal.loop-size-preserved
 loop-size-preserved g c =

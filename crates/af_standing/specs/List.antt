@@ -77,7 +77,8 @@ HasLines number (device ∷ more) text =
     (controls_report : ControlsReport) × (now : ℕ) × (rest : List ℕ) × (is_some controls_report.phone ≡ device.line)
     × (text ≡ device_line number device controls_report now ++ rest) × HasLines (number + 1) more rest
 
--- list ran: it followed its trace; if it is done, it wrote a line for each device, and it is if each request gets its reply.
+-- list ran, and followed its trace. If it is done, it wrote a line for each device. If each request gets its reply, it is done,
+-- unless something from outside ended it.
 pub record ListRan (devices : List DeviceInfo) (w : ClientState) (how : ToolEnd)
     (sent sent' held held' : Option (List ℕ)) : Type 0 where
   pub followed : ObservedTrace (list_trace devices w) how sent sent' held held'

@@ -19,7 +19,8 @@ is_outer end.SinkFault = true
 is_outer end.OutOfMemory = true
 is_outer _ = false
 
--- A tool ended, and sent and wrote all of its trace and ends as that does, or prefixes if something from outside ended it.
+-- A tool ended, and sent and wrote this: all that its trace has, and it ends as the trace does; or prefixes of that, if something
+-- from outside ended it.
 pub record MatchesTrace (trace : Trace) (how : ToolEnd) (sends output : List ℕ) : Type 0 where
   pub unsent : List ℕ
   pub unwritten : List ℕ
@@ -68,7 +69,8 @@ is_of_report end.Done = true
 is_of_report end.SinkFault = true
 is_of_report _ = false
 
--- A tool ends for a reply exactly where a request is answered so, unless something from outside has ended it.
+-- If a request is answered with a fault, the tool ends with that, unless something from outside ended it. It ends so in no other
+-- case.
 pub record EndsByReply (trace : Trace) (how : ToolEnd) : Type 0 where
   pub only : (fault : ConnFault) → is_of_reply (fault_end fault) ≡ true → how ≡ fault_end fault → trace.finish ≡ refused fault
   pub always : (fault : ConnFault) → trace.finish ≡ refused fault → (how ≡ fault_end fault) ⊎ (is_outer how ≡ true)

@@ -57,14 +57,15 @@ pub fn tell_late(rt: &impl Eprint, late: Lost) {
 
 /// Tells that a greater value of an option helps against that, and which one would have been enough.
 pub fn tell_greater(rt: &impl Eprint, option: &str, millis: u32, enough: Option<u64>) {
+    let was = Counted(u64::from(millis), "millisecond");
     match enough {
         Some(enough) => {
             let _ = eprintln!(rt;
-                "af: a greater --{option} helps; it was {millis} milliseconds, and {enough} would have been enough"
+                "af: a greater --{option} helps; it was {was}, and {enough} would have been enough"
             );
         }
         None => {
-            let _ = eprintln!(rt; "af: a greater --{option} helps; it was {millis} milliseconds");
+            let _ = eprintln!(rt; "af: a greater --{option} helps; it was {was}");
         }
     }
 }

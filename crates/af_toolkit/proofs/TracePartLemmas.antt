@@ -1,4 +1,4 @@
--- Parts of a tool, one after the other, and how a tool follows its trace by them. What is said of them says which parts are meant.
+-- Parts of a tool, one after the other, and how a tool follows its trace by them. The statements tell which parts are meant.
 use Rattle.std.proofs.Common.{◌≡◌, ◌≢◌, ℕ, true, false, List, [], ◌++◌, sym, ap, ap₂, ◌∙◌, subst, append_assoc, append-nil, refl, arith}
 use Rattle.std.specs.Prelude.{Result, Ok, Err}
 use Rattle.std.specs.declared.option.Option.{Option}

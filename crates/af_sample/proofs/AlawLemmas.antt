@@ -1,5 +1,5 @@
 -- A-law: the list of interval starts is what the code's shifts make, with a table and by lines.
-use Rattle.std.proofs.Common.{◌≡◌, ◌<◌, ◌≤◌, ◌+◌, ◌-◌, ◌*◌, ◌/◌, ◌%◌, ◌^◌, ◌&&◌, ◌||◌, ◌⊎◌, inl, inr, ℕ, zero, suc, Bool, true, false, nat_eq, nat_lt, nat_le, length, slice_index, bit_and, bit_or, bit_xor, refl, sym, ap, ◌∙◌, subst, arith, max, ℤ, pos, negsuc, nat_abs, to_z, of_z}
+use Rattle.std.proofs.Common.{◌≡◌, ◌<◌, ◌≤◌, ◌+◌, ◌-◌, ◌*◌, ◌/◌, ◌%◌, ◌^◌, ◌&&◌, ◌||◌, ◌⊎◌, inl, inr, ℕ, zero, suc, Bool, true, false, nat_eq, nat_lt, nat_le, slice_index, slice_index_or, bit_and, bit_or, bit_xor, refl, sym, ap, ◌∙◌, arith, max, ℤ, pos, negsuc, nat_abs, to_z, of_z}
 use Rattle.std.specs.Int.{w16, int_max}
 use Rattle.std.specs.Prelude.{FitsSigned}
 use Rattle.std.specs.Int.Count.{count_leading_zeros}
@@ -8,9 +8,10 @@ use Rattle.std.proofs.lemmas.Bool.{and_parts, or_cases, eqb-true, ltb-true, leb-
 use Rattle.std.proofs.lemmas.Nat.{leading_length}
 use Rattle.std.proofs.Math.Pow.{pow_mono}
 use lib.Signed.{lt_z}
-use Rattle.af_sample.specs.G711.{alaw_starts, interval_of, to_alaw}
-use Rattle.af_sample.proofs.TableLemmas.{all_from, entry_passes}
-use Rattle.af_sample.proofs.IntervalLemmas.{rises, interval_is}
+use Rattle.af_sample.specs.declared.alaw.TheConstants.{SAMPLES}
+use Rattle.af_sample.specs.G711.{alaw_samples, alaw_starts, from_alaw, interval_of, to_alaw}
+use Rattle.af_sample.proofs.TableLemmas.{read, read_entry}
+use Rattle.af_sample.proofs.IntervalLemmas.{IsStartTable, interval_in, start_passes}
 use Rattle.af_sample.proofs.SegmentLemmas.{InSegment, segment_of, place, code, joined, from, to}
 use Rattle.af_sample.proofs.LineLemmas.{line, least, least-zero, least_to, least_is}
 
@@ -18,23 +19,14 @@ use Rattle.af_sample.proofs.LineLemmas.{line, least, least-zero, least_to, least
 abbrev is_start : ℕ → ℕ → Bool
 is_start p start = (nat_lt p 16 && nat_eq start (p * 16)) || (nat_le 16 p && nat_eq start ((16 + p % 16) * 2 ^ (p / 16 + 3)))
 
-up : rises 0 alaw_starts ≡ true
+table : IsStartTable is_start alaw_starts
 unfolding alaw_starts
-up = refl
-
-long : length alaw_starts ≡ 128
-unfolding alaw_starts
-long = refl
-
-passes : all_from is_start 0 alaw_starts ≡ true
-unfolding alaw_starts
-passes = refl
+table = record { up = refl; long = refl; each = refl }
 
 start_is : (p : ℕ) → p < 128 → ((p < 16) × (slice_index alaw_starts p ≡ p * 16)) ⊎ ((16 ≤ p) × (slice_index alaw_starts p ≡ (16 + p % 16) * 2 ^ (p / 16 + 3)))
 start_is p low =
-    let place : p ≡ p + 0 = omega arith in
     let start : ℕ = slice_index alaw_starts p in
-    let here : is_start p start ≡ true = ap (λ i. is_start i start) place ∙ entry_passes is_start 0 alaw_starts p passes (subst (λ n. p < n) (sym long) low) in
+    let here : is_start p start ≡ true = start_passes is_start alaw_starts table p low in
     elim (or_cases (nat_lt p 16 && nat_eq start (p * 16)) (nat_le 16 p && nat_eq start ((16 + p % 16) * 2 ^ (p / 16 + 3))) here) [
       | inl e ↦
           let parts = and_parts (nat_lt p 16) (nat_eq start (p * 16)) e in
@@ -62,7 +54,7 @@ start_of p e m small same low high =
 first_segment : (m : ℕ) → m < 256 → interval_of alaw_starts m ≡ m / 16
 first_segment m low =
     let here = first_start (m / 16) (omega arith) in
-    interval_is alaw_starts m (m / 16) up (subst (λ n. m / 16 < n) (sym long) (omega arith)) (omega arith)
+    interval_in is_start alaw_starts table m (m / 16) (omega arith) (omega arith)
     (λ more. elim (cases_lt (suc (m / 16)) 16) [
       | inl inside ↦ let next = first_start (suc (m / 16)) inside in omega arith
       | inr last ↦
@@ -82,9 +74,9 @@ other_segment m e high seg =
     let few : e ≤ 7 = seg.few in
     let some : 1 ≤ e = not_first m e high seg in
     let none : m ≡ m + 0 = omega arith in
-    interval_is alaw_starts m (place m e) up (subst (λ n. place m e < n) (sym long) (omega arith))
+    interval_in is_start alaw_starts table m (place m e) (omega arith)
     (from alaw_starts 0 16 start_of m m e none seg (omega arith))
-    (λ more. to alaw_starts 0 16 start_of m m e none seg (omega arith) (subst (λ n. suc (place m e) < n) long more))
+    (λ more. to alaw_starts 0 16 start_of m m e none seg (omega arith) more)
 
 pub zeros_many : (m : ℕ) → m < 256 → 8 ≤ count_leading_zeros 16 m
 zeros_many m low =
@@ -188,3 +180,8 @@ pub larger_of_positive : (x r : ℤ) → FitsSigned w16 x → lt_z (to_z w16 (of
 larger_of_positive x r fits above same =
     let larger : r ≡ to_z w16 (of_z w16 x) = grind (arith, ints) in
     grind (arith, ints)
+
+-- the sample of a byte
+pub sample_is : (byte : ℕ) → byte < 256 → read (slice_index_or SAMPLES byte (pos 0)) ≡ from_alaw byte
+unfolding alaw_samples
+sample_is byte low = read_entry SAMPLES alaw_samples byte refl low

@@ -1,5 +1,5 @@
 -- What is heard, and what is recorded, as more is accepted and captured.
-use Rattle.std.proofs.Common.{◌≡◌, ◌<◌, ◌≤◌, ◌+◌, ◌-◌, ◌*◌, ◌&&◌, inl, inr, ℕ, suc, ℤ, pos, negsuc, Bool, true, false, cond, nat_le, nat_lt, List, [], ◌∷◌, ◌++◌, length, slice_index_or, refl, sym, ap, ◌∙◌, arith}
+use Rattle.std.proofs.Common.{◌≡◌, ◌<◌, ◌≤◌, ◌+◌, ◌-◌, ◌*◌, ◌&&◌, inl, inr, ℕ, suc, ℤ, pos, negsuc, Bool, true, false, cond, nat_le, nat_lt, List, [], ◌∷◌, ◌++◌, length, map, slice_index_or, refl, sym, ap, ◌∙◌, arith}
 use Rattle.std.specs.List.{fold, All}
 use Rattle.std.proofs.lemmas.Bool.{cases_lt, le-leb, lt-leb, lt-ltb}
 use Rattle.std.proofs.lemmas.List.{get_or_append_left}
@@ -36,33 +36,23 @@ heard_sample-append channels accepted more t channel late =
 abbrev play : ℤ → Bool → AcceptedPlay
 play x preempt = record { start = 2; samples = x ∷ []; preempt = preempt; at = 0 }
 
-mixed_third : heard_sample 1 (play (pos 30000) false ∷ play (pos 10000) false ∷ play (negsuc 19999) false ∷ []) 2 0 ≡ pos 12767
-unfolding heard_sample
-mixed_third = refl
+third_heard : Bool → ℤ
+third_heard preempt = heard_sample 1 (play (pos 30000) false ∷ play (pos 10000) false ∷ play (negsuc 19999) preempt ∷ []) 2 0
 
-preempting_third : heard_sample 1 (play (pos 30000) false ∷ play (pos 10000) false ∷ play (negsuc 19999) true ∷ []) 2 0 ≡ negsuc 19999
-unfolding heard_sample
-preempting_third = refl
+mixed_or_preempting : map third_heard (false ∷ true ∷ []) ≡ pos 12767 ∷ negsuc 19999 ∷ []
+unfolding heard_sample third_heard
+mixed_or_preempting = refl
 
 -- two frames of two channels: each channel hears its own samples, and after the frames there is none
 abbrev play_of_two : AcceptedPlay
 play_of_two = record { start = 2; samples = pos 5 ∷ negsuc 6 ∷ pos 7 ∷ pos 0 ∷ []; preempt = false; at = 0 }
 
-left_of_first : heard_sample 2 (play_of_two ∷ []) 2 0 ≡ pos 5
-unfolding heard_sample
-left_of_first = refl
+heard_at : ℕ → List ℤ
+heard_at t = map (heard_sample 2 (play_of_two ∷ []) t) (0 ∷ 1 ∷ [])
 
-right_of_first : heard_sample 2 (play_of_two ∷ []) 2 1 ≡ negsuc 6
-unfolding heard_sample
-right_of_first = refl
-
-left_of_second : heard_sample 2 (play_of_two ∷ []) 3 0 ≡ pos 7
-unfolding heard_sample
-left_of_second = refl
-
-past_both : heard_sample 2 (play_of_two ∷ []) 4 0 ≡ pos 0
-unfolding heard_sample
-past_both = refl
+heard_of_two : map heard_at (2 ∷ 3 ∷ 4 ∷ []) ≡ (pos 5 ∷ negsuc 6 ∷ []) ∷ (pos 7 ∷ pos 0 ∷ []) ∷ (pos 0 ∷ pos 0 ∷ []) ∷ []
+unfolding heard_sample heard_at
+heard_of_two = refl
 
 -- a time of the window, and one before the begin
 pub recorded_within : (channels : ℕ) (captured : List ℤ) (begin now horizon t channel : ℕ) → now ≤ t + horizon → t < now → begin ≤ t →

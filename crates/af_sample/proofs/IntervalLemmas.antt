@@ -5,6 +5,7 @@ use Rattle.std.specs.List.{count_by}
 use Rattle.std.proofs.lemmas.Bool.{and_parts, leb-true, le-leb, lt-leb}
 use Rattle.std.proofs.lemmas.List.Sums.{sum_by-cons}
 use Rattle.af_sample.specs.G711.{interval_of}
+use Rattle.af_sample.proofs.TableLemmas.{all_from, entry_passes}
 
 -- each element is at least the one before it, and the first at least a limit
 abbrev pub rises : ℕ → List ℕ → Bool
@@ -58,3 +59,21 @@ reached_at m low (x ∷ xs) (suc k) up there from to =
 
 pub interval_is : (starts : List ℕ) (m k : ℕ) → rises 0 starts ≡ true → k < length starts → slice_index starts k ≤ m → (suc k < length starts → m < slice_index starts (suc k)) → interval_of starts m ≡ k
 interval_is starts m k up there from to = ap (λ n. n - 1) (reached_at m 0 starts k up there from to) ∙ (let e : suc k - 1 ≡ k = omega arith in e)
+
+-- a table of 128 starts: they rise, and each passes a test of its place and itself
+pub record IsStartTable (passes : ℕ → ℕ → Bool) (starts : List ℕ) : Type 0 where
+  pub up : rises 0 starts ≡ true
+  pub long : length starts ≡ 128
+  pub each : all_from passes 0 starts ≡ true
+
+module _ (passes : ℕ → ℕ → Bool) (starts : List ℕ) (table : IsStartTable passes starts) where
+  long : length starts ≡ 128
+  long = table.long
+
+  pub start_passes : (k : ℕ) → k < 128 → passes k (slice_index starts k) ≡ true
+  start_passes k low =
+      ap (λ n. passes n (slice_index starts k)) (let place : k ≡ k + 0 = omega arith in place)
+      ∙ entry_passes passes 0 starts k table.each (omega (arith, long))
+
+  pub interval_in : (m k : ℕ) → k < 128 → slice_index starts k ≤ m → (suc k < 128 → m < slice_index starts (suc k)) → interval_of starts m ≡ k
+  interval_in m k low from to = interval_is starts m k table.up (omega (arith, long)) from (λ more. to (omega (arith, long)))

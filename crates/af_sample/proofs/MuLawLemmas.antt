@@ -1,13 +1,14 @@
 -- Mu-law: the list of decision values is what the code's shifts make, with a table and by lines.
-use Rattle.std.proofs.Common.{◌≡◌, ◌<◌, ◌≤◌, ◌+◌, ◌-◌, ◌*◌, ◌/◌, ◌%◌, ◌^◌, ◌&&◌, ◌||◌, ◌⊎◌, inl, inr, ℕ, suc, Bool, true, nat_eq, length, slice_index, refl, sym, ap, ◌∙◌, subst, arith, min, ℤ, pos, negsuc, nat_abs, to_z, of_z, false}
+use Rattle.std.proofs.Common.{◌≡◌, ◌<◌, ◌≤◌, ◌+◌, ◌-◌, ◌*◌, ◌/◌, ◌%◌, ◌^◌, ◌&&◌, ◌||◌, ◌⊎◌, inl, inr, ℕ, Bool, true, nat_eq, slice_index, slice_index_or, refl, sym, ap, ◌∙◌, arith, min, ℤ, pos, negsuc, nat_abs, false}
 use Rattle.std.specs.Int.{w16}
 use Rattle.std.specs.Prelude.{FitsSigned}
 use Rattle.std.proofs.lemmas.Int.{to_z-of_z}
 use lib.Signed.{lt_z}
 use Rattle.std.proofs.lemmas.Bool.{and_parts, or_cases, eqb-true, cases_lt, ltb-true, true≢false}
-use Rattle.af_sample.specs.G711.{mu_law_starts, mu_law_decisions, interval_of, to_mu_law}
-use Rattle.af_sample.proofs.TableLemmas.{all_from, entry_passes}
-use Rattle.af_sample.proofs.IntervalLemmas.{rises, interval_is}
+use Rattle.af_sample.specs.declared.mu_law.TheConstants.{SAMPLES}
+use Rattle.af_sample.specs.G711.{from_mu_law, mu_law_starts, mu_law_decisions, mu_law_samples, interval_of, to_mu_law}
+use Rattle.af_sample.proofs.TableLemmas.{read, read_entry}
+use Rattle.af_sample.proofs.IntervalLemmas.{IsStartTable, interval_in, interval_is, start_passes}
 use Rattle.af_sample.proofs.SegmentLemmas.{InSegment, segment_of, place, code, code_is, from, to}
 use Rattle.af_sample.proofs.LineLemmas.{line, least, least_is}
 
@@ -15,17 +16,9 @@ use Rattle.af_sample.proofs.LineLemmas.{line, least, least_is}
 abbrev is_start : ℕ → ℕ → Bool
 is_start p start = nat_eq (start + 132) ((16 + p % 16) * 2 ^ (p / 16 + 3)) || (nat_eq p 0 && nat_eq start 0)
 
-up : rises 0 mu_law_starts ≡ true
+table : IsStartTable is_start mu_law_starts
 unfolding mu_law_decisions
-up = refl
-
-long : length mu_law_starts ≡ 128
-unfolding mu_law_decisions
-long = refl
-
-passes : all_from is_start 0 mu_law_starts ≡ true
-unfolding mu_law_decisions
-passes = refl
+table = record { up = refl; long = refl; each = refl }
 
 start_zero : slice_index mu_law_starts 0 ≡ 0
 unfolding mu_law_decisions
@@ -33,9 +26,8 @@ start_zero = refl
 
 start_is : (p : ℕ) → p < 128 → (slice_index mu_law_starts p + 132 ≡ (16 + p % 16) * 2 ^ (p / 16 + 3)) ⊎ ((p ≡ 0) × (slice_index mu_law_starts p ≡ 0))
 start_is p low =
-    let place : p ≡ p + 0 = omega arith in
     let start : ℕ = slice_index mu_law_starts p in
-    let here : is_start p start ≡ true = ap (λ i. is_start i start) place ∙ entry_passes is_start 0 mu_law_starts p passes (subst (λ n. p < n) (sym long) low) in
+    let here : is_start p start ≡ true = start_passes is_start mu_law_starts table p low in
     elim (or_cases (nat_eq (start + 132) ((16 + p % 16) * 2 ^ (p / 16 + 3))) (nat_eq p 0 && nat_eq start 0) here) [
       | inl e ↦ inl (eqb-true (start + 132) ((16 + p % 16) * 2 ^ (p / 16 + 3)) e)
       | inr e ↦
@@ -68,9 +60,8 @@ start_at m a e biased seg =
 pub place_is : (m a e : ℕ) → a ≡ m + 132 → InSegment a e → place a e ≡ interval_of mu_law_starts m
 place_is m a e biased seg =
     let few : e ≤ 7 = seg.few in
-    let low : place a e < 128 = omega arith in
-    sym (interval_is mu_law_starts m (place a e) up (subst (λ n. place a e < n) (sym long) low) (start_at m a e biased seg)
-    (λ more. to mu_law_starts 132 1 start_of m a e biased seg (omega arith) (subst (λ n. suc (place a e) < n) long more)))
+    sym (interval_in is_start mu_law_starts table m (place a e) (omega arith) (start_at m a e biased seg)
+    (λ more. to mu_law_starts 132 1 start_of m a e biased seg (omega arith) more))
 
 -- every magnitude from the last start on is in the last interval
 last_interval : (m : ℕ) → 31612 ≤ m → interval_of mu_law_starts m ≡ 127
@@ -119,15 +110,21 @@ positive : (x : ℤ) (k : ℕ) → lt_z x (pos 0) ≡ false → k ≡ interval_o
 positive (pos n) k above same = ap (λ i. 255 - i) same
 positive (negsuc n) k above same = absurd (true≢false above)
 
-module _ (x : ℤ) (fits : FitsSigned w16 x) (m k : ℕ) (magnitude : m ≡ nat_abs (to_z w16 (of_z w16 x))) (interval : k ≡ interval_of mu_law_starts m) where
-  back : to_z w16 (of_z w16 x) ≡ x
-  back = to_z-of_z w16 x fits
+-- a sample, as the code reads it, is itself
+back : (x : ℤ) → FitsSigned w16 x → read x ≡ x
+back x fits = to_z-of_z w16 x fits
 
-  whole : k ≡ interval_of mu_law_starts (nat_abs x)
-  whole = interval ∙ ap (interval_of mu_law_starts) (magnitude ∙ ap nat_abs back)
+pub negative_byte : (x : ℤ) (k : ℕ) → FitsSigned w16 x → k ≡ interval_of mu_law_starts (nat_abs x) → lt_z (read x) (pos 0) ≡ true → 127 - k ≡ to_mu_law x
+negative_byte x k fits interval below = negative x k (ap (λ z. lt_z z (pos 0)) (sym (back x fits)) ∙ below) interval
 
-  pub negative_byte : lt_z (to_z w16 (of_z w16 x)) (pos 0) ≡ true → 127 - k ≡ to_mu_law x
-  negative_byte below = negative x k (ap (λ z. lt_z z (pos 0)) (sym back) ∙ below) whole
+pub positive_byte : (x : ℤ) (k : ℕ) → FitsSigned w16 x → k ≡ interval_of mu_law_starts (nat_abs x) → lt_z (read x) (pos 0) ≡ false → 255 - k ≡ to_mu_law x
+positive_byte x k fits interval above = positive x k (ap (λ z. lt_z z (pos 0)) (sym (back x fits)) ∙ above) interval
 
-  pub positive_byte : lt_z (to_z w16 (of_z w16 x)) (pos 0) ≡ false → 255 - k ≡ to_mu_law x
-  positive_byte above = positive x k (ap (λ z. lt_z z (pos 0)) (sym back) ∙ above) whole
+-- the interval of a sample's magnitude
+pub sample_interval : (x : ℤ) (m k : ℕ) → FitsSigned w16 x → m ≡ nat_abs (read x) → k ≡ interval_of mu_law_starts m → k ≡ interval_of mu_law_starts (nat_abs x)
+sample_interval x m k fits magnitude interval = interval ∙ ap (interval_of mu_law_starts) (magnitude ∙ ap nat_abs (back x fits))
+
+-- the sample of a byte
+pub sample_is : (byte : ℕ) → byte < 256 → read (slice_index_or SAMPLES byte (pos 0)) ≡ from_mu_law byte
+unfolding mu_law_samples
+sample_is byte low = read_entry SAMPLES mu_law_samples byte refl low

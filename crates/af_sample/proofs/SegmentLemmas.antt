@@ -1,9 +1,10 @@
 -- A number of 7 to 15 bits, by its highest bit: the segment, and the steps of the segment.
-use Rattle.std.proofs.Common.{◌≡◌, ◌<◌, ◌≤◌, ◌+◌, ◌-◌, ◌*◌, ◌/◌, ◌%◌, ◌^◌, inl, inr, ℕ, suc, List, slice_index, bit_and, bit_or, refl, sym, ap, ◌∙◌, arith, rules}
-use Rattle.std.specs.Int.Count.{count_leading_zeros, leading_unique}
+use Rattle.std.proofs.Common.{◌≡◌, ◌<◌, ◌≤◌, ◌+◌, ◌-◌, ◌*◌, ◌/◌, ◌%◌, ◌^◌, inl, inr, ℕ, suc, List, slice_index, bit_and, bit_or, refl, ap, ◌∙◌, arith, rules}
+use Rattle.std.specs.Int.Count.{count_leading_zeros}
 use Rattle.std.proofs.lemmas.Bool.{cases_lt}
-use Rattle.std.proofs.Math.Nat.{pow-suc}
-use Rattle.std.proofs.lemmas.Nat.{and_mask, or_shifted}
+use Rattle.std.proofs.Math.Nat.{div-lt_iff_lt-mul, div-mul-le_self, le-div_iff_mul-le, pow-suc}
+use Rattle.std.proofs.Math.Pow.{pow_mono}
+use Rattle.std.proofs.lemmas.Nat.{and_mask, leading_length, or_shifted, pow-add, pow_pos}
 
 -- a is 16 to 31 steps of its segment, and a part of a step
 pub record InSegment (a segment : ℕ) : Type 0 where
@@ -14,42 +15,31 @@ pub record InSegment (a segment : ℕ) : Type 0 where
   pub from : a / 2 ^ (segment + 3) * 2 ^ (segment + 3) ≤ a
   pub to : a < a / 2 ^ (segment + 3) * 2 ^ (segment + 3) + 2 ^ (segment + 3)
 
+-- a number of n bits has n - 8 as its segment: its highest bit is worth 16 steps
+in_segment : (a n : ℕ) → count_leading_zeros 16 a + n ≡ 16 → a < 2 ^ n → 2 ^ n ≤ 2 * a + 1 → 8 ≤ n → n ≤ 15 → InSegment a (n - 8)
+in_segment a n zeros below above least most =
+    let d : ℕ = 2 ^ (n - 8 + 3) in
+    let some : 0 < d = pow_pos (n - 8 + 3) in
+    let whole : 2 ^ n ≡ d * 32 = ap (λ k. 2 ^ k) (let e : n ≡ n - 8 + 3 + 5 = omega arith in e) ∙ pow-add 2 (n - 8 + 3) 5 in
+    record {
+      few = omega arith;
+      zeros = omega arith;
+      least = (le-div_iff_mul-le {k = d} {x = 16} {y = a} some).1 (omega arith);
+      most = (div-lt_iff_lt-mul {k = d} {x = a} {y = 32} some).1 (omega arith);
+      from = div-mul-le_self a d;
+      to = omega arith;
+    }
+
 -- each number of so many bits has its segment
 pub segment_of : (a : ℕ) → 128 ≤ a → a < 32768 → (segment : ℕ) × InSegment a segment
 segment_of a low high =
-    elim (cases_lt a 256) [
-      | inl h ↦ (0, record { few = omega arith; zeros = sym (leading_unique 16 a 8 8 refl h (omega arith)); least = omega arith; most = omega arith; from = omega arith; to = omega arith })
-      | inr h ↦
-          elim (cases_lt a 512) [
-            | inl h' ↦ (1, record { few = omega arith; zeros = sym (leading_unique 16 a 7 9 refl h' (omega arith)); least = omega arith; most = omega arith; from = omega arith; to = omega arith })
-            | inr h' ↦
-                elim (cases_lt a 1024) [
-                  | inl h'' ↦ (2, record { few = omega arith; zeros = sym (leading_unique 16 a 6 10 refl h'' (omega arith)); least = omega arith; most = omega arith; from = omega arith; to = omega arith })
-                  | inr h'' ↦
-                      segment_above a h'' high
-                ]
-          ]
-    ]
-  where
-    segment_above : (a : ℕ) → 1024 ≤ a → a < 32768 → (segment : ℕ) × InSegment a segment
-    segment_above a low high =
-        elim (cases_lt a 2048) [
-          | inl h ↦ (3, record { few = omega arith; zeros = sym (leading_unique 16 a 5 11 refl h (omega arith)); least = omega arith; most = omega arith; from = omega arith; to = omega arith })
-          | inr h ↦
-              elim (cases_lt a 4096) [
-                | inl h' ↦ (4, record { few = omega arith; zeros = sym (leading_unique 16 a 4 12 refl h' (omega arith)); least = omega arith; most = omega arith; from = omega arith; to = omega arith })
-                | inr h' ↦
-                    elim (cases_lt a 8192) [
-                      | inl h'' ↦ (5, record { few = omega arith; zeros = sym (leading_unique 16 a 3 13 refl h'' (omega arith)); least = omega arith; most = omega arith; from = omega arith; to = omega arith })
-                      | inr h'' ↦
-                          elim (cases_lt a 16384) [
-                            | inl h''' ↦ (6, record { few = omega arith; zeros = sym (leading_unique 16 a 2 14 refl h''' (omega arith)); least = omega arith; most = omega arith; from = omega arith; to = omega arith })
-                            | inr h''' ↦
-                                (7, record { few = omega arith; zeros = sym (leading_unique 16 a 1 15 refl high (omega arith)); least = omega arith; most = omega arith; from = omega arith; to = omega arith })
-                          ]
-                    ]
-              ]
-        ]
+    let top = leading_length 16 a (omega arith) in
+    let n : ℕ = top.0 in
+    let below : a < 2 ^ n = top.2 in
+    let above : 2 ^ n ≤ 2 * a + 1 = top.3 in
+    let least : 8 ≤ n = elim (cases_lt n 8) [ inl few ↦ absurd (let p : 2 ^ n ≤ 2 ^ 7 = pow_mono {i = n} {j = 7} (omega arith) in omega arith) | inr enough ↦ enough ] in
+    let most : n ≤ 15 = elim (cases_lt 15 n) [ inl many ↦ absurd (let p : 2 ^ 16 ≤ 2 ^ n = pow_mono {i = 16} {j = n} (omega arith) in omega arith) | inr few ↦ few ] in
+    (n - 8, in_segment a n top.1 below above least most)
 
 -- the bits of a segment and of a step, side by side
 pub joined : (segment step : ℕ) → segment ≤ 7 → bit_or (segment * 16 % 256) (bit_and step 15) ≡ segment * 16 + step % 16

@@ -30,6 +30,7 @@ static SAMPLES: [i16; 256] = [
 ];
 
 /// The sample of an A-law byte.
+#[tactic(auto, using(crate::proofs::AlawLemmas::sample_is))]
 pub(crate) fn expanded(byte: u8) -> i16
     ensures { result ≡ from_alaw byte }
 {

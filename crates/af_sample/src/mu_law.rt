@@ -1,5 +1,5 @@
 // Mu-law: a sample in one byte, by ITU-T G.711.
-ghost use Rattle.std.specs.Prelude.{◌≡◌, ◌<◌};
+ghost use Rattle.std.specs.Prelude.{◌≡◌, ◌<◌, nat_abs};
 ghost use Rattle.af_sample.specs.G711.{from_mu_law, interval_of, mu_law_starts, to_mu_law};
 
 use crate::segment::segment_of;
@@ -32,6 +32,7 @@ static SAMPLES: [i16; 256] = [
 ];
 
 /// The sample of a mu-law byte.
+#[tactic(auto, using(crate::proofs::MuLawLemmas::sample_is))]
 pub(crate) fn expanded(byte: u8) -> i16
     ensures { result ≡ from_mu_law byte }
 {
@@ -49,16 +50,26 @@ fn interval(magnitude: u16) -> u8
     segment << 4 | step as u8
 }
 
-/// The mu-law byte of a sample.
-pub(crate) fn compressed(x: i16) -> u8
+// The byte of a sample whose magnitude is in this interval: all bits are inverted, and the first is the sign.
+#[inline(always)]
+fn byte_of(x: i16, interval: u8) -> u8
+    requires value { interval ≡ interval_of mu_law_starts (nat_abs x) }
+    requires range { interval < 128 }
     ensures { result ≡ to_mu_law x }
 {
-    let interval = interval(x.unsigned_abs());
     if x < 0 {
         0x7F - interval
     } else {
         0xFF - interval
     }
+}
+
+/// The mu-law byte of a sample.
+#[tactic(auto, using(crate::proofs::MuLawLemmas::sample_interval))]
+pub(crate) fn compressed(x: i16) -> u8
+    ensures { result ≡ to_mu_law x }
+{
+    byte_of(x, interval(x.unsigned_abs()))
 }
 
 // The interval of a magnitude, 0..127, without a table: so the compiler encodes several samples of a run at once. Each segment is
@@ -83,13 +94,9 @@ fn interval_by_lines(magnitude: u16) -> u8
 
 /// The mu-law byte of a sample of a run.
 #[inline(always)]
+#[tactic(auto, using(crate::proofs::MuLawLemmas::sample_interval))]
 pub(crate) fn compressed_in_run(x: i16) -> u8
     ensures { result ≡ to_mu_law x }
 {
-    let interval = interval_by_lines(x.unsigned_abs());
-    if x < 0 {
-        0x7F - interval
-    } else {
-        0xFF - interval
-    }
+    byte_of(x, interval_by_lines(x.unsigned_abs()))
 }

@@ -10,6 +10,7 @@ use Rattle.std.proofs.lemmas.Option.{slice_get-get_or}
 use Rattle.std.proofs.Math.Seq.{map-set_same, take-append_seam}
 use Rattle.std.proofs.Math.ListN.{length-set}
 use Rattle.std.specs.Option.{ok_or, option_or}
+use Rattle.af_limits.proofs.ListLemmas.{keep_others}
 use Rattle.af_context.specs.declared.Context.{Context}
 use Rattle.af_context.specs.declared.ContextFault.TheVariants.{BadAc}
 use Rattle.af_context.specs.Contexts.{context_of, is_in_use, with_changed, without_context, AreContexts, IsPlaceOf}
@@ -91,13 +92,6 @@ head_apart x xs h = λ k d low. h 0 (suc k) d (omega arith) (omega arith)
 tail_pairs : (x : Context) (xs : List Context) → AllPairs (λ a b. a.ac ≢ b.ac) (x ∷ xs) → AllPairs (λ a b. a.ac ≢ b.ac) xs
 tail_pairs x xs h = λ i j d below low. h (suc i) (suc j) d (omega arith) (omega arith)
 
-keep_others : (xs : List Context) (ac : ℕ) → All (λ c. ac ≢ c.ac) xs → without_context xs ac ≡ xs
-keep_others [] ac h = refl
-keep_others (x ∷ xs) ac h =
-    let other : (x.ac == ac) ≡ false = let ne = h 0 x (omega arith) in grind (arith, nat_tests) in
-    let rest = keep_others xs ac (λ k d low. h (suc k) d (omega arith)) in
-    ap (λ b. cond (not b) (x ∷ without_context xs ac) (without_context xs ac)) other ∙ ap (λ l. x ∷ l) rest
-
 leave_others : (xs : List Context) (ac : ℕ) (change : Context → Context) → All (λ c. ac ≢ c.ac) xs → with_changed xs ac change ≡ xs
 leave_others [] ac change h = refl
 leave_others (x ∷ xs) ac change h =
@@ -111,7 +105,7 @@ remove-place [] at d h low = absurd (omega arith)
 remove-place (x ∷ xs) zero d h low =
     let here : (x.ac == x.ac) ≡ true = search rules in
     sym (ap (λ b. cond (not b) (x ∷ without_context xs x.ac) (without_context xs x.ac)) here
-    ∙ keep_others xs x.ac (head_apart x xs h))
+    ∙ keep_others (λ c. c.ac) x.ac xs (head_apart x xs h))
 remove-place (x ∷ xs) (suc at) d h low =
     let low' : at < length xs = omega arith in
     let other : (x.ac == (get_or xs at d).ac) ≡ false = let ne = h 0 (suc at) d (omega arith) low in grind (arith, nat_tests) in
@@ -205,7 +199,7 @@ get_or-append_seam (x ∷ before) c after = get_or-append_seam before c after
 pub without_context-one : (before after : List Context) (c : Context) → AllPairs (λ a b. a.ac ≢ b.ac) (before ++ c ∷ after) → without_context (before ++ c ∷ after) c.ac ≡ before ++ after
 without_context-one [] after c h =
     let here : (c.ac == c.ac) ≡ true = search rules in
-    ap (λ b. cond (not b) (c ∷ without_context after c.ac) (without_context after c.ac)) here ∙ keep_others after c.ac (head_apart c after h)
+    ap (λ b. cond (not b) (c ∷ without_context after c.ac) (without_context after c.ac)) here ∙ keep_others (λ x. x.ac) c.ac after (head_apart c after h)
 without_context-one (x ∷ before) after c h =
     let at : get_or (before ++ c ∷ after) (length before) c ≡ c = get_or-append_seam before c after in
     let low : length before < length (before ++ c ∷ after) = omega (arith, length-append before (c ∷ after)) in

@@ -1,14 +1,16 @@
 -- Lists of waits with each link at most once.
-use Rattle.std.proofs.Common.{◌≡◌, ◌≢◌, ℕ, zero, suc, ◌+◌, ◌-◌, ◌<◌, ◌≤◌, ◌==◌, ◌||◌, Bool, true, false, cond, not, eqb, List, [], ◌∷◌, ◌++◌, length, map, filter, find, get_or, option_map, IfSome, Option, Some, None, refl, sym, ap, ◌∙◌, subst, arith, rules}
+use Rattle.std.proofs.Common.{◌≡◌, ◌≢◌, ℕ, suc, ◌+◌, ◌-◌, ◌<◌, ◌≤◌, ◌==◌, ◌||◌, Bool, true, false, cond, not, eqb, List, [], ◌∷◌, ◌++◌, length, map, find, get_or, option_map, IfSome, Option, Some, None, refl, sym, ap, ◌∙◌, subst, arith, rules}
 use Rattle.std.proofs.lemmas.Bool.Decides.{nat_tests}
 use Rattle.std.specs.List.{list_any, All, AllPairs}
 use Rattle.std.proofs.lemmas.List.{length_push, length-map, get_or-map}
 use Rattle.std.proofs.lemmas.List.Folds.{list_any_at}
 use Rattle.std.proofs.lemmas.List.Elements.{All-filter, All-head, All-map, All-push, All-tail, All-weaker}
+use Rattle.std.proofs.lemmas.List.Kept.{AllPairs-filter}
 use Rattle.std.proofs.lemmas.List.Quantifiers.{all_pairs_push}
 use Rattle.std.proofs.lemmas.Map.Keys.{IsDistinct-from_apart}
 use Rattle.std.proofs.lemmas.Map.Steps.{length-le_from_distinct_below}
 use Rattle.af_limits.specs.Limits.{most_links}
+use Rattle.af_limits.proofs.ListLemmas.{keep_others}
 use Rattle.af_wait.specs.declared.Wait.{Wait}
 use Rattle.af_wait.specs.Waits.{is_waiting, wait_after_frames, without_first, without_link, without_taken, AreWaits}
 
@@ -55,34 +57,12 @@ room-AreWaits ws w h low free =
     let m = length-AreWaits (ws ++ w ∷ []) (AreWaits-push ws w h low free) in
     let n : length (ws ++ w ∷ []) ≡ length ws + 1 = length_push ws w in omega arith
 
-pairs-cons : (w : Wait) (ws : List Wait) → All (λ x. w.link ≢ x.link) ws → AllPairs (λ a b. a.link ≢ b.link) ws → AllPairs (λ a b. a.link ≢ b.link) (w ∷ ws)
-pairs-cons w ws head tail zero zero d below low = absurd (omega arith)
-pairs-cons w ws head tail zero (suc j) d below low = head j d (omega arith)
-pairs-cons w ws head tail (suc i) zero d below low = absurd (omega arith)
-pairs-cons w ws head tail (suc i) (suc j) d below low = tail i j d (omega arith) (omega arith)
-
-filter_pairs : (p : Wait → Bool) (ws : List Wait) → AllPairs (λ a b. a.link ≢ b.link) ws → AllPairs (λ a b. a.link ≢ b.link) (filter p ws)
-filter_pairs p [] h = h
-filter_pairs p (w ∷ ws) h =
-    let tail : AllPairs (λ a b. a.link ≢ b.link) ws = λ i j d below low. h (suc i) (suc j) d (omega arith) (omega arith) in
-    let head : All (λ x. w.link ≢ x.link) ws = λ k d low. h 0 (suc k) d (omega arith) (omega arith) in
-    let rest = filter_pairs p ws tail in
-    elim (p w) as (λ b. AllPairs (λ a b'. a.link ≢ b'.link) (cond b (w ∷ filter p ws) (filter p ws)))
-    [ true ↦ pairs-cons w (filter p ws) (All-filter p (λ x. w.link ≢ x.link) ws head) rest | false ↦ rest ]
-
 -- once a link is taken out, they are still waits
 pub AreWaits-without_link : (ws : List Wait) (link : ℕ) → AreWaits ws → AreWaits (without_link ws link)
 AreWaits-without_link ws link h = record {
-  distinct = filter_pairs (λ w. not (w.link == link)) ws h.distinct;
+  distinct = AllPairs-filter (λ a b. a.link ≢ b.link) (λ w. not (w.link == link)) ws h.distinct;
   links = All-filter (λ w. not (w.link == link)) (λ w. w.link < most_links) ws h.links;
 }
-
-keep_others : (ws : List Wait) (link : ℕ) → All (λ w. link ≢ w.link) ws → without_link ws link ≡ ws
-keep_others [] link h = refl
-keep_others (w ∷ ws) link h =
-    let other : (w.link == link) ≡ false = let ne = h 0 w (omega arith) in grind (arith, nat_tests) in
-    let rest = keep_others ws link (λ k d low. h (suc k) d (omega arith)) in
-    ap (λ b. cond (not b) (w ∷ without_link ws link) (without_link ws link)) other ∙ ap (λ l. w ∷ l) rest
 
 find-apart : (p : Wait → Bool) (ws : List Wait) (x w : Wait) → find p ws ≡ Some x → All (λ y. w.link ≢ y.link) ws → w.link ≢ x.link
 find-apart p [] x w e h = absurd cc
@@ -108,7 +88,7 @@ without_taken-find p (w ∷ ws) h =
     let head : All (λ x. w.link ≢ x.link) ws = λ k d low. h 0 (suc k) d (omega arith) (omega arith) in
     let here : (w.link == w.link) ≡ true = search rules in
     elim (p w) as (λ b. without_taken (w ∷ ws) (option_map (λ x. x.link) (cond b (Some w) (find p ws))) ≡ cond b ws (w ∷ without_first p ws)) [
-      | true ↦ ap (λ b. cond (not b) (w ∷ without_link ws w.link) (without_link ws w.link)) here ∙ keep_others ws w.link head
+      | true ↦ ap (λ b. cond (not b) (w ∷ without_link ws w.link) (without_link ws w.link)) here ∙ keep_others (λ x. x.link) w.link ws head
       | false ↦ later_kept p w ws (find p ws) refl head ∙ ap (λ l. w ∷ l) (without_taken-find p ws tail)
     ]
 

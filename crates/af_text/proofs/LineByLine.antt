@@ -1,5 +1,5 @@
 -- The lines of a text that is read line by line.
-use Rattle.std.proofs.Common.{◌≡◌, ℕ, suc, Bool, true, false, cond, List, [], ◌∷◌, ap}
+use Rattle.std.proofs.Common.{◌≡◌, ℕ, suc, Bool, true, false, cond, List, ◌∷◌, ap}
 use Rattle.af_text.specs.Reading.{Entry, entries_of}
 
 module _ {A : Type 0} (is_over : List ℕ → Bool) (said : List ℕ → A) (n : ℕ) (line : List ℕ) (rest : List (List ℕ)) where

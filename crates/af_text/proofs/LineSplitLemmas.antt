@@ -18,20 +18,19 @@ unwrap_or-position p xs r e =
 abbrev pub length_before : ℕ → List ℕ → ℕ
 length_before stop bytes = position_or_len (λ b. nat_eq b stop) bytes
 
+length_before-cons : (stop b : ℕ) (rest : List ℕ) → length_before stop (b ∷ rest) ≡ cond (nat_eq b stop) 0 (suc (length_before stop rest))
+length_before-cons stop b rest = elim (nat_eq b stop) as (λ t. cond (not t) (1 + length_before stop rest) 0 ≡ cond t 0 (suc (length_before stop rest))) [ true ↦ refl | false ↦ omega arith ]
+
 -- the first line ends before the first LF
 pub lines_first : (text : List ℕ) → 0 < length text → lines text ≡ take (length_before 10 text) text ∷ lines (drop (suc (length_before 10 text)) text)
 lines_first [] h = absurd (omega arith)
 lines_first (b ∷ []) h =
     elim (nat_eq b 10) as (λ t. cond t ([] ∷ []) ((b ∷ []) ∷ []) ≡ take (cond (not t) 1 0) (b ∷ []) ∷ lines (drop (suc (cond (not t) 1 0)) (b ∷ []))) [ true ↦ refl | false ↦ refl ]
 lines_first (b ∷ c ∷ rest) h =
-    let ih = lines_first (c ∷ rest) (omega arith) in
     let text = b ∷ c ∷ rest in
-    let n = length_before 10 (c ∷ rest) in
-    let one : 1 + n ≡ suc n = omega arith in
-    elim (nat_eq b 10) as (λ t. cond t ([] ∷ lines (c ∷ rest)) (put_in_front b (lines (c ∷ rest))) ≡ take (cond (not t) (1 + n) 0) text ∷ lines (drop (suc (cond (not t) (1 + n) 0)) text)) [
-      | true ↦ refl
-      | false ↦ ap (put_in_front b) ih ∙ ap (λ m. take m text ∷ lines (drop (suc m) text)) (sym one)
-    ]
+    subst (λ n. lines text ≡ take n text ∷ lines (drop (suc n) text)) (sym (length_before-cons 10 b (c ∷ rest)))
+    (elim (nat_eq b 10) as (λ t. cond t ([] ∷ lines (c ∷ rest)) (put_in_front b (lines (c ∷ rest))) ≡ take (cond t 0 (suc (length_before 10 (c ∷ rest)))) text ∷ lines (drop (suc (cond t 0 (suc (length_before 10 (c ∷ rest))))) text))
+    [ true ↦ refl | false ↦ ap (put_in_front b) (lines_first (c ∷ rest) (omega arith)) ])
 
 -- the parts after the first space
 abbrev parts_after : List ℕ → List (List ℕ)
@@ -45,27 +44,20 @@ filled_parts ps = filter (λ part. not (is_nil part)) ps
 parts_first : (line : List ℕ) → parts line ≡ take (length_before 32 line) line ∷ parts_after (drop (length_before 32 line) line)
 parts_first [] = refl
 parts_first (b ∷ rest) =
-    let ih = parts_first rest in
-    let line = b ∷ rest in
     let n = length_before 32 rest in
-    let one : 1 + n ≡ suc n = omega arith in
-    elim (nat_eq b 32) as (λ t. cond t ([] ∷ parts rest) (put_in_front b (parts rest)) ≡ take (cond (not t) (1 + n) 0) line ∷ parts_after (drop (cond (not t) (1 + n) 0) line)) [
-      | true ↦ refl
-      | false ↦ ap (put_in_front b) ih ∙ ap (λ m. take m line ∷ parts_after (drop m line)) (sym one)
-    ]
+    subst (λ n'. parts (b ∷ rest) ≡ take n' (b ∷ rest) ∷ parts_after (drop n' (b ∷ rest))) (sym (length_before-cons 32 b rest))
+    (elim (nat_eq b 32) as (λ t. cond t ([] ∷ parts rest) (put_in_front b (parts rest)) ≡ take (cond t 0 (suc n)) (b ∷ rest) ∷ parts_after (drop (cond t 0 (suc n)) (b ∷ rest)))
+    [ true ↦ refl | false ↦ ap (put_in_front b) (parts_first rest) ])
 
 -- what comes after the first part has the words of the later parts
 words_after : (line : List ℕ) → words (drop (length_before 32 line) line) ≡ filled_parts (parts_after (drop (length_before 32 line) line))
 words_after [] = refl
 words_after (b ∷ rest) =
-    let ih = words_after rest in
-    let line = b ∷ rest in
-    let n = length_before 32 rest in
-    let one : 1 + n ≡ suc n = omega arith in
-    elim (nat_eq b 32) as (λ t. nat_eq b 32 ≡ t → words (drop (cond (not t) (1 + n) 0) line) ≡ filled_parts (parts_after (drop (cond (not t) (1 + n) 0) line))) [
+    subst (λ n. words (drop n (b ∷ rest)) ≡ filled_parts (parts_after (drop n (b ∷ rest)))) (sym (length_before-cons 32 b rest))
+    (elim (nat_eq b 32) as (λ t. nat_eq b 32 ≡ t → words (drop (cond t 0 (suc (length_before 32 rest))) (b ∷ rest)) ≡ filled_parts (parts_after (drop (cond t 0 (suc (length_before 32 rest))) (b ∷ rest)))) [
       | true ↦ λ e. ap (λ t. filled_parts (cond t ([] ∷ parts rest) (put_in_front b (parts rest)))) e
-      | false ↦ λ e. ap (λ m. words (drop m line)) one ∙ ih ∙ ap (λ m. filled_parts (parts_after (drop m line))) (sym one)
-    ] refl
+      | false ↦ λ e. words_after rest
+    ] refl)
 
 first_kept : (b : ℕ) (rest : List ℕ) (n : ℕ) → 0 < n → filled_parts (take n (b ∷ rest) ∷ parts_after (drop n (b ∷ rest))) ≡ take n (b ∷ rest) ∷ filled_parts (parts_after (drop n (b ∷ rest)))
 first_kept b rest zero h = absurd (omega arith)

@@ -34,12 +34,12 @@ au_coding_again coding.Lin16Big good = refl
 au_coding_again coding.Lin16Little good = absurd cc
 au_coding_again coding.U8 good = absurd cc
 
-low_encoding : (c : Coding) → encoding_of c < 2 ^ 32
-low_encoding coding.Mu255 = lit< tt
-low_encoding coding.Alaw = lit< tt
-low_encoding coding.Lin16Big = lit< tt
-low_encoding coding.Lin16Little = lit< tt
-low_encoding coding.U8 = lit< tt
+low_numbers : (c : Coding) → (encoding_of c < 2 ^ 16) × (tag_of c < 2 ^ 16) × (sample_size c * 8 < 2 ^ 16)
+low_numbers coding.Mu255 = (lit< tt, lit< tt, lit< tt)
+low_numbers coding.Alaw = (lit< tt, lit< tt, lit< tt)
+low_numbers coding.Lin16Big = (lit< tt, lit< tt, lit< tt)
+low_numbers coding.Lin16Little = (lit< tt, lit< tt, lit< tt)
+low_numbers coding.U8 = (lit< tt, lit< tt, lit< tt)
 
 pub au_written : (head : SoundHead) (bytes : List ℕ) → bytes ≡ au_bytes head → IsWritableHead Au head → head.rate < 2 ^ 32 → IsAuHead bytes head
 unfolding au_bytes
@@ -54,7 +54,7 @@ au_written head bytes is writable rate =
       is = is;
       is_offset = big_is 24 (lit< tt);
       is_size = big_is (size_of head.length) (low_size head.length writable.length);
-      is_encoding = big_is (encoding_of head.coding) (low_encoding head.coding);
+      is_encoding = big_is (encoding_of head.coding) (let low = (low_numbers head.coding).0 in omega arith);
       is_rate = big_is head.rate rate;
       is_channels = big_is head.channels channels;
     } in
@@ -85,20 +85,6 @@ wave_coding_again coding.Lin16Big good = absurd cc
 wave_coding_again coding.Lin16Little good = refl
 wave_coding_again coding.U8 good = absurd cc
 
-low_tag : (c : Coding) → tag_of c < 2 ^ 16
-low_tag coding.Mu255 = lit< tt
-low_tag coding.Alaw = lit< tt
-low_tag coding.Lin16Big = lit< tt
-low_tag coding.Lin16Little = lit< tt
-low_tag coding.U8 = lit< tt
-
-low_bits : (c : Coding) → sample_size c * 8 < 2 ^ 16
-low_bits coding.Mu255 = lit< tt
-low_bits coding.Alaw = lit< tt
-low_bits coding.Lin16Big = lit< tt
-low_bits coding.Lin16Little = lit< tt
-low_bits coding.U8 = lit< tt
-
 -- the sixteen bytes of `fmt `
 sixteen : SoundHead → List ℕ
 sixteen head =
@@ -118,11 +104,11 @@ format_is head writable rate =
       ignored = little_bytes (head.rate * frame_size head % 2 ^ 32) ++ little16_bytes (frame_size head);
       bits_field = little16_bytes (sample_size head.coding * 8);
       is = refl;
-      is_tag = little16_is (tag_of head.coding) (low_tag head.coding);
+      is_tag = little16_is (tag_of head.coding) (low_numbers head.coding).1;
       is_channels = little16_is head.channels (low_shape head.channels writable.shape);
       is_rate = little_is head.rate rate;
       is_ignored = refl;
-      is_bits = little16_is (sample_size head.coding * 8) (low_bits head.coding);
+      is_bits = little16_is (sample_size head.coding * 8) (low_numbers head.coding).2;
     } in
     record {
       is = record { is_name = refl; is_size = little_is 16 (lit< tt); is_pad = refl };

@@ -16,13 +16,9 @@ returns-clause-taken c form bytes before =
 pub returns-clause-bad : goal.returns-clause-bad
 unfolding HasTaken
 returns-clause-bad c form bytes fault before =
-    let here : place_after_bytes (start form) (bytes ++ (c.args.byte ∷ [])) ≡ Some c.after-self.result = returns-clause-taken c form bytes before in
-    subst (λ (s : HeadStep). (s ≡ step.Bad fault) ↔ HasFault form (bytes ++ (c.args.byte ∷ [])) fault) (sym c.step.ensures)
-    (fault_exactly form (bytes ++ (c.args.byte ∷ [])) c.after-self.result fault here)
+    rw c.step.ensures (fault_exactly form (bytes ++ (c.args.byte ∷ [])) c.after-self.result fault (returns-clause-taken c form bytes before))
 
 pub returns-clause-head : goal.returns-clause-head
 unfolding HasTaken
 returns-clause-head c form bytes head before =
-    let here : place_after_bytes (start form) (bytes ++ (c.args.byte ∷ [])) ≡ Some c.after-self.result = returns-clause-taken c form bytes before in
-    subst (λ (s : HeadStep). (s ≡ step.Head head) ↔ IsHead form (bytes ++ (c.args.byte ∷ [])) head) (sym c.step.ensures)
-    (head_exactly form (bytes ++ (c.args.byte ∷ [])) c.after-self.result head here)
+    rw c.step.ensures (head_exactly form (bytes ++ (c.args.byte ∷ [])) c.after-self.result head (returns-clause-taken c form bytes before))

@@ -1,9 +1,10 @@
-// Reading a frame as a request: one function for each opcode whose request has more than one word.
-ghost use Rattle.std.specs.Prelude.{◌≡◌, ◌↔◌, option_and_then, option_map, IsNone};
+// Reading a frame as a request: one function for each opcode whose request has more than a detail and one word after it.
+ghost use Rattle.std.specs.Prelude.{◌≡◌, ◌↔◌, ◌==◌, if◌then◌else◌, length, option_and_then, option_map, IsNone};
 ghost use Rattle.af_request.specs.Asked.{request_meaning};
+ghost use Rattle.af_request.specs.Fields.{u32_at, u8_at};
 ghost use Rattle.af_request.specs.Requests.{asked_in, asked_by, row_of, IsNoRequest};
-ghost use Rattle.af_request.specs.Requests.{no_op_row, get_time_row, create_ac_row, change_ac_row, free_ac_row, play_run_row};
-ghost use Rattle.af_request.specs.Requests.{record_run_row, select_events_row, set_controls_row, query_controls_row, hook_switch_row, query_phone_row};
+ghost use Rattle.af_request.specs.Requests.{no_op_row, create_ac_row, change_ac_row, play_run_row};
+ghost use Rattle.af_request.specs.Requests.{record_run_row, set_controls_row};
 
 use crate::{Request, opcode};
 use af_time::DevTime;
@@ -24,19 +25,54 @@ fn request_of<'a>(order: Order, opcode: u8, frame: &'a [u8]) -> Option<Request<'
 {
     match opcode {
         opcode::NO_OP => no_op(frame),
-        opcode::GET_TIME => get_time(frame),
+        opcode::GET_TIME => Some(Request::GetTime {
+            device: one_word(frame)?,
+        }),
         opcode::CREATE_AC => create_ac(order, frame),
         opcode::CHANGE_AC => change_ac(order, frame),
-        opcode::FREE_AC => free_ac(order, frame),
+        opcode::FREE_AC => {
+            let (_, ac) = two_words(order, frame)?;
+            Some(Request::FreeAc { ac })
+        }
         opcode::PLAY => play_run(order, frame),
         opcode::RECORD => record_run(order, frame),
-        opcode::SELECT_EVENTS => select_events(order, frame),
+        opcode::SELECT_EVENTS => {
+            let (device, mask) = two_words(order, frame)?;
+            Some(Request::SelectEvents { device, mask })
+        }
         opcode::SET_CONTROLS => set_controls(order, frame),
-        opcode::QUERY_CONTROLS => query_controls(frame),
-        opcode::HOOK_SWITCH => hook_switch(order, frame),
-        opcode::QUERY_PHONE => query_phone(frame),
+        opcode::QUERY_CONTROLS => Some(Request::QueryControls {
+            device: one_word(frame)?,
+        }),
+        opcode::HOOK_SWITCH => {
+            let (device, off) = two_words(order, frame)?;
+            Some(Request::HookSwitch { device, off })
+        }
+        opcode::QUERY_PHONE => Some(Request::QueryPhone {
+            device: one_word(frame)?,
+        }),
         _ => None,
     }
+}
+
+// The detail of a frame of one word.
+fn one_word(frame: &[u8]) -> Option<u8>
+    ensures { result ≡ if length frame.now == 4 then Some (u8_at 1 frame.now) else None }
+{
+    let [_, detail, _, _] = frame else {
+        return None;
+    };
+    Some(*detail)
+}
+
+// The detail of a frame of two words, and the second word.
+fn two_words(order: Order, frame: &[u8]) -> Option<(u8, u32)>
+    ensures { result ≡ if length frame.now == 8 then Some (u8_at 1 frame.now, u32_at order 4 frame.now) else None }
+{
+    let [_, detail, _, _, a, b, c, d] = frame else {
+        return None;
+    };
+    Some((*detail, order.u32([*a, *b, *c, *d])))
 }
 
 fn no_op<'a>(frame: &'a [u8]) -> Option<Request<'a>>
@@ -46,15 +82,6 @@ fn no_op<'a>(frame: &'a [u8]) -> Option<Request<'a>>
         return None;
     };
     Some(Request::NoOp)
-}
-
-fn get_time<'a>(frame: &'a [u8]) -> Option<Request<'a>>
-    ensures { option_map request_meaning result ≡ asked_by frame.entry.now (get_time_row frame.entry.now) }
-{
-    let [_, device, _, _] = frame else {
-        return None;
-    };
-    Some(Request::GetTime { device: *device })
 }
 
 fn create_ac<'a>(order: Order, frame: &'a [u8]) -> Option<Request<'a>>
@@ -104,17 +131,6 @@ fn change_ac<'a>(order: Order, frame: &'a [u8]) -> Option<Request<'a>>
         preempt: *preempt,
         play_gain: order.i16([*p, *q]),
         record_gain: order.i16([*r, *s]),
-    })
-}
-
-fn free_ac<'a>(order: Order, frame: &'a [u8]) -> Option<Request<'a>>
-    ensures { option_map request_meaning result ≡ asked_by frame.entry.now (free_ac_row order frame.entry.now) }
-{
-    let [_, _, _, _, a, b, c, d] = frame else {
-        return None;
-    };
-    Some(Request::FreeAc {
-        ac: order.u32([*a, *b, *c, *d]),
     })
 }
 
@@ -169,18 +185,6 @@ fn record_run<'a>(order: Order, frame: &'a [u8]) -> Option<Request<'a>>
     })
 }
 
-fn select_events<'a>(order: Order, frame: &'a [u8]) -> Option<Request<'a>>
-    ensures { option_map request_meaning result ≡ asked_by frame.entry.now (select_events_row order frame.entry.now) }
-{
-    let [_, device, _, _, a, b, c, d] = frame else {
-        return None;
-    };
-    Some(Request::SelectEvents {
-        device: *device,
-        mask: order.u32([*a, *b, *c, *d]),
-    })
-}
-
 fn set_controls<'a>(order: Order, frame: &'a [u8]) -> Option<Request<'a>>
     ensures { option_map request_meaning result ≡ asked_by frame.entry.now (set_controls_row order frame.entry.now) }
 {
@@ -195,34 +199,4 @@ fn set_controls<'a>(order: Order, frame: &'a [u8]) -> Option<Request<'a>>
         input_gain: order.i16([*p, *q]),
         output_gain: order.i16([*r, *s]),
     })
-}
-
-fn query_controls<'a>(frame: &'a [u8]) -> Option<Request<'a>>
-    ensures { option_map request_meaning result ≡ asked_by frame.entry.now (query_controls_row frame.entry.now) }
-{
-    let [_, device, _, _] = frame else {
-        return None;
-    };
-    Some(Request::QueryControls { device: *device })
-}
-
-fn hook_switch<'a>(order: Order, frame: &'a [u8]) -> Option<Request<'a>>
-    ensures { option_map request_meaning result ≡ asked_by frame.entry.now (hook_switch_row order frame.entry.now) }
-{
-    let [_, device, _, _, a, b, c, d] = frame else {
-        return None;
-    };
-    Some(Request::HookSwitch {
-        device: *device,
-        off: order.u32([*a, *b, *c, *d]),
-    })
-}
-
-fn query_phone<'a>(frame: &'a [u8]) -> Option<Request<'a>>
-    ensures { option_map request_meaning result ≡ asked_by frame.entry.now (query_phone_row frame.entry.now) }
-{
-    let [_, device, _, _] = frame else {
-        return None;
-    };
-    Some(Request::QueryPhone { device: *device })
 }

@@ -1,11 +1,12 @@
-// Reading the body of a reply: one function for each kind of body.
-ghost use Rattle.std.specs.Prelude.{◌≡◌, ◌≤◌, ◌*◌, length, option_map, slice_index, true};
+// Reading the body of a reply: one function for each kind of body with more than a number.
+ghost use Rattle.std.specs.Prelude.{◌≡◌, ◌≤◌, ◌*◌, ◌==◌, if◌then◌else◌, length, option_map, slice_index, true};
 ghost use Rattle.af_limits.specs.Limits.{most_devices};
 ghost use Rattle.af_wire.specs.Order.{i16_of};
 ghost use Rattle.af_sample.specs.Channels.{is_channel_count};
 ghost use Rattle.af_sample.specs.Gains.{gain_of};
 ghost use Rattle.af_request.specs.Answer.{reply_meaning, items_of};
-ghost use Rattle.af_request.specs.Replies.{answer_in, controls_in, device_in, devices_in, flag_of, is_padded, is_plain, phone_in, phone_of, plain_in, played_in, recorded_body, setup_in, time_in, is_zero};
+ghost use Rattle.af_request.specs.Fields.{u32_at};
+ghost use Rattle.af_request.specs.Replies.{answer_in, controls_in, device_in, devices_in, flag_of, is_padded, is_plain, phone_in, phone_of, plain_in, recorded_body, setup_in, is_zero};
 
 use crate::opcode;
 use crate::reply::{Controls, DeviceInfo, Devices, Phone, Reply};
@@ -25,8 +26,12 @@ pub fn read_reply<'a>(order: Order, opcode: u8, body: &'a [u8]) -> Option<Reply<
     }
     match opcode {
         opcode::SETUP => setup(order, body),
-        opcode::GET_TIME => time(order, body),
-        opcode::PLAY => played(order, body),
+        opcode::GET_TIME => Some(Reply::Time {
+            time: DevTime(one_word(order, body)?),
+        }),
+        opcode::PLAY => Some(Reply::Played {
+            time: DevTime(one_word(order, body)?),
+        }),
         opcode::RECORD => recorded(order, body),
         opcode::QUERY_CONTROLS => controls(order, body),
         opcode::QUERY_PHONE => phone(body),
@@ -59,26 +64,14 @@ fn plain<'a>(body: &'a [u8]) -> Option<Reply<'a>>
     }
 }
 
-fn time<'a>(order: Order, body: &'a [u8]) -> Option<Reply<'a>>
-    ensures { option_map reply_meaning result ≡ time_in order body.entry.now }
+// The one number of a body of four bytes.
+fn one_word(order: Order, body: &[u8]) -> Option<u32>
+    ensures { result ≡ if length body.now == 4 then Some (u32_at order 0 body.now) else None }
 {
     let [a, b, c, d] = body else {
         return None;
     };
-    Some(Reply::Time {
-        time: DevTime(order.u32([*a, *b, *c, *d])),
-    })
-}
-
-fn played<'a>(order: Order, body: &'a [u8]) -> Option<Reply<'a>>
-    ensures { option_map reply_meaning result ≡ played_in order body.entry.now }
-{
-    let [a, b, c, d] = body else {
-        return None;
-    };
-    Some(Reply::Played {
-        time: DevTime(order.u32([*a, *b, *c, *d])),
-    })
+    Some(order.u32([*a, *b, *c, *d]))
 }
 
 fn recorded<'a>(order: Order, body: &'a [u8]) -> Option<Reply<'a>>

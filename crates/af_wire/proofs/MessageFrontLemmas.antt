@@ -1,5 +1,5 @@
 -- The front of a message, and what the bytes begin with: each holds exactly if the other does.
-use Rattle.std.proofs.Common.{◌≡◌, ◌<◌, ◌≤◌, ◌+◌, ◌*◌, ◌↔◌, nat_lt, inl, inr, ℕ, Bool, true, false, List, [], ◌∷◌, ◌++◌, length, take, drop, refl, sym, ap, ◌∙◌, subst, arith, length-take, append_assoc}
+use Rattle.std.proofs.Common.{◌≡◌, ◌<◌, ◌≤◌, ◌+◌, ◌*◌, ◌↔◌, nat_lt, inl, inr, ℕ, Bool, true, false, List, [], ◌∷◌, ◌++◌, length, take, drop, refl, sym, ap, ◌∙◌, subst, arith, rules, length-take, append_assoc}
 use Rattle.std.specs.Prelude.{IsTrue, if◌then◌else◌}
 use Rattle.af_wire.specs.declared.order.Order.{Order}
 use Rattle.std.proofs.lemmas.Bool.Decides.{nat_tests}
@@ -59,14 +59,7 @@ module _ (order : Order) where
       short = grind (arith, nat_tests);
     })
     by_tests true false g l = whole g (grind (arith, nat_tests))
-    by_tests false less g l = record {
-      kind = kind;
-      detail = detail;
-      sequence = u16_of order (a ∷ b ∷ []);
-      words = u32_of order (c ∷ d ∷ e ∷ f ∷ []);
-      states = head_there kind detail a b c d e f tail;
-      bad = g;
-    }
+    by_tests false less g l = search (rules, head_there kind detail a b c d e f tail)
 
   -- bytes have the front that is answered
   has_own : (bytes : List ℕ) → HasMessageFront order bytes (message_front order bytes)

@@ -1,9 +1,5 @@
-use Rattle.std.proofs.Common.{◌≡◌, ◌∙◌, ◌++◌, ◌∷◌, [], ap, sym, subst, Some}
-use Rattle.std.specs.Prelude.{◌↔◌}
-use Rattle.af_sound.specs.declared.head.HeadStep.TheVariants as step
-use Rattle.af_sound.specs.declared.head.HeadStep.{HeadStep}
-use Rattle.af_sound.specs.Heads.{HasFault, IsHead}
-use Rattle.af_sound.specs.Reading.{HasTaken, place_after_bytes, start}
+use Rattle.std.proofs.Common.{◌∙◌, ◌++◌, ◌∷◌, [], ap, sym, Some}
+use Rattle.af_sound.specs.Reading.{HasTaken, start}
 use Rattle.af_sound.proofs.ReachedLemmas.{reached_last}
 use Rattle.af_sound.proofs.TakenLemmas.{fault_exactly, head_exactly}
 use Rattle.af_sound.proofs.head_reader.HeadReader.take.Goals as goal

@@ -3,7 +3,7 @@ use Rattle.std.proofs.Common.{◌≡◌, ℕ, ◌==◌, true, false, cond, ◌&&
 use Rattle.std.specs.declared.option.Option.{Option}
 use Rattle.std.specs.declared.option.Option.TheVariants.{None, Some}
 use Rattle.af_world.specs.declared.happening.Happening.{Happening}
-use Rattle.af_world.specs.declared.happening.Happening.TheVariants.{Woke, Read, Wrote, Closed, Captured, Emitted, Hooked}
+use Rattle.af_world.specs.declared.happening.Happening.TheVariants.{Read, Wrote, Closed, Captured, Emitted, Hooked}
 use Rattle.af_world.specs.declared.happening.Why.{Why}
 use Rattle.af_world.specs.declared.happening.Why.TheVariants as why
 use Rattle.af_world.specs.Log.{Log}
@@ -54,24 +54,17 @@ module _ (k j : ℕ) (other : (j == k) ≡ false) where
         | true ↦ ap (λ q. Some q) (after_read_other k j other got p)
         | false ↦ refl
       ]
-  read_by_other p (Woke wake) = refl
-  read_by_other p (Wrote i offered took) = refl
-  read_by_other p (Closed i cause) = refl
-  read_by_other p (Captured d n got) = refl
-  read_by_other p (Emitted d sound done) = refl
-  read_by_other p (Hooked d off done) = refl
+  read_by_other p h = refl
 
   -- it stays in the log without link k
   read_kept : (p : OpenLink) (h : Happening) (q : OpenLink) → read_by j p h ≡ Some q → (log : Log) → without k (h ∷ log) ≡ h ∷ without k log
   read_kept p (Read i got) q e log =
       let t = cond-some (i == j && is_read got) (Some (after_read j got p)) q e in
       ap (λ t. cond t (without k log) (Read i got ∷ without k log)) (is_other i (both-true (i == j) (is_read got) t.0).0)
-  read_kept p (Woke wake) q e log = absurd (none_some e)
-  read_kept p (Wrote i offered took) q e log = absurd (none_some e)
-  read_kept p (Closed i cause) q e log = absurd (none_some e)
   read_kept p (Captured d n got) q e log = refl
   read_kept p (Emitted d sound done) q e log = refl
   read_kept p (Hooked d off done) q e log = refl
+  read_kept p h q e log = absurd (none_some e)
 
   -- a read, if there is one
   read_other : (p : OpenLink) → Follows k (open_without k) (read_phase j p) (read_phase j (open_without k p))
@@ -110,24 +103,17 @@ module _ (k j : ℕ) (other : (j == k) ≡ false) where
         | true ↦ write_offered_other p offered took
         | false ↦ refl
       ]
-  write_by_other p (Woke wake) = refl
-  write_by_other p (Read i got) = refl
-  write_by_other p (Closed i cause) = refl
-  write_by_other p (Captured d n got) = refl
-  write_by_other p (Emitted d sound done) = refl
-  write_by_other p (Hooked d off done) = refl
+  write_by_other p h = refl
 
   -- it stays in the log without link k
   write_kept : (p : OpenLink) (h : Happening) (q : OpenLink) → write_by j p h ≡ Some q → (log : Log) → without k (h ∷ log) ≡ h ∷ without k log
   write_kept p (Wrote i offered took) q e log =
       let t = cond-some (i == j) (after_bytes_offered j offered took p) q e in
       ap (λ t. cond t (without k log) (Wrote i offered took ∷ without k log)) (is_other i t.0)
-  write_kept p (Woke wake) q e log = absurd (none_some e)
-  write_kept p (Read i got) q e log = absurd (none_some e)
-  write_kept p (Closed i cause) q e log = absurd (none_some e)
   write_kept p (Captured d n got) q e log = refl
   write_kept p (Emitted d sound done) q e log = refl
   write_kept p (Hooked d off done) q e log = refl
+  write_kept p h q e log = absurd (none_some e)
 
   -- a link that has nothing to send, or is blocked
   write_rests : (p : OpenLink) → wants_write p.link ≡ false → (log : Log) → write_phase j p log ≡ accept p log
@@ -168,24 +154,17 @@ module _ (k j : ℕ) (other : (j == k) ≡ false) where
   close_by_other : (a : EnvironmentState) (cause : Why) (h : Happening) → close_by j (environment_without k a) cause h ≡ option_map (slot_without k) (close_by j a cause h)
   close_by_other a cause (Closed i why) =
       elim (i == j && same_why why cause) as (λ t. cond t (Some (link_in_slot (environment_without k a) None)) None ≡ option_map (slot_without k) (cond t (Some (link_in_slot a None)) None)) [ true ↦ refl | false ↦ refl ]
-  close_by_other a cause (Woke wake) = refl
-  close_by_other a cause (Read i got) = refl
-  close_by_other a cause (Wrote i offered took) = refl
-  close_by_other a cause (Captured d n got) = refl
-  close_by_other a cause (Emitted d sound done) = refl
-  close_by_other a cause (Hooked d off done) = refl
+  close_by_other a cause h = refl
 
   -- it stays in the log without link k
   close_kept : (a : EnvironmentState) (cause : Why) (h : Happening) (c : SlotLink) → close_by j a cause h ≡ Some c → (log : Log) → without k (h ∷ log) ≡ h ∷ without k log
   close_kept a cause (Closed i why) c e log =
       let t = cond-some (i == j && same_why why cause) (Some (link_in_slot a None)) c e in
       ap (λ t. cond t (without k log) (Closed i why ∷ without k log)) (is_other i (both-true (i == j) (same_why why cause) t.0).0)
-  close_kept a cause (Woke wake) c e log = absurd (none_some e)
-  close_kept a cause (Read i got) c e log = absurd (none_some e)
-  close_kept a cause (Wrote i offered took) c e log = absurd (none_some e)
   close_kept a cause (Captured d n got) c e log = refl
   close_kept a cause (Emitted d sound done) c e log = refl
   close_kept a cause (Hooked d off done) c e log = refl
+  close_kept a cause h c e log = absurd (none_some e)
 
   -- a close, if there is one
   close_other : (p : OpenLink) → Follows k (slot_without k) (close_phase j p) (close_phase j (open_without k p))

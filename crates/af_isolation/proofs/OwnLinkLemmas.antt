@@ -8,21 +8,21 @@ use Rattle.af_world.specs.declared.happening.Why.TheVariants as why
 use Rattle.af_world.specs.declared.happening.ReadGot.{ReadGot}
 use Rattle.af_world.specs.declared.happening.ReadGot.TheVariants.{Given, NotYet, Ended, Failed}
 use Rattle.af_world.specs.declared.happening.Happening.{Happening}
-use Rattle.af_world.specs.declared.happening.Happening.TheVariants.{Woke, Read, Wrote, Closed, Captured, Emitted, Hooked}
+use Rattle.af_world.specs.declared.happening.Happening.TheVariants.{Read, Wrote, Closed}
 use Rattle.af_world.specs.Outside.{same_bytes}
 use Rattle.af_world.specs.Log.{Log}
 use Rattle.af_phone.specs.Lines.{selects}
 use Rattle.af_wire.specs.declared.event.Event.{Event}
 use Rattle.af_wire.specs.Event.{event_bytes}
 use Rattle.af_model.specs.State.{Completion, DeviceState, Deferral, Deferred, deferred_play, deferred_record, EnvironmentState, LinkState, OpenLink, open_link, say, SlotLink, device_set, with_device, has_acted}
-use Rattle.af_model.specs.Waiting.{wait}
 use Rattle.af_model.specs.Tick.{complete_for, complete_deferred}
 use Rattle.af_model.specs.Advance.{absorb, advance}
 use Rattle.af_model.specs.Events.{drop_link, mask_of, tell_open, tell_selected, without_waiter}
 use Rattle.af_model.specs.Turn.{Parsed, after_read, after_write, close_phase, parse_then, read_phase, send_pending, serve_link, serve_open, write_by, after_bytes_offered, write_phase, after_bytes_taken}
 use Rattle.af_model.proofs.BoolTestLemmas.{cond-some, none_some, same_number, some_is}
-use Rattle.af_model.proofs.DeviceHistoryLemmas.{AllLive, Laters, Later, all_live_refl, later_completing, laters_refl, laters_trans, laters_with, live_laters, now_acted, with_there}
-use Rattle.af_model.proofs.LinkInvariantLemmas.{Keeps, advance_keeps, complete_keeps}
+use Rattle.af_model.proofs.ListLemmas.{pushed_without}
+use Rattle.af_model.proofs.DeviceHistoryLemmas.{AllLive, Laters, Later, all_live, later_completing, laters, live_laters, now_acted, with_there}
+use Rattle.af_model.proofs.LinkInvariantLemmas.{Keeps, environment_keeps, advance_keeps, complete_keeps}
 use Rattle.af_model.proofs.OwedBytesLemmas.{grows_keeps}
 use Rattle.af_model.proofs.PhasePartLemmas.{Takes, close_takes, read_takes, takes_chain, write_takes}
 use Rattle.af_isolation.specs.Without.{acted_on, device_without, without}
@@ -51,16 +51,6 @@ acted_at k (x ∷ ds) (suc d) device there h = elim (has_acted k x) as (λ b. (b
 
 -- Lists
 
--- what link k leaves at the end of a list is not there without it
-module _ {A : Type 0} (link : A → ℕ) (k : ℕ) where
-  pushed_without : (xs : List A) (x : A) → link x ≡ k → filter (λ y. not (link y == k)) (xs ++ x ∷ []) ≡ filter (λ y. not (link y == k)) xs
-  pushed_without [] x is = ap (λ b. cond (not b) (x ∷ []) []) (ap (λ n. n == k) is ∙ same_number k)
-  pushed_without (y ∷ xs) x is =
-      elim (not (link y == k)) as (λ b. cond b (y ∷ filter (λ z. not (link z == k)) (xs ++ x ∷ [])) (filter (λ z. not (link z == k)) (xs ++ x ∷ [])) ≡ cond b (y ∷ filter (λ z. not (link z == k)) xs) (filter (λ z. not (link z == k)) xs)) [
-        | true ↦ ap (λ l. y ∷ l) (pushed_without xs x is)
-        | false ↦ pushed_without xs x is
-      ]
-
 -- a device that is the same without link k
 map_set_alike : (k : ℕ) (ds : List DeviceState) (d : ℕ) (x y : DeviceState) → slice_get ds d ≡ Some x → device_without k y ≡ device_without k x → map (device_without k) (slice_set ds d y) ≡ map (device_without k) ds
 map_set_alike k [] d x y there same = absurd cc
@@ -87,32 +77,24 @@ unmoved_trans k a b c l (inr same) (inr more) = inr (more.0 ∙ same.0, more.1 �
 -- a device becomes later: it is the same without link k, or that has acted on it
 becomes_unmoved : (k d : ℕ) (f : DeviceState → DeviceState) (a b : EnvironmentState) (device : DeviceState) → slice_get b.devices d ≡ Some device → Later device (f device) → (device_without k (f device) ≡ device_without k device) ⊎ (has_acted k (f device) ≡ true) → Unmoved k a b →
     Unmoved k a (record b { devices = with_device d f b.devices })
-becomes_unmoved k d f a b device there l acts (inl acted) = inl (laters_acted k b.devices (with_device d f b.devices) (laters_with d f b.devices (λ x is. subst (λ y. Later y (f y)) (some_is (sym there ∙ is)) l)) acted)
+becomes_unmoved k d f a b device there l acts (inl acted) = inl (laters_acted k b.devices (with_device d f b.devices) (laters.change d f b.devices (λ x is. subst (λ y. Later y (f y)) (some_is (sym there ∙ is)) l)) acted)
 becomes_unmoved k d f a b device there l (inl alike) (inr same) = inr (with_alike k d f b.devices device there alike ∙ same.0, same.1)
 becomes_unmoved k d f a b device there l (inr acts) (inr same) = inl (acted_at k (with_device d f b.devices) d (f device) (with_there d f b.devices device there) acts)
 
 own_keeps : (k : ℕ) (a : EnvironmentState) → Keeps k (λ closing. Unit {0}) (λ p. Unmoved k a p.environment)
-own_keeps k a = record {
-  may = λ closing e. tt;
-  link = λ p l open' after same rest set ordered h. h;
-  takes = λ p n open' set e asked h. h;
-  sets_up = λ p order open' unset e h. h;
-  stops = λ p cause open' bad h. h;
-  says = λ p bytes stays h. pending p bytes h;
-  becomes = λ p d device f there l h. becomes_unmoved k d f a p.environment device there l.lives.later (alike device (f device) l.acts) h;
-  waits = λ p d device deferred there w open' h. waiting p d deferred h;
-}
+own_keeps k a =
+    environment_keeps k (λ ds ws. Unmoved k a (record a { devices = ds; waiting = ws }))
+    (λ ds ws d device f there l h. let r = l device there in becomes_unmoved k d f a (record a { devices = ds; waiting = ws }) device there r.lives.later (alike device (f device) r.acts) h)
+    (λ ds ws d deferred w h. waiting ds ws d deferred h)
   where
-    pending : (p : OpenLink) (bytes : List ℕ) → Unmoved k a p.environment → Unmoved k a (record p.environment { said = p.environment.said ++ bytes })
-    pending p bytes h = h
-
     alike : (x y : DeviceState) → (y ≡ x) ⊎ (has_acted k y ≡ true) → (device_without k y ≡ device_without k x) ⊎ (has_acted k y ≡ true)
     alike x y (inl same) = inl (ap (device_without k) same)
     alike x y (inr acted) = inr acted
 
-    waiting : (p : OpenLink) (d : ℕ) (deferred : Deferred) → Unmoved k a p.environment → Unmoved k a (wait k d deferred p).environment
-    waiting p d deferred (inl acted) = inl acted
-    waiting p d deferred (inr same) = inr (same.0, pushed_without (λ (w : Deferral). w.link) k p.environment.waiting (record { link = k; device = d; deferred = deferred }) refl ∙ same.1)
+    waiting : (ds : List DeviceState) (ws : List Deferral) (d : ℕ) (deferred : Deferred) → Unmoved k a (record a { devices = ds; waiting = ws }) →
+        Unmoved k a (record a { devices = ds; waiting = ws ++ record { link = k; device = d; deferred = deferred } ∷ [] })
+    waiting ds ws d deferred (inl acted) = inl acted
+    waiting ds ws d deferred (inr same) = inr (same.0, pushed_without (λ (w : Deferral). w.link) k ws (record { link = k; device = d; deferred = deferred }) refl ∙ same.1)
 
 -- a deferred request of link k completes
 completing_alike : (k : ℕ) (deferred : Deferred) (device : DeviceState) → (device_without k (complete_deferred k deferred device) ≡ device_without k device) ⊎ (has_acted k (complete_deferred k deferred device) ≡ true)
@@ -176,17 +158,17 @@ record Own (k : ℕ) (a : EnvironmentState) (part : Log) (b : EnvironmentState) 
   gone : (rest : Log) → without k (part ++ rest) ≡ without k rest
 
 own_refl : (k : ℕ) (a : EnvironmentState) → Own k a [] a
-own_refl k a = record { later = laters_refl a.devices; moved = unmoved_refl k a; gone = λ rest. refl }
+own_refl k a = record { later = laters.stay a.devices; moved = unmoved_refl k a; gone = λ rest. refl }
 
 own_trans : (k : ℕ) (a : EnvironmentState) (p : Log) (b : EnvironmentState) (q : Log) (c : EnvironmentState) → Own k a p b → Own k b q c → Own k a (p ++ q) c
 own_trans k a p b q c h i = record {
-  later = laters_trans a.devices b.devices c.devices h.later i.later;
+  later = laters.follow a.devices b.devices c.devices h.later i.later;
   moved = unmoved_trans k a b c i.later h.moved i.moved;
   gone = λ rest. ap (without k) (append_assoc p q rest) ∙ h.gone (q ++ rest) ∙ i.gone rest;
 }
 
 advance_later : (k : ℕ) (p : OpenLink) → Laters p.environment.devices (advance k p).environment.devices
-advance_later k p = live_laters p.environment.devices (advance k p).environment.devices (advance_keeps k (λ closing. Unit {0}) (λ q. AllLive p.environment.devices q.environment.devices) (grows_keeps k p.environment.devices) p (all_live_refl p.environment.devices))
+advance_later k p = live_laters p.environment.devices (advance k p).environment.devices (advance_keeps k (λ closing. Unit {0}) (λ q. AllLive p.environment.devices q.environment.devices) (grows_keeps k p.environment.devices) p (all_live.stay p.environment.devices))
 
 -- a happening that names link k is not there without it
 named : (k : ℕ) (x y : Log) → cond (k == k) x y ≡ x
@@ -197,14 +179,14 @@ own_absorbed k bytes p =
     let q = open_link p.environment (record p.link { rest = p.link.rest ++ bytes }) in
     elim (is_none p.link.closing) as (λ t. Own k p.environment (Read k (Given bytes) ∷ []) (cond t (advance k q) p).environment) [
       | true ↦ record { later = advance_later k q; moved = advance_own k q; gone = λ rest. named k (without k rest) (Read k (Given bytes) ∷ without k rest) }
-      | false ↦ record { later = laters_refl p.environment.devices; moved = unmoved_refl k p.environment; gone = λ rest. named k (without k rest) (Read k (Given bytes) ∷ without k rest) }
+      | false ↦ record { later = laters.stay p.environment.devices; moved = unmoved_refl k p.environment; gone = λ rest. named k (without k rest) (Read k (Given bytes) ∷ without k rest) }
     ]
 
 own_got : (k : ℕ) (p : OpenLink) (got : ReadGot) → Own k p.environment (Read k got ∷ []) (after_read k got p).environment
 own_got k p (Given bytes) = own_absorbed k bytes p
-own_got k p NotYet = record { later = laters_refl p.environment.devices; moved = unmoved_refl k p.environment; gone = λ rest. named k (without k rest) (Read k NotYet ∷ without k rest) }
-own_got k p Ended = record { later = laters_refl p.environment.devices; moved = unmoved_refl k p.environment; gone = λ rest. named k (without k rest) (Read k Ended ∷ without k rest) }
-own_got k p Failed = record { later = laters_refl p.environment.devices; moved = dropped_own k why.LinkFault p; gone = λ rest. named k (without k rest) (Read k Failed ∷ without k rest) }
+own_got k p NotYet = record { later = laters.stay p.environment.devices; moved = unmoved_refl k p.environment; gone = λ rest. named k (without k rest) (Read k NotYet ∷ without k rest) }
+own_got k p Ended = record { later = laters.stay p.environment.devices; moved = unmoved_refl k p.environment; gone = λ rest. named k (without k rest) (Read k Ended ∷ without k rest) }
+own_got k p Failed = record { later = laters.stay p.environment.devices; moved = dropped_own k why.LinkFault p; gone = λ rest. named k (without k rest) (Read k Failed ∷ without k rest) }
 
 own_read : (k : ℕ) (p : OpenLink) → Takes (read_phase k p) (λ part q. Own k p.environment part q.environment)
 own_read k p = read_takes k p (λ part q. Own k p.environment part q.environment) (λ w. own_refl k p.environment) (λ w got r. own_got k p got)
@@ -212,7 +194,7 @@ own_read k p = read_takes k p (λ part q. Own k p.environment part q.environment
 own_wrote : (k : ℕ) (p q : OpenLink) (offered : ℕ) (took : Option (List ℕ)) → after_bytes_taken k took p ≡ Some q → Own k p.environment (Wrote k offered took ∷ []) q.environment
 own_wrote k p q offered None e =
     subst (λ x. Own k p.environment (Wrote k offered None ∷ []) x.environment) (some_is e)
-    (record { later = laters_refl p.environment.devices; moved = dropped_own k why.LinkFault p; gone = λ rest. named k (without k rest) (Wrote k offered None ∷ without k rest) })
+    (record { later = laters.stay p.environment.devices; moved = dropped_own k why.LinkFault p; gone = λ rest. named k (without k rest) (Wrote k offered None ∷ without k rest) })
 own_wrote k p q offered (Some bytes) e =
     let left = open_link p.environment (send_pending (length bytes) p.link) in
     let t = cond-some (same_bytes bytes (take (length bytes) p.link.pending)) (Some (after_write k bytes p)) q e in
@@ -220,16 +202,11 @@ own_wrote k p q offered (Some bytes) e =
     (record { later = advance_later k left; moved = advance_own k left; gone = λ rest. named k (without k rest) (Wrote k offered (Some bytes) ∷ without k rest) })
 
 own_one : (k : ℕ) (p q : OpenLink) (h : Happening) → write_by k p h ≡ Some q → Own k p.environment (h ∷ []) q.environment
-own_one k p q (Woke wake) e = absurd (none_some e)
-own_one k p q (Read j got) e = absurd (none_some e)
-own_one k p q (Closed j why) e = absurd (none_some e)
-own_one k p q (Captured d n got) e = absurd (none_some e)
-own_one k p q (Emitted d out done) e = absurd (none_some e)
-own_one k p q (Hooked d off done) e = absurd (none_some e)
 own_one k p q (Wrote j offered took) e =
     let i = cond-some (j == k) (after_bytes_offered k offered took p) q e in
     let t = cond-some (offered == length p.link.pending) (after_bytes_taken k took p) q i.1 in
     subst (λ n. Own k p.environment (Wrote n offered took ∷ []) q.environment) (sym (eqb-true j k i.0)) (own_wrote k p q offered took t.1)
+own_one k p q other e = absurd (none_some e)
 
 own_write : (k : ℕ) (p : OpenLink) → Takes (write_phase k p) (λ part q. Own k p.environment part q.environment)
 own_write k p log b e =
@@ -239,7 +216,7 @@ own_write k p log b e =
 own_close : (k : ℕ) (p : OpenLink) → Takes (close_phase k p) (λ part d. Own k p.environment part d.environment)
 own_close k p =
     close_takes k p (λ part d. Own k p.environment part d.environment) (own_refl k p.environment)
-    (λ cause due. record { later = laters_refl p.environment.devices; moved = unmoved_refl k p.environment; gone = λ rest. named k (without k rest) (Closed k cause ∷ without k rest) })
+    (λ cause due. record { later = laters.stay p.environment.devices; moved = unmoved_refl k p.environment; gone = λ rest. named k (without k rest) (Closed k cause ∷ without k rest) })
 
 own_link : (k : ℕ) (p : OpenLink) → Takes (serve_link k p) (λ part d. Own k p.environment part d.environment)
 unfolding serve_link

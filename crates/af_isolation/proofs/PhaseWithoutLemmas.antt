@@ -8,7 +8,7 @@ use Rattle.af_phone.specs.Lines.{line_after_change, event_kind_of, flag_value, l
 use Rattle.af_phone.specs.declared.LineChange.{LineChange}
 use Rattle.af_wire.specs.declared.event.EventKind.TheVariants as kind
 use Rattle.af_world.specs.declared.happening.Happening.{Happening}
-use Rattle.af_world.specs.declared.happening.Happening.TheVariants.{Woke, Read, Wrote, Closed, Captured, Emitted, Hooked}
+use Rattle.af_world.specs.declared.happening.Happening.TheVariants.{Captured, Emitted, Hooked}
 use Rattle.af_world.specs.declared.happening.Wake.{Wake}
 use Rattle.af_world.specs.declared.happening.Wake.TheVariants as wake
 use Rattle.af_world.specs.Log.{Log}
@@ -38,21 +38,13 @@ hook_by_without k d off device s (Hooked e wanted done) =
     either : (done : Bool) → cond done (after_hook off d (device_without k device) (state_without k s)) (after_hook_failure d (state_without k s)) ≡ state_without k (cond done (after_hook off d device s) (after_hook_failure d s))
     either true = line_becomes_without k (line_after_hook true) kind.Hook (flag_value off) d device s
     either false = device_changes_without k d (λ device. record device { line = option_map (line_after_hook false) device.line }) s (λ device. refl)
-hook_by_without k d off device s (Woke wake) = refl
-hook_by_without k d off device s (Read j got) = refl
-hook_by_without k d off device s (Wrote j offered took) = refl
-hook_by_without k d off device s (Closed j cause) = refl
-hook_by_without k d off device s (Captured e n got) = refl
-hook_by_without k d off device s (Emitted e sound done) = refl
+hook_by_without k d off device s other = refl
 
 hook_kept : (k d : ℕ) (off : Bool) (device : DeviceState) (s : State) (h : Happening) (t : State) → hook_by d off device s h ≡ Some t → (log : Log) → without k (h ∷ log) ≡ h ∷ without k log
 hook_kept k d off device s (Hooked e wanted done) t i log = refl
-hook_kept k d off device s (Woke wake) t i log = absurd (none_some i)
-hook_kept k d off device s (Read j got) t i log = absurd (none_some i)
-hook_kept k d off device s (Wrote j offered took) t i log = absurd (none_some i)
-hook_kept k d off device s (Closed j cause) t i log = absurd (none_some i)
 hook_kept k d off device s (Captured e n got) t i log = refl
 hook_kept k d off device s (Emitted e sound done) t i log = refl
+hook_kept k d off device s other t i log = absurd (none_some i)
 
 hook_at_without : (k d : ℕ) (o : Option DeviceState) (s : State) → Follows k (state_without k) (hook_at d o s) (hook_at d (option_map (device_without k) o) (state_without k s))
 hook_at_without k d None s = follows_nothing k (state_without k) s
@@ -77,12 +69,9 @@ hook_all_without k s log b e = ap (λ n. hook_from n 0 (state_without k s) (with
 
 capture_kept : (k d n : ℕ) (device : DeviceState) (h : Happening) (got : Option (List ℕ)) → capture_by d n device h ≡ Some got → (log : Log) → without k (h ∷ log) ≡ h ∷ without k log
 capture_kept k d n device (Captured e m x) got i log = refl
-capture_kept k d n device (Woke wake) got i log = absurd (none_some i)
-capture_kept k d n device (Read j x) got i log = absurd (none_some i)
-capture_kept k d n device (Wrote j offered took) got i log = absurd (none_some i)
-capture_kept k d n device (Closed j cause) got i log = absurd (none_some i)
 capture_kept k d n device (Emitted e sound done) got i log = refl
 capture_kept k d n device (Hooked e off done) got i log = refl
+capture_kept k d n device other got i log = absurd (none_some i)
 
 same_option : {A : Type 0} (o : Option A) → o ≡ option_map (λ x. x) o
 same_option None = refl
@@ -96,12 +85,6 @@ module _ (k d n : ℕ) (device : DeviceState) (s : State) (there : slice_get s.d
 
   emit_without : (bytes : List ℕ) (h : Happening) (t : State) → emit_by d n device (captured_samples device n (Some bytes)) s h ≡ Some t → acted_on k t.devices ≡ false →
       (emit_by d n (device_without k device) (captured_samples device n (Some bytes)) (state_without k s) h ≡ Some (state_without k t)) × ((log : Log) → without k (h ∷ log) ≡ h ∷ without k log)
-  emit_without bytes (Woke wake) t e silent = absurd (none_some e)
-  emit_without bytes (Read j got) t e silent = absurd (none_some e)
-  emit_without bytes (Wrote j offered took) t e silent = absurd (none_some e)
-  emit_without bytes (Closed j cause) t e silent = absurd (none_some e)
-  emit_without bytes (Captured j m got) t e silent = absurd (none_some e)
-  emit_without bytes (Hooked j off done) t e silent = absurd (none_some e)
   emit_without bytes (Emitted j out done) t e silent =
       let next = tick d n (captured_samples device n (Some bytes)) (not done) s in
       let i = cond-some (j == d && same_bytes out (sound device n)) (Some next) t e in
@@ -110,6 +93,7 @@ module _ (k d n : ℕ) (device : DeviceState) (s : State) (there : slice_get s.d
             ∙ ap (λ u. Some u) (ticked_without (Some bytes) (not done) (ap (λ (u : State). acted_on k u.devices) is ∙ silent) ∙ ap (state_without k) is),
         λ log. refl,
       )
+  emit_without bytes other t e silent = absurd (none_some e)
 
   emitted_without : (bytes : List ℕ) (log : Log) (b : Parsed State) → parse_one (emit_by d n device (captured_samples device n (Some bytes)) s) log ≡ Some b → acted_on k b.state.devices ≡ false →
       parse_one (emit_by d n (device_without k device) (captured_samples device n (Some bytes)) (state_without k s)) (without k log) ≡ accept (state_without k b.state) (without k b.log)

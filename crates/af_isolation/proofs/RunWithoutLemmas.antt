@@ -35,13 +35,6 @@ wake_after k s log b e silent =
 
 turn_without : (k : ℕ) (s : State) (log : Log) (b : Parsed State) → turn s log ≡ Some b → acted_on k b.state.devices ≡ false → turn (state_without k s) (without k log) ≡ accept (state_without k b.state) (without k b.log)
 unfolding turn
-turn_without k s [] b e silent = absurd (none_some e)
-turn_without k s (Read j got ∷ log) b e silent = absurd (none_some e)
-turn_without k s (Wrote j offered took ∷ log) b e silent = absurd (none_some e)
-turn_without k s (Closed j cause ∷ log) b e silent = absurd (none_some e)
-turn_without k s (Captured d n got ∷ log) b e silent = absurd (none_some e)
-turn_without k s (Emitted d sound done ∷ log) b e silent = absurd (none_some e)
-turn_without k s (Hooked d off done ∷ log) b e silent = absurd (none_some e)
 turn_without k s (Woke w ∷ log) b e silent =
     let t = cond-some (fits (outline s) w) (parse_then (wake_phase w s log) serve_and_hook) b e in
     let i = then_inv (wake_phase w s log) serve_and_hook b t.1 in
@@ -50,6 +43,7 @@ turn_without k s (Woke w ∷ log) b e silent =
     ap (λ f. cond f (parse_then (wake_phase (wake_without k w) (state_without k s) (without k log)) serve_and_hook) None) (fits_without k w s t.0)
     ∙ ap (λ x. parse_then x serve_and_hook) (wake_phase_without k w s log c i.1 quiet)
     ∙ wake_after k c.state c.log b i.2 silent
+turn_without k s log b e silent = absurd (none_some e)
 
 -- A run
 
@@ -76,9 +70,7 @@ wakes_without k (Woke w ∷ log) = ap suc (wakes_without k log)
 wakes_without k (Read j got ∷ log) = elim (j == k) as (λ t. wakes (cond t (without k log) (Read j got ∷ without k log)) ≡ wakes log) [ true ↦ wakes_without k log | false ↦ wakes_without k log ]
 wakes_without k (Wrote j offered took ∷ log) = elim (j == k) as (λ t. wakes (cond t (without k log) (Wrote j offered took ∷ without k log)) ≡ wakes log) [ true ↦ wakes_without k log | false ↦ wakes_without k log ]
 wakes_without k (Closed j cause ∷ log) = elim (j == k) as (λ t. wakes (cond t (without k log) (Closed j cause ∷ without k log)) ≡ wakes log) [ true ↦ wakes_without k log | false ↦ wakes_without k log ]
-wakes_without k (Captured d n got ∷ log) = wakes_without k log
-wakes_without k (Emitted d sound done ∷ log) = wakes_without k log
-wakes_without k (Hooked d off done ∷ log) = wakes_without k log
+wakes_without k (h ∷ log) = wakes_without k log
 
 -- no link is open at the start
 opening_without : (config : List DeviceSpec) (k : ℕ) → state_without k (opening_state config) ≡ opening_state config
@@ -127,16 +119,10 @@ module _ (k j : ℕ) (apart : j ≢ k) where
       ] refl
   noted_without g (Woke (wake.Readable i) ∷ log) = elim (i == k) as (λ t. fold (note_happening j) g (Woke (cond t wake.Idle (wake.Readable i)) ∷ without k log) ≡ fold (note_happening j) g log) [ true ↦ noted_without g log | false ↦ noted_without g log ]
   noted_without g (Woke (wake.Writable i) ∷ log) = elim (i == k) as (λ t. fold (note_happening j) g (Woke (cond t wake.Idle (wake.Writable i)) ∷ without k log) ≡ fold (note_happening j) g log) [ true ↦ noted_without g log | false ↦ noted_without g log ]
-  noted_without g (Woke (wake.Ticked d n) ∷ log) = noted_without g log
-  noted_without g (Woke (wake.Line d change) ∷ log) = noted_without g log
-  noted_without g (Woke wake.Idle ∷ log) = noted_without g log
-  noted_without g (Woke wake.Stop ∷ log) = noted_without g log
   noted_without g (Read i got ∷ log) = happened i g (note_read got g) (Read i got) log refl (λ g. noted_without g log)
   noted_without g (Wrote i offered took ∷ log) = happened i g (note_write took g) (Wrote i offered took) log refl (λ g. noted_without g log)
   noted_without g (Closed i cause ∷ log) = happened i g (record g { closed = Some cause }) (Closed i cause) log refl (λ g. noted_without g log)
-  noted_without g (Captured d n got ∷ log) = noted_without g log
-  noted_without g (Emitted d sound done ∷ log) = noted_without g log
-  noted_without g (Hooked d off done ∷ log) = noted_without g log
+  noted_without g (h ∷ log) = noted_without g log
 
 calls_without : (k : ℕ) (log : Log) → device_calls (without k log) ≡ device_calls log
 calls_without k [] = refl

@@ -4,7 +4,7 @@ use Rattle.std.proofs.Common.{◌≡◌, Bool, true, false, List, [], ◌∷◌,
 use Rattle.std.specs.declared.option.Option.{Option}
 use Rattle.std.specs.declared.option.Option.TheVariants.{None, Some}
 use Rattle.af_world.specs.declared.happening.Happening.{Happening}
-use Rattle.af_world.specs.declared.happening.Happening.TheVariants.{Woke, Read, Wrote, Closed, Captured, Emitted, Hooked}
+use Rattle.af_world.specs.declared.happening.Happening.TheVariants.{Woke}
 use Rattle.af_world.specs.declared.script.Step.{Step}
 use Rattle.af_world.specs.Log.{Log}
 use Rattle.af_world.specs.Outside.{Outside, outside_after_happening}
@@ -56,12 +56,7 @@ module _ {S T : Type 0} where
 
 abbrev pub is_quiet : Happening → Bool
 is_quiet (Woke wake) = false
-is_quiet (Read k got) = true
-is_quiet (Wrote k offered took) = true
-is_quiet (Closed k why) = true
-is_quiet (Captured d n got) = true
-is_quiet (Emitted d sound done) = true
-is_quiet (Hooked d off done) = true
+is_quiet _ = true
 
 some_and : (x : Option Outside) (P : Outside → Type 0) → IsSomeAnd x P → (o : Outside) × (x ≡ Some o) × P o
 some_and None P h = absurd h
@@ -71,12 +66,7 @@ some_and (Some o) P h = (o, refl, h)
 pub answered_first : (o : Outside) (h : Happening) (log : Log) (steps : List Step) (e : Outside) → is_quiet h ≡ true → AnswersTo o (h ∷ log) steps e →
     (o' : Outside) × (outside_after_happening o h ≡ Some o') × AnswersTo o' log steps e
 answered_first o (Woke wake) log steps e q a = absurd cc
-answered_first o (Read k got) log steps e q a = some_and (outside_after_happening o (Read k got)) (λ o. AnswersTo o log steps e) a
-answered_first o (Wrote k offered took) log steps e q a = some_and (outside_after_happening o (Wrote k offered took)) (λ o. AnswersTo o log steps e) a
-answered_first o (Closed k why) log steps e q a = some_and (outside_after_happening o (Closed k why)) (λ o. AnswersTo o log steps e) a
-answered_first o (Captured d n got) log steps e q a = some_and (outside_after_happening o (Captured d n got)) (λ o. AnswersTo o log steps e) a
-answered_first o (Emitted d sound done) log steps e q a = some_and (outside_after_happening o (Emitted d sound done)) (λ o. AnswersTo o log steps e) a
-answered_first o (Hooked d off done) log steps e q a = some_and (outside_after_happening o (Hooked d off done)) (λ o. AnswersTo o log steps e) a
+answered_first o h log steps e q a = some_and (outside_after_happening o h) (λ o. AnswersTo o log steps e) a
 
 -- The one happening that may come, by the state and the outside: if a happening is taken and answered, it is that one, and what
 -- has to hold after it holds.

@@ -63,9 +63,7 @@ shows_bad h owed why.BadSetup l bad s =
 shows_bad h owed why.Malformed l bad s =
     let served : IsServedTo l.order h.gave l.rest = subst (λ b. IsInput b l.order h.gave l.rest) bad.0 s.input in
     (record { failed = s.failed; ended = s.ended; all_taken = refl }, l.order, l.rest, served, bad.1)
-shows_bad h owed why.Ended l bad s = absurd bad
-shows_bad h owed why.LinkFault l bad s = absurd bad
-shows_bad h owed why.Overrun l bad s = absurd bad
+shows_bad h owed cause l bad s = absurd bad
 
 -- an event that finds no room would exceed the bound
 pub no_room : (n : ℕ) → nat_le (n + 20) event_limit ≡ false → event_limit < n + 20

@@ -11,9 +11,9 @@ use Rattle.af_model.specs.Waiting.{due_time, falls_due}
 use Rattle.af_model.specs.Advance.{or_else}
 use Rattle.af_model.specs.Tick.{complete, complete_at, complete_by, complete_due, complete_first, complete_deferred, device_after, tick}
 use Rattle.af_model.proofs.BoolTestLemmas.{none_some, same_number, some_is}
-use Rattle.af_model.proofs.DeviceHistoryLemmas.{AllLive, Lives, all_live_get, all_live_with, lives_completing, with_other, with_same, with_there}
+use Rattle.af_model.proofs.DeviceHistoryLemmas.{AllLive, all_live, lives_completing, with_other, with_same, with_there}
 use Rattle.af_model.proofs.DueLemmas.{IsToWait}
-use Rattle.af_model.proofs.LinkInvariantLemmas.{Keeps, complete_keeps}
+use Rattle.af_model.proofs.LinkInvariantLemmas.{Keeps, complete_keeps, environment_keeps}
 use Rattle.af_model.proofs.SafeLemmas.{AwaitedIn, IsAwaited, Safe, SafeState, SameClock, all_without_first, due_alike, loses_alike, safe_completing, safe_fewer, safe_keeps, safe_with, slack_for}
 
 -- the one that is found is among them
@@ -95,39 +95,25 @@ not_due : (a b : ℕ) → a < b → nat_le b a ≡ false
 not_due a b lt = grind arith
 
 pub few_lives : (n d : ℕ) (device : DeviceState) (ds es : List DeviceState) (ws : List Deferral) → AllLive ds es → Few n d device ds ws → Few n d device es ws
-few_lives n d device ds es ws l h = let got = all_live_get ds es d h.is l h.there in record { is = got.0; there = got.1; clock = (got.2.now ∙ h.clock.0, got.2.rate ∙ h.clock.1, got.2.channels ∙ h.clock.2); few = h.few }
+few_lives n d device ds es ws l h = let got = all_live.get ds es d h.is l h.there in record { is = got.0; there = got.1; clock = (got.2.now ∙ h.clock.0, got.2.rate ∙ h.clock.1, got.2.channels ∙ h.clock.2); few = h.few }
 
 -- a request that is deferred now is not due
-not_due_yet : (d : ℕ) (device is x : DeviceState) (ds : List DeviceState) (k e : ℕ) (deferred : Deferred) → slice_get ds d ≡ Some is → SameClock device is → slice_get ds e ≡ Some x → IsToWait longest_frame x deferred →
-    falls_due d device (record { link = k; device = e; deferred = deferred }) ≡ false
-not_due_yet d device is x ds k e deferred there same_clock is_there w =
+not_due_yet : (d : ℕ) (device is : DeviceState) (k e : ℕ) (deferred : Deferred) → SameClock device is → ((e == d) ≡ true → IsToWait longest_frame is deferred) → falls_due d device (record { link = k; device = e; deferred = deferred }) ≡ false
+not_due_yet d device is k e deferred same_clock w =
     elim (e == d) as (λ t. (e == d) ≡ t → (t && nat_le (due_time device.channels (horizon_of device) deferred) device.now) ≡ false) [
       | true ↦ λ same.
-          let one : is ≡ x = some_is (sym there ∙ ap (slice_get ds) (sym (eqb-true e d same)) ∙ is_there) in
           let later : device.now < due_time device.channels (horizon_of device) deferred =
-          subst (λ n. n < due_time device.channels (horizon_of device) deferred) same_clock.0
-          (subst (λ n. is.now < n) (due_alike device is deferred same_clock.1 same_clock.2) (subst (λ y. y.now < due_time y.channels (horizon_of y) deferred) (sym one) w.later)) in
+          subst (λ n. n < due_time device.channels (horizon_of device) deferred) same_clock.0 (subst (λ n. is.now < n) (due_alike device is deferred same_clock.1 same_clock.2) (w same).later) in
           not_due device.now (due_time device.channels (horizon_of device) deferred) later
       | false ↦ λ same. refl
     ] refl
 
 few_keeps : (k n d : ℕ) (device : DeviceState) → Keeps k (λ closing. Unit {0}) (λ p. Few n d device p.environment.devices p.environment.waiting)
-few_keeps k n d device = record {
-  may = λ closing e. tt;
-  link = λ p l open' after same rest set ordered h. h;
-  takes = λ p n open' set e asked h. h;
-  sets_up = λ p order open' unset e h. h;
-  stops = λ p cause open' bad h. h;
-  says = λ p bytes stays h. h;
-  becomes = λ p e x f there l h.
-      few_lives n d device p.environment.devices (with_device e f p.environment.devices) p.environment.waiting (all_live_with e f p.environment.devices (λ y is. subst (λ z. Lives z (f z)) (some_is (sym there ∙ is)) l.lives)) h;
-  waits = λ p e x deferred there w open' h. record {
-    is = h.is;
-    there = h.there;
-    clock = h.clock;
-    few = subst (λ m. m ≤ n) (sym (count_push (falls_due d device) p.environment.waiting (record { link = k; device = e; deferred = deferred }) (not_due_yet d device h.is x p.environment.devices k e deferred h.there h.clock there w))) h.few;
-  };
-}
+few_keeps k n d device =
+    environment_keeps k (Few n d device) (λ ds ws e x f there l h. few_lives n d device ds (with_device e f ds) ws (all_live.change e f ds (λ y is. (l y is).lives)) h)
+    (λ ds ws e deferred w h.
+    let not_yet = not_due_yet d device h.is k e deferred h.clock (λ same. w h.is (ap (slice_get ds) (eqb-true e d same) ∙ h.there)) in
+    record { is = h.is; there = h.there; clock = h.clock; few = subst (λ m. m ≤ n) (sym (count_push (falls_due d device) ws (record { link = k; device = e; deferred = deferred }) not_yet)) h.few })
 
 -- one fewer is due after a completion
 pub few_completed : (n d : ℕ) (device x : DeviceState) (s : State) (w : Deferral) → SameClock device x → find (falls_due d x) s.waiting ≡ Some w → Few (suc n) d device s.devices s.waiting →
@@ -140,7 +126,7 @@ few_completed n d device x s w same found h =
     let left = count_left passes s.waiting w found in
     let one : count_due (falls_due d device) fewer.waiting ≤ n = let all = h.few in omega (arith, alike, alike', left, all) in
     completed_keeps (Few n d device) w fewer (few_keeps w.link n d device)
-    (λ g. few_lives n d device s.devices (with_device w.device (complete_deferred w.link w.deferred) s.devices) fewer.waiting (all_live_with w.device (complete_deferred w.link w.deferred) s.devices (λ y is. lives_completing w.link y w.deferred)) g)
+    (λ g. few_lives n d device s.devices (with_device w.device (complete_deferred w.link w.deferred) s.devices) fewer.waiting (all_live.change w.device (complete_deferred w.link w.deferred) s.devices (λ y is. lives_completing w.link y w.deferred)) g)
     (record { is = h.is; there = h.there; clock = h.clock; few = one })
 
 -- as long as one is due

@@ -10,7 +10,7 @@ use Rattle.af_world.specs.Log.{Log}
 use Rattle.af_model.specs.State.{DeviceState, State, with_device}
 use Rattle.af_model.specs.Dead.{fails_device, fails_line}
 use Rattle.af_model.proofs.BoolTestLemmas.{some_is}
-use Rattle.af_model.proofs.DeviceHistoryLemmas.{AllLive, all_live_back, with_other, with_same}
+use Rattle.af_model.proofs.DeviceHistoryLemmas.{AllLive, all_live, with_other, with_same}
 
 -- whether a happening fails, or an earlier one did
 abbrev pub died : (Happening → Bool) → Bool → Happening → Bool
@@ -68,7 +68,7 @@ line_alike (Some l) (Some m) y e h = some_is e ∙ h
 
 pub lives_dead : (d : ℕ) (x y : Bool) (ds es : List DeviceState) → AllLive ds es → DeadIn d x y ds → DeadIn d x y es
 lives_dead d x y ds es l h e there =
-    let got = all_live_back ds es d e l there in
+    let got = all_live.back ds es d e l there in
     let was = h got.0 got.1 in
     (got.2.dead ∙ was.0, line_alike got.0.line e.line y got.2.line_dead was.1)
 

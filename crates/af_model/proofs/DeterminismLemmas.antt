@@ -4,7 +4,7 @@ use Rattle.std.proofs.Common.{◌≡◌, ℕ, ℤ, zero, suc, ◌+◌, ◌*◌, 
 use Rattle.std.specs.declared.option.Option.{Option}
 use Rattle.std.specs.declared.option.Option.TheVariants.{None, Some}
 use Rattle.af_world.specs.declared.happening.Happening.{Happening}
-use Rattle.af_world.specs.declared.happening.Happening.TheVariants.{Woke, Read, Wrote, Closed, Captured, Emitted, Hooked}
+use Rattle.af_world.specs.declared.happening.Happening.TheVariants.{Captured, Emitted, Hooked}
 use Rattle.af_world.specs.declared.happening.Wake.{Wake}
 use Rattle.af_world.specs.declared.happening.Wake.TheVariants.{Opened, Readable, Writable, Ticked, Line, Idle, Stop}
 use Rattle.af_world.specs.declared.script.Step.{Step}
@@ -60,12 +60,6 @@ is_capture-size n device (Some bytes) e = eqb-true (length bytes) (n * frame_byt
 
 capture_one : (w : List Bool) (d n : ℕ) (device : DeviceState) (s : State) (o : Outside) (h : Happening) (t : Option (List ℕ)) → capture_by d n device h ≡ Some t →
     TakesOne (λ (s : State). capture_by d n device) (λ s o. opens o ≡ w) (λ t o. opens o ≡ w) s o h (Captured d n (expected_capture (n * frame_bytes device.ty device.channels) (scripted_at o d)))
-capture_one w d n device s o (Woke wake) t e = absurd (none_some e)
-capture_one w d n device s o (Hooked x off y) t e = absurd (none_some e)
-capture_one w d n device s o (Read j got) t e = absurd (none_some e)
-capture_one w d n device s o (Wrote j offered took) t e = absurd (none_some e)
-capture_one w d n device s o (Closed j why) t e = absurd (none_some e)
-capture_one w d n device s o (Emitted j bytes done) t e = absurd (none_some e)
 capture_one w d n device s o (Captured j frames got) t e =
     let i = cond-some (j == d && frames == n && is_capture n device got) (Some got) t e in
     let v = both-true (j == d && frames == n) (is_capture n device got) i.0 in
@@ -79,6 +73,7 @@ capture_one w d n device s o (Captured j frames got) t e =
           ∙ ap (Captured d n) (capture_answer w o o' d (n * frame_bytes device.ty device.channels) (scripted_at o d) got (here o' a) size).is;
       stands = λ t o' p f a. (capture_answer w o o' d (n * frame_bytes device.ty device.channels) (scripted_at o d) got (here o' a) size).opens p;
     }
+capture_one w d n device s o other t e = absurd (none_some e)
 
 -- Emits
 
@@ -96,12 +91,6 @@ emit_answer w o o' d scripted true e = done_answer w o o' (with_scripted o d (re
 
 emit_one : (d n : ℕ) (device : DeviceState) (heard : List ℤ) (s : State) (o : Outside) (h : Happening) (t : State) → emit_by d n device heard s h ≡ Some t →
     TakesOne (λ s. emit_by d n device heard s) Agree Agree s o h (Emitted d (sound device n) (not (scripted_at o d).fails_emit))
-emit_one d n device heard s o (Woke wake) t e = absurd (none_some e)
-emit_one d n device heard s o (Hooked x off y) t e = absurd (none_some e)
-emit_one d n device heard s o (Read j got) t e = absurd (none_some e)
-emit_one d n device heard s o (Wrote j offered took) t e = absurd (none_some e)
-emit_one d n device heard s o (Closed j why) t e = absurd (none_some e)
-emit_one d n device heard s o (Captured j frames got) t e = absurd (none_some e)
 emit_one d n device heard s o (Emitted j bytes done) t e =
     let i = cond-some (j == d && same_bytes bytes (sound device n)) (Some (tick d n heard (not done) s)) t e in
     let u = both-true (j == d) (same_bytes bytes (sound device n)) i.0 in
@@ -115,6 +104,7 @@ emit_one d n device heard s o (Emitted j bytes done) t e =
           let next : tick d n heard (not done) s ≡ t = cc in
           subst (λ x. Agree x o') next ((emit_answer (open_links s.slots) o o' d (scripted_at o d) done (here o' a)).1 p ∙ sym (tick-opens d n heard (not done) s));
     }
+emit_one d n device heard s o other t e = absurd (none_some e)
 
 -- Ticks
 
@@ -178,12 +168,6 @@ hook_opens d off false device s = refl
 
 hook_one : (d : ℕ) (off : Bool) (device : DeviceState) (s : State) (o : Outside) (h : Happening) (t : State) → hook_by d off device s h ≡ Some t →
     TakesOne (hook_by d off device) Agree Agree s o h (Hooked d off (not (scripted_at o d).fails_hook))
-hook_one d off device s o (Woke wake) t e = absurd (none_some e)
-hook_one d off device s o (Read j got) t e = absurd (none_some e)
-hook_one d off device s o (Wrote j offered took) t e = absurd (none_some e)
-hook_one d off device s o (Closed j why) t e = absurd (none_some e)
-hook_one d off device s o (Captured j n got) t e = absurd (none_some e)
-hook_one d off device s o (Emitted j bytes done) t e = absurd (none_some e)
 hook_one d off device s o (Hooked j wanted done) t e =
     let next = cond done (after_hook off d device s) (after_hook_failure d s) in
     let i = cond-some (j == d && same_flag wanted off) (Some next) t e in
@@ -198,6 +182,7 @@ hook_one d off device s o (Hooked j wanted done) t e =
           let same : next ≡ t = cc in
           subst (λ x. Agree x o') same ((hook_answer (open_links s.slots) o o' d (scripted_at o d) done (here o' a)).1 p ∙ sym (hook_opens d off done device s));
     }
+hook_one d off device s o other t e = absurd (none_some e)
 
 hook_for-alike : (d : ℕ) (device : DeviceState) (off : Option Bool) → GoesAlike (hook_for d device off) Agree Agree
 hook_for-alike d device None = alike_nothing (λ s. s) Agree Agree (λ s o at. at)

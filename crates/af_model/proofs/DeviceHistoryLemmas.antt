@@ -190,20 +190,23 @@ module _ (R : DeviceState → DeviceState → Type 0) (same : (d : DeviceState) 
         | Some d ↦ λ there. zip_set ds i d (f d) there (l d there)
       ] refl
 
+-- Lists in which each device is related to the one in its place: the same list, two steps in a row, one device that becomes
+-- another, what became of a device, and what it came from.
+pub record Steps (R : DeviceState → DeviceState → Type 0) : Type 0 where
+  pub stay : (ds : List DeviceState) → AllZip R ds ds
+  pub follow : (ds es fs : List DeviceState) → AllZip R ds es → AllZip R es fs → AllZip R ds fs
+  pub change : (i : ℕ) (f : DeviceState → DeviceState) (ds : List DeviceState) → ((d : DeviceState) → slice_get ds i ≡ Some d → R d (f d)) → AllZip R ds (with_device i f ds)
+  pub get : (ds es : List DeviceState) (i : ℕ) (d : DeviceState) → AllZip R ds es → slice_get ds i ≡ Some d → (e : DeviceState) × (slice_get es i ≡ Some e) × R d e
+  pub back : (ds es : List DeviceState) (i : ℕ) (e : DeviceState) → AllZip R ds es → slice_get es i ≡ Some e → (d : DeviceState) × (slice_get ds i ≡ Some d) × R d e
+
+steps : (R : DeviceState → DeviceState → Type 0) → ((d : DeviceState) → R d d) → ((d e f : DeviceState) → R d e → R e f → R d f) → Steps R
+steps R same trans = record { stay = zip_refl R same; follow = zip_trans R trans; change = zip_with R same; get = zip_get R; back = zip_back R }
+
 abbrev pub Laters : List DeviceState → List DeviceState → Type 0
 Laters ds es = AllZip Later ds es
 
-pub laters_refl : (ds : List DeviceState) → Laters ds ds
-laters_refl = zip_refl Later later_refl
-
-pub laters_trans : (ds es fs : List DeviceState) → Laters ds es → Laters es fs → Laters ds fs
-laters_trans = zip_trans Later later_trans
-
-pub laters_with : (i : ℕ) (f : DeviceState → DeviceState) (ds : List DeviceState) → ((d : DeviceState) → slice_get ds i ≡ Some d → Later d (f d)) → Laters ds (with_device i f ds)
-laters_with = zip_with Later later_refl
-
-pub laters_get : (ds es : List DeviceState) (i : ℕ) (d : DeviceState) → Laters ds es → slice_get ds i ≡ Some d → (e : DeviceState) × (slice_get es i ≡ Some e) × Later d e
-laters_get = zip_get Later
+pub laters : Steps Later
+laters = steps Later later_refl later_trans
 
 pub laters_lines : (ds es : List DeviceState) → Laters ds es → lines_of es ≡ lines_of ds
 laters_lines [] [] l = refl
@@ -214,20 +217,8 @@ laters_lines (d ∷ ds) (e ∷ es) l = ap (λ b. b ∷ lines_of es) l.0.line ∙
 abbrev pub AllLive : List DeviceState → List DeviceState → Type 0
 AllLive ds es = AllZip Lives ds es
 
-pub all_live_refl : (ds : List DeviceState) → AllLive ds ds
-all_live_refl = zip_refl Lives lives_refl
-
-pub all_live_trans : (ds es fs : List DeviceState) → AllLive ds es → AllLive es fs → AllLive ds fs
-all_live_trans = zip_trans Lives lives_trans
-
-pub all_live_with : (i : ℕ) (f : DeviceState → DeviceState) (ds : List DeviceState) → ((d : DeviceState) → slice_get ds i ≡ Some d → Lives d (f d)) → AllLive ds (with_device i f ds)
-all_live_with = zip_with Lives lives_refl
-
-pub all_live_get : (ds es : List DeviceState) (i : ℕ) (d : DeviceState) → AllLive ds es → slice_get ds i ≡ Some d → (e : DeviceState) × (slice_get es i ≡ Some e) × Lives d e
-all_live_get = zip_get Lives
-
-pub all_live_back : (ds es : List DeviceState) (i : ℕ) (e : DeviceState) → AllLive ds es → slice_get es i ≡ Some e → (d : DeviceState) × (slice_get ds i ≡ Some d) × Lives d e
-all_live_back = zip_back Lives
+pub all_live : Steps Lives
+all_live = steps Lives lives_refl lives_trans
 
 pub live_laters : (ds es : List DeviceState) → AllLive ds es → Laters ds es
 live_laters [] [] l = tt

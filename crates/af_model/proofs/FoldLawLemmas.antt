@@ -7,7 +7,7 @@ use Rattle.af_sample.specs.Heard.{AcceptedPlay, heard_sample, heard_from}
 use Rattle.af_sample.specs.Samples.{bytes_of}
 use Rattle.af_sample.proofs.HeardLemmas.{heard_sample-append}
 use Rattle.af_world.specs.declared.happening.Happening.{Happening}
-use Rattle.af_world.specs.declared.happening.Happening.TheVariants.{Woke, Read, Wrote, Closed, Captured, Emitted, Hooked}
+use Rattle.af_world.specs.declared.happening.Happening.TheVariants.{Woke, Captured, Emitted}
 use Rattle.af_world.specs.declared.happening.Wake.{Wake}
 use Rattle.af_world.specs.declared.happening.Wake.TheVariants.{Ticked}
 use Rattle.af_world.specs.declared.script.DeviceSpec.{DeviceSpec}
@@ -19,10 +19,10 @@ use Rattle.af_model.specs.Run.{end_by, end_state, then_end, wakes}
 use Rattle.af_model.specs.Fold.{IsMixOfAll, MixesAll}
 use Rattle.af_model.proofs.BoolTestLemmas.{both-true, none_some, some_is}
 use Rattle.af_model.proofs.ListLemmas.{map-range_alike}
-use Rattle.af_model.proofs.DeviceHistoryLemmas.{AtLeast, Laters, later_trans, laters_get, laters_refl, laters_trans}
+use Rattle.af_model.proofs.DeviceHistoryLemmas.{AtLeast, Laters, laters}
 use Rattle.af_model.proofs.RunLemmas.{run_inv, wakes-append, wakes-append-none}
 use Rattle.af_model.proofs.ServeLemmas.{inner, inner-append, is_inner}
-use Rattle.af_model.proofs.WakeLemmas.{HandedOut, Hands, Turned, turned}
+use Rattle.af_model.proofs.WakeLemmas.{HandedOut, Hands, Turned, later_handed, turned}
 
 -- Later entries
 
@@ -48,31 +48,22 @@ handed_mixes s d frames sent e o =
     o.same ∙ ap (λ x. bytes_of o.device.ty (through_output_control o.device.controls x))
     (sym (ap (λ a. heard_from o.device.channels a o.device.now frames) same ∙ heard_range o.device.channels o.device.accepted l.more o.after.now o.device.now frames past l.ats))
 
-later_handed : (s t u : State) (d frames : ℕ) (sent : List ℕ) → Laters t.devices u.devices → HandedOut s d frames sent t → HandedOut s d frames sent u
-later_handed s t u d frames sent l o =
-    let got = laters_get t.devices u.devices d o.last l o.stands in
-    record { device = o.device; there = o.there; same = o.same; after = o.after; accepted = o.accepted; past = o.past; last = got.0; stands = got.1; becomes = later_trans o.after o.last got.0 o.becomes got.2 }
-
 -- over a run devices become later
 run_later : (n : ℕ) (s : State) (log : Log) (e : State) → end_by n s log ≡ Some e → Laters s.devices e.devices
-run_later zero s [] e r = subst (λ (x : State). Laters s.devices x.devices) (some_is r) (laters_refl s.devices)
+run_later zero s [] e r = subst (λ (x : State). Laters s.devices x.devices) (some_is r) (laters.stay s.devices)
 run_later zero s (h ∷ log) e r = absurd (none_some r)
 run_later (suc n) s log e r =
     let i = run_inv (turn s log) (end_by n) e r in
     let a = turned s log i.0 i.1 in
-    laters_trans s.devices i.0.state.devices e.devices a.holds.goes.devices (run_later n i.0.state i.0.log e i.2)
+    laters.follow s.devices i.0.state.devices e.devices a.holds.goes.devices (run_later n i.0.state i.0.log e i.2)
 
 -- The place of an emit
 
 inner_wakes : (log : Log) → inner log ≡ true → wakes log ≡ 0
 inner_wakes [] e = refl
 inner_wakes (Woke w ∷ log) e = absurd cc
-inner_wakes (Read k got ∷ log) e = inner_wakes log e
-inner_wakes (Wrote k offered took ∷ log) e = inner_wakes log e
-inner_wakes (Closed k why ∷ log) e = inner_wakes log e
-inner_wakes (Captured d n got ∷ log) e = inner_wakes log e
 inner_wakes (Emitted d out done ∷ log) e = absurd cc
-inner_wakes (Hooked d off done ∷ log) e = inner_wakes log e
+inner_wakes (h ∷ log) e = inner_wakes log e
 
 -- an emit comes after a part
 record Past (part log front : Log) (emit : Happening) (rest : Log) : Type 0 where
@@ -109,31 +100,31 @@ module _ (s t : State) (log rest : Log) (d : ℕ) (sent : List ℕ) (done : Bool
 
   -- after what was handed out
   past_hands : (w : Wake) (first second front : Log) → Hands s w first t → inner second ≡ true → (first ++ second) ++ log ≡ front ++ emit ∷ rest → Past (Woke w ∷ (first ++ second)) log (Woke w ∷ front) emit rest ⊎ InTurn s t (Woke w ∷ front) d sent
-  past_hands w first second [] h inside e = absurd (no_capture (sym (ap (λ l. (l ++ second) ++ log) h.is) ∙ e))
+  past_hands w first second [] h inside e = absurd (no_capture (sym (ap (λ l. (l ++ second) ++ log) h.0.is) ∙ e))
     where
-      no_capture : Captured h.d h.frames (Some h.captured) ∷ Emitted h.d h.sent h.done ∷ (second ++ log) ≡ emit ∷ rest → ⊥
+      no_capture : Captured h.0.d h.0.frames (Some h.0.captured) ∷ Emitted h.0.d h.0.sent h.0.done ∷ (second ++ log) ≡ emit ∷ rest → ⊥
       no_capture e = cc
   past_hands w first second (x ∷ []) h inside e =
-      let all : Captured h.d h.frames (Some h.captured) ∷ Emitted h.d h.sent h.done ∷ (second ++ log) ≡ x ∷ emit ∷ rest = sym (ap (λ l. (l ++ second) ++ log) h.is) ∙ e in
-      let capture : x ≡ Captured h.d h.frames (Some h.captured) = cc in
-      let device : h.d ≡ d = cc in
-      let same : h.sent ≡ sent = cc in
+      let all : Captured h.0.d h.0.frames (Some h.0.captured) ∷ Emitted h.0.d h.0.sent h.0.done ∷ (second ++ log) ≡ x ∷ emit ∷ rest = sym (ap (λ l. (l ++ second) ++ log) h.0.is) ∙ e in
+      let capture : x ≡ Captured h.0.d h.0.frames (Some h.0.captured) = cc in
+      let device : h.0.d ≡ d = cc in
+      let same : h.0.sent ≡ sent = cc in
       inr (record {
-        frames = h.frames;
-        captured = h.captured;
-        is = ap (λ w. Woke w ∷ x ∷ []) h.wake ∙ ap (λ y. Woke (Ticked h.d h.frames) ∷ y ∷ []) capture ∙ ap (λ n. Woke (Ticked n h.frames) ∷ Captured n h.frames (Some h.captured) ∷ []) device;
-        out = subst (λ n. HandedOut s n h.frames sent t) device (subst (λ x. HandedOut s h.d h.frames x t) same h.out);
+        frames = h.0.frames;
+        captured = h.0.captured;
+        is = ap (λ w. Woke w ∷ x ∷ []) h.0.wake ∙ ap (λ y. Woke (Ticked h.0.d h.0.frames) ∷ y ∷ []) capture ∙ ap (λ n. Woke (Ticked n h.0.frames) ∷ Captured n h.0.frames (Some h.0.captured) ∷ []) device;
+        out = subst (λ n. HandedOut s n h.0.frames sent t) device (subst (λ x. HandedOut s h.0.d h.0.frames x t) same h.1);
       })
   past_hands w first second (x ∷ y ∷ front) h inside e =
-      let all : Captured h.d h.frames (Some h.captured) ∷ Emitted h.d h.sent h.done ∷ (second ++ log) ≡ x ∷ y ∷ (front ++ emit ∷ rest) = sym (ap (λ l. (l ++ second) ++ log) h.is) ∙ e in
-      let capture : x ≡ Captured h.d h.frames (Some h.captured) = cc in
-      let sound : y ≡ Emitted h.d h.sent h.done = cc in
+      let all : Captured h.0.d h.0.frames (Some h.0.captured) ∷ Emitted h.0.d h.0.sent h.0.done ∷ (second ++ log) ≡ x ∷ y ∷ (front ++ emit ∷ rest) = sym (ap (λ l. (l ++ second) ++ log) h.0.is) ∙ e in
+      let capture : x ≡ Captured h.0.d h.0.frames (Some h.0.captured) = cc in
+      let sound : y ≡ Emitted h.0.d h.0.sent h.0.done = cc in
       let tails : second ++ log ≡ front ++ emit ∷ rest = cc in
       let p = past_inner second log front emit rest refl inside tails in
       inl (record {
         after = p.after;
-        is = ap (λ l. Woke w ∷ l) (ap (λ z. z ∷ y ∷ front) capture ∙ ap (λ z. Captured h.d h.frames (Some h.captured) ∷ z ∷ front) sound ∙ ap (λ l. Captured h.d h.frames (Some h.captured) ∷ Emitted h.d h.sent h.done ∷ l) p.is
-            ∙ sym (ap (λ l. (l ++ second) ++ p.after) h.is));
+        is = ap (λ l. Woke w ∷ l) (ap (λ z. z ∷ y ∷ front) capture ∙ ap (λ z. Captured h.0.d h.0.frames (Some h.0.captured) ∷ z ∷ front) sound ∙ ap (λ l. Captured h.0.d h.0.frames (Some h.0.captured) ∷ Emitted h.0.d h.0.sent h.0.done ∷ l) p.is
+            ∙ sym (ap (λ l. (l ++ second) ++ p.after) h.0.is));
         log_is = p.log_is;
       })
 
@@ -161,7 +152,7 @@ record Found (s e : State) (front : Log) (d : ℕ) (sent : List ℕ) : Type 0 wh
 
 first_wakes : (s t : State) (w : Wake) (first : Log) → (inner first ≡ true) ⊎ Hands s w first t → wakes first ≡ 0
 first_wakes s t w first (inl none) = inner_wakes first none
-first_wakes s t w first (inr h) = ap wakes h.is
+first_wakes s t w first (inr h) = ap wakes h.0.is
 
 one_wake : (s t : State) (part : Log) → Turned s part t → wakes part ≡ 1
 one_wake s t part h = ap wakes h.is ∙ ap suc (wakes-append-none h.first h.second (first_wakes s t h.wake h.first h.emits) (inner_wakes h.second h.inside))

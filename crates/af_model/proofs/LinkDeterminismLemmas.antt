@@ -4,7 +4,7 @@ use Rattle.std.specs.declared.option.Option.{Option}
 use Rattle.std.specs.declared.option.Option.TheVariants.{None, Some}
 use Rattle.af_limits.specs.Limits.{longest_read}
 use Rattle.af_world.specs.declared.happening.Happening.{Happening}
-use Rattle.af_world.specs.declared.happening.Happening.TheVariants.{Woke, Read, Wrote, Closed, Captured, Emitted, Hooked}
+use Rattle.af_world.specs.declared.happening.Happening.TheVariants.{Read, Wrote, Closed}
 use Rattle.af_world.specs.declared.happening.ReadGot.{ReadGot}
 use Rattle.af_world.specs.declared.happening.ReadGot.TheVariants.{Given, NotYet, Ended, Failed}
 use Rattle.af_world.specs.declared.happening.Why.{Why}
@@ -71,20 +71,15 @@ expected : ScriptedClient → ReadGot
 expected client = cond client.fails_read Failed (expected_given client.gives client)
 
 failed_is : (got : ReadGot) (client q : ScriptedClient) → client_after_fault got client ≡ Some q → got ≡ Failed
-failed_is (Given bytes) client q e = absurd (none_some e)
-failed_is NotYet client q e = absurd (none_some e)
-failed_is Ended client q e = absurd (none_some e)
 failed_is Failed client q e = refl
+failed_is other client q e = absurd (none_some e)
 
 given_is : (got : ReadGot) (xs : List ℕ) (client q : ScriptedClient) → client_after_give got xs client ≡ Some q → got ≡ expected_given xs client
 unfolding expected_given
-given_is (Given bytes) [] client q e = absurd (none_some e)
 given_is (Given bytes) (x ∷ xs) client q e = ap Given (same_bytes-true bytes (take longest_read (x ∷ xs)) (cond-some (same_bytes bytes (take longest_read (x ∷ xs))) (Some (record client { gives = drop longest_read (x ∷ xs) })) q e).0)
 given_is NotYet [] client q e = elim client.ends as (λ b. cond b None (Some client) ≡ Some q → NotYet ≡ cond b Ended NotYet) [ true ↦ λ e. absurd (none_some e) | false ↦ λ e. refl ] e
-given_is NotYet (x ∷ xs) client q e = absurd (none_some e)
 given_is Ended [] client q e = elim client.ends as (λ b. cond b (Some client) None ≡ Some q → Ended ≡ cond b Ended NotYet) [ true ↦ λ e. refl | false ↦ λ e. absurd (none_some e) ] e
-given_is Ended (x ∷ xs) client q e = absurd (none_some e)
-given_is Failed xs client q e = absurd (none_some e)
+given_is got xs client q e = absurd (none_some e)
 
 read_is : (got : ReadGot) (client q : ScriptedClient) → client_after_read got client ≡ Some q → got ≡ expected client
 unfolding expected
@@ -96,12 +91,6 @@ read_is got client q e =
 
 read_one : (w : List Bool) (k : ℕ) (p : OpenLink) (o : Outside) (h : Happening) (t : OpenLink) → read_by k p h ≡ Some t →
     TakesOne (read_by k) (AtPlace w k) (AtPlace w k) p o h (Read k (expected (client_or (client_at o k))))
-read_one w k p o (Woke wake) t e = absurd (none_some e)
-read_one w k p o (Hooked x off y) t e = absurd (none_some e)
-read_one w k p o (Wrote j offered took) t e = absurd (none_some e)
-read_one w k p o (Closed j why) t e = absurd (none_some e)
-read_one w k p o (Captured d n got) t e = absurd (none_some e)
-read_one w k p o (Emitted d sound done) t e = absurd (none_some e)
 read_one w k p o (Read j got) t e =
     let i = cond-some (j == k && is_read got) (Some (after_read k got p)) t e in
     let n : j ≡ k = eqb-true j k (both-true (j == k) (is_read got) i.0).0 in
@@ -112,6 +101,7 @@ read_one w k p o (Read j got) t e =
       is = λ o' a. ap (λ m. Read m got) n ∙ ap (Read k) (read_is got (client_or (client_at o k)) (here o' a).after (here o' a).is);
       stands = λ t o' p' f a. (here o' a).opens ∙ p';
     }
+read_one w k p o other t e = absurd (none_some e)
 
 read_alike : (w : List Bool) (k : ℕ) → GoesAlike (read_phase k) (AtPlace w k) (AtPlace w k)
 unfolding read_phase
@@ -149,12 +139,6 @@ taken_first k (Some bytes) p t e =
 
 write_one : (w : List Bool) (k : ℕ) (p : OpenLink) (o : Outside) (h : Happening) (t : OpenLink) → write_by k p h ≡ Some t →
     TakesOne (write_by k) (AtPlace w k) (AtPlace w k) p o h (Wrote k (length p.link.pending) (expected_write (client_or (client_at o k)) p.link.pending))
-write_one w k p o (Woke wake) t e = absurd (none_some e)
-write_one w k p o (Hooked x off y) t e = absurd (none_some e)
-write_one w k p o (Read j got) t e = absurd (none_some e)
-write_one w k p o (Closed j why) t e = absurd (none_some e)
-write_one w k p o (Captured d n got) t e = absurd (none_some e)
-write_one w k p o (Emitted d sound done) t e = absurd (none_some e)
 write_one w k p o (Wrote j offered took) t e =
     let pending = p.link.pending in
     let i = cond-some (j == k) (after_bytes_offered k offered took p) t e in
@@ -171,6 +155,7 @@ write_one w k p o (Wrote j offered took) t e =
           ∙ ap (Wrote k (length pending)) (write_is took pending (client_or (client_at o k)) (here o' a).after (here o' a).is (taken_first k took p t v.1));
       stands = λ t o' p' f a. (here o' a).opens ∙ p';
     }
+write_one w k p o other t e = absurd (none_some e)
 
 write_idle : (w : List Bool) (k : ℕ) (steps : List Step) (p : OpenLink) (o : Outside) (log1 log2 : Log) (b1 b2 : Parsed OpenLink) (e1 e2 : Outside) → wants_write p.link ≡ false →
     AtPlace w k p o → write_phase k p log1 ≡ Some b1 → write_phase k p log2 ≡ Some b2 → AnswersTo o log1 steps e1 → AnswersTo o log2 steps e2 → Agreed steps (AtPlace w k) log1 log2 e1 e2 b1 b2
@@ -216,12 +201,6 @@ write_alike w k steps p o (h1 ∷ log1) (h2 ∷ log2) b1 b2 e1 e2 at f1 f2 r1 r2
 
 close_one : (w : List Bool) (k : ℕ) (cause : Why) (p : OpenLink) (o : Outside) (h : Happening) (t : SlotLink) → close_by k p.environment cause h ≡ Some t →
     TakesOne (λ p. close_by k p.environment cause) (AtPlace w k) (StandsForSlot w k) p o h (Closed k cause)
-close_one w k cause p o (Woke wake) t e = absurd (none_some e)
-close_one w k cause p o (Hooked x off y) t e = absurd (none_some e)
-close_one w k cause p o (Read j got) t e = absurd (none_some e)
-close_one w k cause p o (Wrote j offered took) t e = absurd (none_some e)
-close_one w k cause p o (Captured d n got) t e = absurd (none_some e)
-close_one w k cause p o (Emitted d sound done) t e = absurd (none_some e)
 close_one w k cause p o (Closed j why) t e =
     let i = cond-some (j == k && same_why why cause) (Some (link_in_slot p.environment None)) t e in
     let v = both-true (j == k) (same_why why cause) i.0 in
@@ -237,6 +216,7 @@ close_one w k cause p o (Closed j why) t e =
           subst (λ y. opens y ≡ slice_set w k (is_some u.link)) gone
           (subst (λ m. opens (with_client o m None) ≡ slice_set w k (is_some u.link)) (sym n) (subst (λ d. opens (with_client o k None) ≡ slice_set w k (is_some d.link)) shut closed));
     }
+close_one w k cause p o other t e = absurd (none_some e)
 
 close_alike : (w : List Bool) (k : ℕ) → GoesAlike (close_phase k) (AtPlace w k) (StandsForSlot w k)
 unfolding close_phase

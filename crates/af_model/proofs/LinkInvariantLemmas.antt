@@ -1,5 +1,5 @@
 -- What holds of a link and its environment, and goes on to hold through all that the link does.
-use Rattle.std.proofs.Common.{◌≡◌, ◌≤◌, ℕ, zero, suc, Bool, true, false, not, cond, ◌&&◌, nat_le, List, length, take, is_none, is_some, slice_get, refl, ap, ◌∙◌, IfSome}
+use Rattle.std.proofs.Common.{◌≡◌, ◌≤◌, ℕ, zero, suc, Bool, true, false, not, cond, ◌&&◌, nat_le, List, [], ◌∷◌, ◌++◌, length, take, is_none, is_some, slice_get, refl, sym, ap, ◌∙◌, subst, IfSome}
 use Rattle.std.specs.declared.option.Option.{Option}
 use Rattle.std.specs.declared.option.Option.TheVariants.{None, Some}
 use Rattle.af_limits.specs.Limits.{longest_frame, perform_limit}
@@ -16,7 +16,7 @@ use Rattle.af_request.specs.Asked.{Asked}
 use Rattle.af_request.specs.Requests.{asked_in}
 use Rattle.af_request.specs.Answer.{setup}
 use Rattle.af_request.specs.Opcodes as opcodes
-use Rattle.af_model.specs.State.{DeviceState, Deferred, deferred_play, deferred_record, LinkState, OpenLink, open_link, say, closing_link}
+use Rattle.af_model.specs.State.{DeviceState, Deferral, Deferred, deferred_play, deferred_record, LinkState, OpenLink, open_link, say, with_device, closing_link}
 use Rattle.af_model.specs.Waiting.{has_deferral, wait}
 use Rattle.af_model.specs.Reply.{infos_of, reply_message}
 use Rattle.af_model.specs.Play.{in_devices, tell_played}
@@ -25,7 +25,7 @@ use Rattle.af_model.specs.Advance.{advance, advance_by, advance_step, after_fram
 use Rattle.af_model.specs.Tick.{answer_deferred, complete_for, complete_deferred}
 use Rattle.af_model.specs.Prefix.{is_dropped}
 use Rattle.af_model.specs.Causes.{is_malformed}
-use Rattle.af_model.proofs.BoolTestLemmas.{both-true, none-true}
+use Rattle.af_model.proofs.BoolTestLemmas.{both-true, none-true, some_is}
 use Rattle.af_model.proofs.DeviceHistoryLemmas.{Requested}
 use Rattle.af_model.proofs.DueLemmas.{IsToWait, most_asked}
 use Rattle.af_model.proofs.FrameSizeLemmas.{frame_asks}
@@ -44,6 +44,23 @@ pub record Keeps (k : ℕ) (May : Option Why → Type 0) (I : OpenLink → Type 
   pub says : (p : OpenLink) (bytes : List ℕ) → May p.link.closing → I p → I (say p bytes)
   pub becomes : (p : OpenLink) (d : ℕ) (device : DeviceState) (f : DeviceState → DeviceState) → slice_get p.environment.devices d ≡ Some device → Requested k device (f device) → I p → I (in_devices d f p)
   pub waits : (p : OpenLink) (d : ℕ) (device : DeviceState) (deferred : Deferred) → slice_get p.environment.devices d ≡ Some device → IsToWait longest_frame device deferred → p.link.closing ≡ None → I p → I (wait k d deferred p)
+
+-- What holds of the devices and the deferred requests alone goes on to hold if it does where a device becomes later, and where a
+-- request of link k is deferred.
+pub environment_keeps : (k : ℕ) (E : List DeviceState → List Deferral → Type 0) →
+    ((ds : List DeviceState) (ws : List Deferral) (d : ℕ) (device : DeviceState) (f : DeviceState → DeviceState) → slice_get ds d ≡ Some device → ((x : DeviceState) → slice_get ds d ≡ Some x → Requested k x (f x)) → E ds ws → E (with_device d f ds) ws) →
+    ((ds : List DeviceState) (ws : List Deferral) (d : ℕ) (deferred : Deferred) → ((x : DeviceState) → slice_get ds d ≡ Some x → IsToWait longest_frame x deferred) → E ds ws → E ds (ws ++ record { link = k; device = d; deferred = deferred } ∷ [])) →
+    Keeps k (λ closing. Unit {0}) (λ p. E p.environment.devices p.environment.waiting)
+environment_keeps k E becomes waits = record {
+  may = λ closing e. tt;
+  link = λ p l open' after same rest set ordered h. h;
+  takes = λ p n open' set e asked h. h;
+  sets_up = λ p order open' unset e h. h;
+  stops = λ p cause open' bad h. h;
+  says = λ p bytes stays h. h;
+  becomes = λ p d device f there l h. becomes p.environment.devices p.environment.waiting d device f there (λ x is. subst (λ y. Requested k y (f y)) (some_is (sym there ∙ is)) l) h;
+  waits = λ p d device deferred there w open' h. waits p.environment.devices p.environment.waiting d deferred (λ x is. subst (λ y. IsToWait longest_frame y deferred) (some_is (sym there ∙ is)) w) h;
+}
 
 pub open_undropped : (closing : Option Why) → closing ≡ None → is_dropped closing ≡ false
 open_undropped closing e = ap is_dropped e

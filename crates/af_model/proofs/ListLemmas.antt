@@ -1,7 +1,9 @@
--- Lists with one element replaced, and lists over ranges of numbers.
-use Rattle.std.proofs.Common.{◌≡◌, ◌≢◌, ℕ, zero, suc, ◌+◌, ◌<◌, ◌≤◌, List, [], ◌∷◌, map, slice_get, slice_set, refl, ap, ◌∙◌, arith}
+-- Lists with one element replaced or added, and lists over ranges of numbers.
+use Rattle.std.proofs.Common.{◌≡◌, ◌≢◌, ℕ, zero, suc, ◌+◌, ◌==◌, ◌<◌, ◌≤◌, not, cond, List, [], ◌∷◌, ◌++◌, map, filter, slice_get, slice_set, refl, ap, ◌∙◌, append-nil, arith}
+use Rattle.std.proofs.lemmas.List.Elements.{filter-append}
 use Rattle.std.specs.List.{range_with_len}
 use Rattle.std.specs.declared.option.Option.TheVariants.{Some}
+use Rattle.af_model.proofs.BoolTestLemmas.{same_number}
 
 module _ {A : Type 0} where
   pub get-set_other : (xs : List A) (j k : ℕ) (x : A) → k ≢ j → slice_get (slice_set xs j x) k ≡ slice_get xs k
@@ -22,3 +24,9 @@ module _ {A : Type 0} where
   map-range_alike f g a (suc n) same =
       ap (λ x. x ∷ map f (range_with_len (a + 1) n)) (same a (omega arith) (omega arith))
       ∙ ap (λ l. g a ∷ l) (map-range_alike f g (a + 1) n (λ j from to. same j (omega arith) (omega arith)))
+
+  -- what link k leaves at the end of a list is not there without it
+  pub pushed_without : (link : A → ℕ) (k : ℕ) (xs : List A) (x : A) → link x ≡ k → filter (λ y. not (link y == k)) (xs ++ x ∷ []) ≡ filter (λ y. not (link y == k)) xs
+  pushed_without link k xs x own =
+      let others : List A = filter (λ y. not (link y == k)) xs in
+      filter-append (λ y. not (link y == k)) xs (x ∷ []) ∙ ap (λ t. others ++ cond (not t) (x ∷ []) []) (ap (λ n. n == k) own ∙ same_number k) ∙ append-nil others

@@ -2,7 +2,7 @@
 use Rattle.std.proofs.Common.{◌≡◌, ℕ, zero, suc, true, List, [], ◌∷◌, is_some, refl, sym, ap, ◌∙◌, subst}
 use Rattle.std.specs.declared.option.Option.{Option}
 use Rattle.std.specs.declared.option.Option.TheVariants.{None, Some}
-use Rattle.af_world.specs.declared.happening.Happening.TheVariants.{Woke, Read, Wrote, Closed, Captured, Emitted, Hooked}
+use Rattle.af_world.specs.declared.happening.Happening.TheVariants.{Woke}
 use Rattle.af_world.specs.declared.happening.Wake.{Wake}
 use Rattle.af_world.specs.declared.script.DeviceSpec.{DeviceSpec}
 use Rattle.af_world.specs.declared.script.Step.{Step}
@@ -27,14 +27,8 @@ record TurnTaken (s : State) (log : Log) (b : Parsed State) : Type 0 where
 
 turn_inv : (s : State) (log : Log) (b : Parsed State) → turn s log ≡ Some b → TurnTaken s log b
 unfolding turn
-turn_inv s [] b e = absurd (none_some e)
 turn_inv s (Woke wake ∷ rest) b e = record { wake = wake; rest = rest; is = refl; goes = (cond-some (fits (outline s) wake) (parse_then (wake_phase wake s rest) serve_and_hook) b e).1 }
-turn_inv s (Read k got ∷ rest) b e = absurd (none_some e)
-turn_inv s (Wrote k offered took ∷ rest) b e = absurd (none_some e)
-turn_inv s (Closed k why ∷ rest) b e = absurd (none_some e)
-turn_inv s (Captured d n got ∷ rest) b e = absurd (none_some e)
-turn_inv s (Emitted d sound done ∷ rest) b e = absurd (none_some e)
-turn_inv s (Hooked d off done ∷ rest) b e = absurd (none_some e)
+turn_inv s log b e = absurd (none_some e)
 
 -- the turns of one step are alike
 pub turn_alike : (s : State) (o : Outside) (step : Step) (steps : List Step) (log1 log2 : Log) (b1 b2 : Parsed State) (e1 e2 : Outside) → Agree s o → turn s log1 ≡ Some b1 → turn s log2 ≡ Some b2 →

@@ -4,7 +4,7 @@ use Rattle.std.proofs.lemmas.List.{map-set}
 use Rattle.std.specs.declared.option.Option.{Option}
 use Rattle.std.specs.declared.option.Option.TheVariants.{None, Some}
 use Rattle.af_world.specs.declared.happening.Wake.{Wake}
-use Rattle.af_world.specs.declared.happening.Wake.TheVariants.{Opened, Readable, Writable, Ticked, Line, Idle, Stop}
+use Rattle.af_world.specs.declared.happening.Wake.TheVariants.{Opened}
 use Rattle.af_world.specs.Outside.{Outside, ScriptedClient, some_client, client_at, with_client}
 use Rattle.af_model.specs.State.{State, SlotState, EnvironmentState, OpenLink, Deferral, SlotLink, with_device, LinkState, DeviceState, slot_link_at, slot_at, some_slot, links_of}
 use Rattle.af_wait.specs.Waits.{without_first}
@@ -127,12 +127,7 @@ becomes-opens f kind value d device s =
 -- which links are open after a wake
 abbrev pub open_after : List Bool → Wake → List Bool
 open_after w (Opened k) = slice_set w k true
-open_after w (Readable k) = w
-open_after w (Writable k) = w
-open_after w (Ticked d n) = w
-open_after w (Line d change) = w
-open_after w Idle = w
-open_after w Stop = w
+open_after w _ = w
 
 abbrev pub Woken : Wake → State → Outside → Type 0
 Woken wake s o = opens o ≡ open_after (open_links s.slots) wake

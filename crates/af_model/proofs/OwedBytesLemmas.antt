@@ -11,8 +11,8 @@ use Rattle.af_phone.specs.Lines.{selects}
 use Rattle.af_world.specs.declared.happening.Why.{Why}
 use Rattle.af_world.specs.declared.happening.Why.TheVariants as why
 use Rattle.af_wait.specs.Waits.{without_first}
-use Rattle.af_model.specs.State.{DeviceState, LinkState, OpenLink, SlotLink, State, Deferral, open_link, none_selected, slot_at, closing_link}
-use Rattle.af_model.specs.Waiting.{has_deferral}
+use Rattle.af_model.specs.State.{DeviceState, LinkState, OpenLink, SlotLink, State, Deferral, open_link, none_selected, slot_at, with_device, closing_link}
+use Rattle.af_model.specs.Waiting.{has_deferral, wait}
 use Rattle.af_model.specs.Events.{drop_link, mask_of, some_mask, without_waiter}
 use Rattle.af_model.specs.Advance.{takes_more, without_front}
 use Rattle.af_model.specs.Turn.{close_due}
@@ -20,12 +20,13 @@ use Rattle.af_model.specs.LinkHistory.{LinkHistory}
 use Rattle.af_model.specs.Prefix.{is_dropped}
 use Rattle.af_model.specs.Causes.{IsCause, IsServedTo}
 use Rattle.af_model.proofs.BoolTestLemmas.{cond-some, none_some, same_number}
+use Rattle.af_model.proofs.ListLemmas.{pushed_without}
 use Rattle.af_model.proofs.InputLemmas.{IsBadInput, IsInput, input_more, input_set_up, input_taken}
 use Rattle.af_model.proofs.AdvancedLemmas.{IsAdvanced, NoneAtFront, advanced_closing, are_served}
 use Rattle.af_model.proofs.CauseLemmas.{IsUnended, Shows, ShowsBy, cause_alike, no_room, owed_at_close, shows_at_close, shows_bad, shows_owed, shows_taken}
-use Rattle.af_model.proofs.DeviceHistoryLemmas.{AllLive, Lives, all_live_refl, all_live_trans, all_live_with}
+use Rattle.af_model.proofs.DeviceHistoryLemmas.{AllLive, all_live}
 use Rattle.af_model.proofs.SafeLemmas.{SafeIn, safe_dropped, safe_keeps}
-use Rattle.af_model.proofs.LinkInvariantLemmas.{Keeps, open_undropped}
+use Rattle.af_model.proofs.LinkInvariantLemmas.{Keeps, environment_keeps, open_undropped}
 use Rattle.af_model.proofs.PendingLemmas.{RoomOf, room_dropped}
 
 pub not_both : {A : Type 0} (t : Bool) → t ≡ false → t ≡ true → A
@@ -56,11 +57,7 @@ dropped_waits k (w ∷ ws) =
       | false ↦ λ e. waits_none (without_waiter k ws) k w e (dropped_waits k ws)
     ] refl
 
--- the other deferred requests are the same, in their order, if one of a link comes or goes
-own_waits : (ws : List Deferral) (k : ℕ) (w : Deferral) → (w.link == k) ≡ true → without_waiter k (ws ++ w ∷ []) ≡ without_waiter k ws
-own_waits [] k w own = ap (λ t. cond (not t) (w ∷ []) []) own
-own_waits (v ∷ ws) k w own = ap (λ l. cond (not (v.link == k)) (v ∷ l) l) (own_waits ws k w own)
-
+-- the other deferred requests are the same, in their order, if those of a link have left before
 pub own_left : (ws : List Deferral) (k : ℕ) → without_waiter k (without_waiter k ws) ≡ without_waiter k ws
 own_left [] k = refl
 own_left (w ∷ ws) k =
@@ -135,14 +132,14 @@ QueuedSlot k h d = OwingLink k h d.environment.said d.link d.environment.waiting
 abbrev pub OwingAt : ℕ → LinkHistory → State → Type 0
 OwingAt k h s = OwingLink k h (slot_at k s).said (slot_at k s).link s.waiting
 
--- fewer wait
-pub owed_fewer : (k : ℕ) (g : LinkHistory) (said : List ℕ) (l : LinkState) (ws vs : List Deferral) → (has_deferral ws k ≡ false → has_deferral vs k ≡ false) → Owed k g said l ws → Owed k g said l vs
-owed_fewer k g said l ws vs less h = record {
+-- the deferred requests become others
+pub owed_waiting : (k : ℕ) (g : LinkHistory) (said : List ℕ) (l : LinkState) (ws vs : List Deferral) → (is_dropped l.closing ≡ true → has_deferral vs k ≡ false) → Owed k g said l ws → Owed k g said l vs
+owed_waiting k g said l ws vs waits h = record {
   rest = h.rest;
   whole = h.whole;
   queued = h.queued;
   sends = h.sends;
-  waits = λ e. less (h.waits e);
+  waits = waits;
   wants = h.wants;
   shows = h.shows;
   unclosed = h.unclosed;
@@ -151,7 +148,7 @@ owed_fewer k g said l ws vs less h = record {
 -- others wait
 pub queueing_same : (k : ℕ) (g : LinkHistory) (said : List ℕ) (link : Option LinkState) (ws vs : List Deferral) → has_deferral vs k ≡ has_deferral ws k → OwingLink k g said link ws → OwingLink k g said link vs
 queueing_same k g said None ws vs same h = h
-queueing_same k g said (Some l) ws vs same h = (owed_fewer k g said l ws vs (λ e. same ∙ e) h.0, λ more. h.1 (sym (ap (λ t. takes_more t l) same) ∙ more))
+queueing_same k g said (Some l) ws vs same h = (owed_waiting k g said l ws vs (λ e. same ∙ h.0.waits e) h.0, λ more. h.1 (sym (ap (λ t. takes_more t l) same) ∙ more))
 
 -- a request leaves, and its link is not open
 pub queueing_left : (passes : Deferral → Bool) (w : Deferral) (k : ℕ) (g : LinkHistory) (said : List ℕ) (link : Option LinkState) (ws : List Deferral) → find passes ws ≡ Some w → ((w.link == k) ≡ true → link ≡ None) → OwingLink k g said link ws →
@@ -168,18 +165,19 @@ unended : (k : ℕ) (g : LinkHistory) (p : OpenLink) → p.link.closing ≡ None
 unended k g p none h = subst (ShowsBy g h.rest p.link.is_set_up p.link.order p.link.rest) none h.shows
 
 -- a link that is not closing becomes another that is not, and the same waits to be sent
-becomes_unended : (k : ℕ) (g : LinkHistory) (p : OpenLink) (l : LinkState) → p.link.closing ≡ None → l.closing ≡ None → l.pending ≡ p.link.pending → IsUnended g l.is_set_up l.order l.rest → Owing k g p → Owing k g (open_link p.environment l)
-becomes_unended k g p l none after same input h =
+becomes_unended : (k : ℕ) (g f : LinkHistory) (p : OpenLink) (l : LinkState) → f.took ≡ g.took → f.closed ≡ g.closed → p.link.closing ≡ None → l.closing ≡ None → l.pending ≡ p.link.pending → IsUnended f l.is_set_up l.order l.rest → Owing k g p →
+    Owing k f (open_link p.environment l)
+becomes_unended k g f p l took closed none after same input h =
     let undropped = open_undropped l.closing after in
     record {
       rest = h.rest;
-      whole = h.whole;
+      whole = h.whole ∙ ap (λ x. x ++ h.rest) (sym took);
       queued = λ e. h.queued (open_undropped p.link.closing none) ∙ sym same;
       sends = λ e. not_both (is_dropped l.closing) undropped e;
       waits = λ e. not_both (is_dropped l.closing) undropped e;
       wants = λ e. not_both (is_none l.closing) e (ap is_none after);
-      shows = subst (ShowsBy g h.rest l.is_set_up l.order l.rest) (sym after) input;
-      unclosed = h.unclosed;
+      shows = subst (ShowsBy f h.rest l.is_set_up l.order l.rest) (sym after) input;
+      unclosed = closed ∙ h.unclosed;
     }
 
 -- a link that is not closing becomes one that is, and was not dropped
@@ -202,23 +200,22 @@ bad_undropped : (cause : Why) (l : LinkState) → IsBadInput cause l → is_drop
 bad_undropped why.BadSetup l bad = refl
 bad_undropped why.Malformed l bad = refl
 bad_undropped why.Ended l bad = refl
-bad_undropped why.LinkFault l bad = absurd bad
-bad_undropped why.Overrun l bad = absurd bad
+bad_undropped cause l bad = absurd bad
 
 pub queueing_keeps : (k : ℕ) (g : LinkHistory) → Keeps k (λ closing. is_dropped closing ≡ false) (Owing k g)
 queueing_keeps k g = record {
   may = λ closing e. e;
   link = λ p l none after same rest set ordered h.
-      becomes_unended k g p l none after same (subst (λ b. IsUnended g b l.order l.rest) (sym set) (subst (λ o. IsUnended g p.link.is_set_up o l.rest) (sym ordered) (subst (IsUnended g p.link.is_set_up p.link.order) (sym rest) (unended k g p none h)))) h;
+      becomes_unended k g g p l refl refl none after same (subst (λ b. IsUnended g b l.order l.rest) (sym set) (subst (λ o. IsUnended g p.link.is_set_up o l.rest) (sym ordered) (subst (IsUnended g p.link.is_set_up p.link.order) (sym rest) (unended k g p none h)))) h;
   takes = λ p n none set e asked h.
       let u = unended k g p none h in
       let served : IsServedTo p.link.order g.gave p.link.rest = subst (λ b. IsInput b p.link.order g.gave p.link.rest) set u.input in
-      becomes_unended k g p (without_front n p.link) none none refl
+      becomes_unended k g g p (without_front n p.link) refl refl none none refl
       (record { failed = u.failed; ended = u.ended; input = subst (λ b. IsInput b p.link.order g.gave (drop n p.link.rest)) (sym set) (input_taken p.link.order g.gave p.link.rest n e asked served) }) h;
   sets_up = λ p order none unset e h.
       let u = unended k g p none h in
       let same : p.link.rest ≡ g.gave = subst (λ b. IsInput b p.link.order g.gave p.link.rest) unset u.input in
-      becomes_unended k g p (record (without_front 8 p.link) { is_set_up = true; order = order }) none none refl (record { failed = u.failed; ended = u.ended; input = input_set_up order g.gave p.link.rest e same }) h;
+      becomes_unended k g g p (record (without_front 8 p.link) { is_set_up = true; order = order }) refl refl none none refl (record { failed = u.failed; ended = u.ended; input = input_set_up order g.gave p.link.rest e same }) h;
   stops = λ p cause none bad h.
       becomes_closing k g p (closing_link cause p.link) cause none refl (bad_undropped cause p.link bad) refl refl (λ owed. shows_bad g owed cause p.link bad (unended k g p none h)) h;
   says = λ p bytes stays h. record {
@@ -232,16 +229,7 @@ queueing_keeps k g = record {
     unclosed = h.unclosed;
   };
   becomes = λ p d device f there l h. h;
-  waits = λ p d device deferred there w open' h. record {
-    rest = h.rest;
-    whole = h.whole;
-    queued = h.queued;
-    sends = h.sends;
-    waits = λ e. not_both (is_dropped p.link.closing) (open_undropped p.link.closing open') e;
-    wants = h.wants;
-    shows = h.shows;
-    unclosed = h.unclosed;
-  };
+  waits = λ p d device deferred there w open' h. owed_waiting k g p.environment.said p.link p.environment.waiting (wait k d deferred p).environment.waiting (not_both (is_dropped p.link.closing) (open_undropped p.link.closing open')) h;
 }
 
 -- bytes came to a link that is not closing
@@ -249,18 +237,8 @@ pub queued_given : (k : ℕ) (g : LinkHistory) (bytes : List ℕ) (p : OpenLink)
     Owing k (record g { gave = g.gave ++ bytes }) (open_link p.environment (record p.link { rest = p.link.rest ++ bytes }))
 queued_given k g bytes p none h =
     let u = unended k g p none h in
-    let undropped = open_undropped p.link.closing none in
-    record {
-      rest = h.rest;
-      whole = h.whole;
-      queued = h.queued;
-      sends = h.sends;
-      waits = h.waits;
-      wants = h.wants;
-      shows = subst (ShowsBy (record g { gave = g.gave ++ bytes }) h.rest p.link.is_set_up p.link.order (p.link.rest ++ bytes)) (sym none)
-          (record { failed = u.failed; ended = u.ended; input = input_more p.link.is_set_up p.link.order g.gave p.link.rest bytes u.input });
-      unclosed = h.unclosed;
-    }
+    becomes_unended k g (record g { gave = g.gave ++ bytes }) p (record p.link { rest = p.link.rest ++ bytes }) refl refl none none refl
+    (record { failed = u.failed; ended = u.ended; input = input_more p.link.is_set_up p.link.order g.gave p.link.rest bytes u.input }) h
 
 -- a link that is not closing has ended
 pub queued_ended : (k : ℕ) (g : LinkHistory) (p : OpenLink) → p.link.closing ≡ None → NoneAtFront p.link.is_set_up p.link.order p.link.rest → Owing k g p →
@@ -309,17 +287,6 @@ queued_dropped k g f cause p drops took closed h shows = record {
   shows = subst (λ t. IsCause cause f (owed_at_close t h.rest)) (sym drops) shows;
   unclosed = closed ∙ h.unclosed;
 }
-
--- a call of it failed
-pub queued_failed : (k : ℕ) (g : LinkHistory) (p : OpenLink) → Owing k g p → Owing k (record g { has_failed = true }) (drop_link k why.LinkFault p)
-queued_failed k g p h = queued_dropped k g (record g { has_failed = true }) why.LinkFault p refl refl refl h refl
-
--- an event found no room
-pub queued_overrun : (k : ℕ) (g : LinkHistory) (p : OpenLink) → p.link.closing ≡ None → nat_le (length p.link.pending + 20) event_limit ≡ false → Owing k g p → Owing k g (drop_link k why.Overrun p)
-queued_overrun k g p none full h =
-    let u = unended k g p none h in
-    queued_dropped k g g why.Overrun p refl refl refl h
-    (u.failed, u.ended, subst (λ l. event_limit < length l + 20) (sym (h.queued (open_undropped p.link.closing none))) (no_room (length p.link.pending) full))
 
 -- a link to which nothing waits to be sent is closed for its cause
 pub queued_closed : (k : ℕ) (g : LinkHistory) (p : OpenLink) (cause : Why) → close_due p.link ≡ Some cause → Owing k g p → OwingLink k (record g { closed = Some cause }) p.environment.said None p.environment.waiting
@@ -378,49 +345,38 @@ sending_undropped k g said l ws e h =
 -- Devices, and the other deferred requests
 
 pub grows_keeps : (k : ℕ) (ds : List DeviceState) → Keeps k (λ closing. Unit {0}) (λ p. AllLive ds p.environment.devices)
-grows_keeps k ds = record {
-  may = λ closing e. tt;
-  link = λ p l open' after same rest set ordered h. h;
-  takes = λ p n open' set e asked h. h;
-  sets_up = λ p order open' unset e h. h;
-  stops = λ p cause open' bad h. h;
-  says = λ p bytes stays h. h;
-  becomes = λ p d device f there l h. all_live_trans ds p.environment.devices _ h (all_live_with d f p.environment.devices (λ x is. subst (λ y. Lives y (f y)) (some_same is there) l.lives));
-  waits = λ p d device deferred there w open' h. h;
-}
-  where
-    some_same : {a b : DeviceState} {o : Option DeviceState} → o ≡ Some a → o ≡ Some b → b ≡ a
-    some_same e f = cc
+grows_keeps k ds =
+    environment_keeps k (λ es ws. AllLive ds es)
+    (λ es ws d device f there l h. all_live.follow ds es (with_device d f es) h (all_live.change d f es (λ x is. (l x is).lives)))
+    (λ es ws d deferred w h. h)
 
 -- the other deferred requests are the same, in their order
 abbrev pub SameOthers : ℕ → List Deferral → List Deferral → Type 0
 SameOthers k ws vs = without_waiter k vs ≡ without_waiter k ws
 
 pub others_keep : (k : ℕ) (ws : List Deferral) → Keeps k (λ closing. Unit {0}) (λ p. SameOthers k ws p.environment.waiting)
-others_keep k ws = record {
-  may = λ closing e. tt;
-  link = λ p l open' after same rest set ordered h. h;
-  takes = λ p n open' set e asked h. h;
-  sets_up = λ p order open' unset e h. h;
-  stops = λ p cause open' bad h. h;
-  says = λ p bytes stays h. h;
-  becomes = λ p d device f there l h. h;
-  waits = λ p d device deferred there w open' h. own_waits p.environment.waiting k (record { link = k; device = d; deferred = deferred }) (same_number k) ∙ h;
-}
+others_keep k ws =
+    environment_keeps k (λ ds vs. SameOthers k ws vs) (λ ds vs d device f there l h. h)
+    (λ ds vs d deferred w h. pushed_without (λ (w : Deferral). w.link) k vs (record { link = k; device = d; deferred = deferred }) refl ∙ h)
 
--- How a link and its environment change, if nothing is taken: devices become later; what is queued for it stays so and within its
--- room; if all that can be was taken off its input, it still was; and the deferred requests of others stay.
-pub record Moved (j : ℕ) (p q : OpenLink) : Type 0 where
+-- How a link and its environment change, if nothing is taken: devices become later; what is queued for it stays so, as its
+-- history becomes another, and within its room; if all that can be was taken off its input, it still was; and the deferred
+-- requests of others stay.
+pub record MovedBy (j : ℕ) (note : LinkHistory → LinkHistory) (p q : OpenLink) : Type 0 where
   pub devices : AllLive p.environment.devices q.environment.devices
-  pub own : (g : LinkHistory) → Owing j g p → Owing j g q
+  pub own : (g : LinkHistory) → Owing j g p → Owing j (note g) q
   pub advanced : IsAdvanced j p.link p.environment.waiting → IsAdvanced j q.link q.environment.waiting
   pub others : SameOthers j p.environment.waiting q.environment.waiting
   pub safe : SafeIn 0 0 p.environment → SafeIn 0 0 q.environment
   pub room : RoomOf j p → RoomOf j q
 
+-- the same, and its history stays
+abbrev pub Moved : ℕ → OpenLink → OpenLink → Type 0
+Moved j p q = MovedBy j (λ g. g) p q
+
 pub moved_of : (j : ℕ) (p q : OpenLink) → IsAdvanced j q.link q.environment.waiting → (RoomOf j p → RoomOf j q) → ((May : Option Why → Type 0) (I : OpenLink → Type 0) → Keeps j May I → I p → I q) → Moved j p q
 moved_of j p q ends room go = record {
-  devices = go (λ closing. Unit {0}) (λ x. AllLive p.environment.devices x.environment.devices) (grows_keeps j p.environment.devices) (all_live_refl p.environment.devices);
+  devices = go (λ closing. Unit {0}) (λ x. AllLive p.environment.devices x.environment.devices) (grows_keeps j p.environment.devices) (all_live.stay p.environment.devices);
   own = λ g h. go (λ closing. is_dropped closing ≡ false) (Owing j g) (queueing_keeps j g) h;
   advanced = λ h. ends;
   others = go (λ closing. Unit {0}) (λ x. SameOthers j p.environment.waiting x.environment.waiting) (others_keep j p.environment.waiting) refl;
@@ -428,13 +384,26 @@ moved_of j p q ends room go = record {
   room = room;
 }
 
--- an event found no room
-pub moved_overrun : (k : ℕ) (p : OpenLink) → ((g : LinkHistory) → Owing k g p → p.link.closing ≡ None) → nat_le (length p.link.pending + 20) event_limit ≡ false → Moved k p (drop_link k why.Overrun p)
-moved_overrun k p opens full = record {
-  devices = all_live_refl p.environment.devices;
-  own = λ g h. queued_overrun k g p (opens g h) full h;
-  advanced = λ h. advanced_closing k (drop_link k why.Overrun p).link (drop_link k why.Overrun p).environment.waiting why.Overrun refl;
+-- a link is dropped
+pub moved_dropped : (k : ℕ) (cause : Why) (note : LinkHistory → LinkHistory) (p : OpenLink) → ((g : LinkHistory) → Owing k g p → Owing k (note g) (drop_link k cause p)) → MovedBy k note p (drop_link k cause p)
+moved_dropped k cause note p own = record {
+  devices = all_live.stay p.environment.devices;
+  own = own;
+  advanced = λ h. advanced_closing k (drop_link k cause p).link (drop_link k cause p).environment.waiting cause refl;
   others = own_left p.environment.waiting k;
   safe = λ h. safe_dropped k p.environment.devices p.environment.waiting h;
-  room = λ h. room_dropped k why.Overrun p h;
+  room = λ h. room_dropped k cause p h;
 }
+
+-- a call of it failed
+pub moved_failed : (k : ℕ) (p : OpenLink) → MovedBy k (λ g. record g { has_failed = true }) p (drop_link k why.LinkFault p)
+moved_failed k p = moved_dropped k why.LinkFault (λ g. record g { has_failed = true }) p (λ g h. queued_dropped k g (record g { has_failed = true }) why.LinkFault p refl refl refl h refl)
+
+-- an event found no room
+pub moved_overrun : (k : ℕ) (p : OpenLink) → ((g : LinkHistory) → Owing k g p → p.link.closing ≡ None) → nat_le (length p.link.pending + 20) event_limit ≡ false → Moved k p (drop_link k why.Overrun p)
+moved_overrun k p opens full =
+    moved_dropped k why.Overrun (λ g. g) p (λ g h.
+    let none = opens g h in
+    let u = unended k g p none h in
+    queued_dropped k g g why.Overrun p refl refl refl h
+    (u.failed, u.ended, subst (λ l. event_limit < length l + 20) (sym (h.queued (open_undropped p.link.closing none))) (no_room (length p.link.pending) full)))

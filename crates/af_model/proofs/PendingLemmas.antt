@@ -178,9 +178,6 @@ room_dropped k cause p h =
 -- Requests
 
 -- a link without a deferred request is answered, or its request is deferred
-pends : (n waits : ℕ) → waits ≡ 0 → n ≤ perform_limit → n + longest_message * waits ≤ most_pending
-pends n waits none low = omega (arith, none, low)
-
 pends_more : (pending bytes : List ℕ) (waits : ℕ) → waits ≡ 0 → length pending ≤ perform_limit → length bytes ≤ longest_message → length (pending ++ bytes) + longest_message * waits ≤ most_pending
 pends_more pending bytes waits none low few = omega (arith, none, low, few, length-append pending bytes)
 

@@ -4,7 +4,7 @@ use Rattle.std.specs.declared.option.Option.{Option}
 use Rattle.std.specs.declared.option.Option.TheVariants.{None, Some}
 use Rattle.af_sample.specs.SampleTypes.{frame_bytes}
 use Rattle.af_world.specs.declared.happening.Happening.{Happening}
-use Rattle.af_world.specs.declared.happening.Happening.TheVariants.{Woke, Read, Wrote, Closed, Captured, Emitted, Hooked}
+use Rattle.af_world.specs.declared.happening.Happening.TheVariants.{Read, Closed, Captured, Emitted, Hooked}
 use Rattle.af_world.specs.declared.happening.ReadGot.{ReadGot}
 use Rattle.af_world.specs.declared.happening.Why.{Why}
 use Rattle.af_world.specs.Log.{Log}
@@ -73,16 +73,11 @@ module _ {S T U : Type 0} where
 
 module _ (k : ℕ) (p : OpenLink) (M : Log → OpenLink → Type 0) where
   read_one : ((got : ReadGot) → is_read got ≡ true → M (Read k got ∷ []) (after_read k got p)) → (h : Happening) (t : OpenLink) → read_by k p h ≡ Some t → M (h ∷ []) t
-  read_one read (Woke wake) t e = absurd (none_some e)
-  read_one read (Wrote j offered took) t e = absurd (none_some e)
-  read_one read (Closed j why) t e = absurd (none_some e)
-  read_one read (Captured d n got) t e = absurd (none_some e)
-  read_one read (Emitted d out done) t e = absurd (none_some e)
-  read_one read (Hooked d off done) t e = absurd (none_some e)
   read_one read (Read j got) t e =
       let i = cond-some (j == k && is_read got) (Some (after_read k got p)) t e in
       let both = both-true (j == k) (is_read got) i.0 in
       subst (λ q. M (Read j got ∷ []) q) (some_is i.1) (subst (λ n. M (Read n got ∷ []) (after_read k got p)) (sym (eqb-true j k both.0)) (read got both.1))
+  read_one read other t e = absurd (none_some e)
 
   pub read_takes : (wants_read (has_deferral p.environment.waiting k) p.link ≡ false → M [] p) → (wants_read (has_deferral p.environment.waiting k) p.link ≡ true → (got : ReadGot) → is_read got ≡ true → M (Read k got ∷ []) (after_read k got p)) → Takes (read_phase k p) M
   unfolding read_phase
@@ -127,17 +122,12 @@ module _ (k : ℕ) (R : OpenLink → Log → OpenLink → Type 0) (rests : (p : 
 
 module _ (k : ℕ) (p : OpenLink) (M : Log → SlotLink → Type 0) (stays : M [] (link_in_slot p.environment (Some p.link))) (closes : (cause : Why) → close_due p.link ≡ Some cause → M (Closed k cause ∷ []) (link_in_slot p.environment None)) where
   close_one : (cause : Why) → close_due p.link ≡ Some cause → (h : Happening) (t : SlotLink) → close_by k p.environment cause h ≡ Some t → M (h ∷ []) t
-  close_one cause due (Woke wake) t e = absurd (none_some e)
-  close_one cause due (Read j got) t e = absurd (none_some e)
-  close_one cause due (Wrote j offered took) t e = absurd (none_some e)
-  close_one cause due (Captured d n got) t e = absurd (none_some e)
-  close_one cause due (Emitted d out done) t e = absurd (none_some e)
-  close_one cause due (Hooked d off done) t e = absurd (none_some e)
   close_one cause due (Closed j why) t e =
       let i = cond-some (j == k && same_why why cause) (Some (link_in_slot p.environment None)) t e in
       let both = both-true (j == k) (same_why why cause) i.0 in
       subst (λ q. M (Closed j why ∷ []) q) (some_is i.1)
       (subst (λ n. M (Closed n why ∷ []) (link_in_slot p.environment None)) (sym (eqb-true j k both.0)) (subst (λ w. M (Closed k w ∷ []) (link_in_slot p.environment None)) (sym (same_why-true why cause both.1)) (closes cause due)))
+  close_one cause due other t e = absurd (none_some e)
 
   pub close_takes : Takes (close_phase k p) M
   unfolding close_phase
@@ -150,12 +140,6 @@ module _ (k : ℕ) (p : OpenLink) (M : Log → SlotLink → Type 0) (stays : M [
 -- Ticks
 
 capture_one : (d n : ℕ) (device : DeviceState) (h : Happening) (got : Option (List ℕ)) → capture_by d n device h ≡ Some got → (h ∷ [] ≡ Captured d n got ∷ []) × (is_capture n device got ≡ true)
-capture_one d n device (Woke wake) got e = absurd (none_some e)
-capture_one d n device (Read j x) got e = absurd (none_some e)
-capture_one d n device (Wrote j offered took) got e = absurd (none_some e)
-capture_one d n device (Closed j why) got e = absurd (none_some e)
-capture_one d n device (Emitted j out done) got e = absurd (none_some e)
-capture_one d n device (Hooked j off done) got e = absurd (none_some e)
 capture_one d n device (Captured j m x) got e =
     let i = cond-some (j == d && m == n && is_capture n device x) (Some x) got e in
     let first = both-true (j == d && m == n) (is_capture n device x) i.0 in
@@ -164,17 +148,12 @@ capture_one d n device (Captured j m x) got e =
     let size : m ≡ n = eqb-true m n both.1 in
     let same : x ≡ got = some_is i.1 in
     (cc, ap (is_capture n device) (sym same) ∙ first.1)
+capture_one d n device other got e = absurd (none_some e)
 
 module _ (d n : ℕ) (device : DeviceState) (s : State) (M : Log → State → Type 0)
     (failed : M (Captured d n None ∷ []) (tick d n (captured_samples device n None) true s))
     (sounded : (bytes : List ℕ) (done : Bool) → length bytes ≡ n * frame_bytes device.ty device.channels → M (Captured d n (Some bytes) ∷ Emitted d (sound device n) done ∷ []) (tick d n (captured_samples device n (Some bytes)) (not done) s)) where
   emit_one : (bytes : List ℕ) → length bytes ≡ n * frame_bytes device.ty device.channels → (h : Happening) (t : State) → emit_by d n device (captured_samples device n (Some bytes)) s h ≡ Some t → M (Captured d n (Some bytes) ∷ h ∷ []) t
-  emit_one bytes size (Woke wake) t e = absurd (none_some e)
-  emit_one bytes size (Read j got) t e = absurd (none_some e)
-  emit_one bytes size (Wrote j offered took) t e = absurd (none_some e)
-  emit_one bytes size (Closed j why) t e = absurd (none_some e)
-  emit_one bytes size (Captured j m got) t e = absurd (none_some e)
-  emit_one bytes size (Hooked j off done) t e = absurd (none_some e)
   emit_one bytes size (Emitted j out done) t e =
       let next = tick d n (captured_samples device n (Some bytes)) (not done) s in
       let i = cond-some (j == d && same_bytes out (sound device n)) (Some next) t e in
@@ -183,6 +162,7 @@ module _ (d n : ℕ) (device : DeviceState) (s : State) (M : Log → State → T
       let same : sound device n ≡ out = sym (same_bytes-true out (sound device n) both.1) in
       subst (λ q. M (Captured d n (Some bytes) ∷ Emitted j out done ∷ []) q) (some_is i.1)
       (subst (λ m. M (Captured d n (Some bytes) ∷ Emitted m out done ∷ []) next) here (subst (λ x. M (Captured d n (Some bytes) ∷ Emitted d x done ∷ []) next) same (sounded bytes done size)))
+  emit_one bytes size other t e = absurd (none_some e)
 
   captured_takes : (part : Log) (got : Option (List ℕ)) → (part ≡ Captured d n got ∷ []) × (is_capture n device got ≡ true) → Takes (after_capture d n device s got) (λ more t. M (part ++ more) t)
   captured_takes part None h = takes_nothing (tick d n (captured_samples device n None) true s) (λ more t. M (part ++ more) t) (subst (λ l. M (l ++ []) (tick d n (captured_samples device n None) true s)) (sym h.0) failed)
@@ -200,16 +180,11 @@ module _ (d n : ℕ) (device : DeviceState) (s : State) (M : Log → State → T
 module _ (d : ℕ) (device : DeviceState) (s : State) (M : Log → State → Type 0) (rests : M [] s)
     (hooks : (wanted off done : Bool) → M (Hooked d wanted done ∷ []) (cond done (after_hook off d device s) (after_hook_failure d s))) where
   hook_one : (off : Bool) (h : Happening) (t : State) → hook_by d off device s h ≡ Some t → M (h ∷ []) t
-  hook_one off (Woke wake) t e = absurd (none_some e)
-  hook_one off (Read j got) t e = absurd (none_some e)
-  hook_one off (Wrote j offered took) t e = absurd (none_some e)
-  hook_one off (Closed j why) t e = absurd (none_some e)
-  hook_one off (Captured j n got) t e = absurd (none_some e)
-  hook_one off (Emitted j out done) t e = absurd (none_some e)
   hook_one off (Hooked j wanted done) t e =
       let i = cond-some (j == d && same_flag wanted off) (Some (cond done (after_hook off d device s) (after_hook_failure d s))) t e in
       let both = both-true (j == d) (same_flag wanted off) i.0 in
       subst (λ q. M (Hooked j wanted done ∷ []) q) (some_is i.1) (subst (λ n. M (Hooked n wanted done ∷ []) (cond done (after_hook off d device s) (after_hook_failure d s))) (sym (eqb-true j d both.0)) (hooks wanted off done))
+  hook_one off other t e = absurd (none_some e)
 
   pub hook_takes : Takes (hook_for d device (wanted_hook device) s) M
   hook_takes =

@@ -16,12 +16,7 @@ use Rattle.af_model.proofs.BoolTestLemmas.{none_some}
 pub wakes-append : (p q : Log) → wakes (p ++ q) ≡ wakes p + wakes q
 wakes-append [] q = omega arith
 wakes-append (Woke wake ∷ p) q = let e = wakes-append p q in omega arith
-wakes-append (Read k got ∷ p) q = wakes-append p q
-wakes-append (Wrote k offered took ∷ p) q = wakes-append p q
-wakes-append (Closed k why ∷ p) q = wakes-append p q
-wakes-append (Captured d n got ∷ p) q = wakes-append p q
-wakes-append (Emitted d sound done ∷ p) q = wakes-append p q
-wakes-append (Hooked d off done ∷ p) q = wakes-append p q
+wakes-append (h ∷ p) q = wakes-append p q
 
 -- two parts without a wake have none together
 pub wakes-append-none : (p q : Log) → wakes p ≡ 0 → wakes q ≡ 0 → wakes (p ++ q) ≡ 0

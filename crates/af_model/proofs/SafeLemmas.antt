@@ -16,7 +16,7 @@ use Rattle.af_model.specs.NoLoss.{IsWholeAt, LosesNone}
 use Rattle.af_model.proofs.BoolTestLemmas.{some_is}
 use Rattle.af_model.proofs.DeviceHistoryLemmas.{zip_back, zip_with}
 use Rattle.af_model.proofs.DueLemmas.{IsToWait, frames_deferred}
-use Rattle.af_model.proofs.LinkInvariantLemmas.{Keeps}
+use Rattle.af_model.proofs.LinkInvariantLemmas.{Keeps, environment_keeps}
 
 -- a device that keeps sound for long enough, and completed no request that lost a sample
 pub record IsSafe (device : DeviceState) : Type 0 where
@@ -108,21 +108,14 @@ loses_alike d e rate completed h = record {
 }
 
 pub safe_keeps : (k slack d : ℕ) → Keeps k (λ closing. Unit {0}) (λ p. SafeIn slack d p.environment)
-safe_keeps k slack c = record {
-  may = λ closing e. tt;
-  link = λ p l open' after same rest set ordered h. h;
-  takes = λ p n open' set e asked h. h;
-  sets_up = λ p order open' unset e h. h;
-  stops = λ p cause open' bad h. h;
-  says = λ p bytes stays h. h;
-  becomes = λ p d device f there l h. safe_becomes slack c d f p.environment.devices p.environment.waiting (λ x is. subst (λ y. SameClock y (f y)) (some_is (sym there ∙ is)) (l.lives.now, l.lives.rate, l.lives.channels))
-      (λ x is. subst (λ y. IsSafe y → IsSafe (f y)) (some_is (sym there ∙ is)) (loses_alike device (f device) l.lives.rate l.completed)) h;
-  waits = λ p d device deferred there w open' h. record {
-    devices = h.devices;
-    waiting = All-push (λ v. AwaitedIn slack c p.environment.devices v) p.environment.waiting (record { link = k; device = d; deferred = deferred }) h.waiting
-        (λ x is. subst (λ y. IsAwaited (slack_for slack c (record { link = k; device = d; deferred = deferred })) y deferred) (some_is (sym there ∙ is)) (to_wait device deferred (slack_for slack c (record { link = k; device = d; deferred = deferred })) w));
-  };
-}
+safe_keeps k slack c =
+    environment_keeps k (Safe slack c)
+    (λ ds ws d device f there l h. safe_becomes slack c d f ds ws (λ x is. let r = (l x is).lives in (r.now, r.rate, r.channels)) (λ x is. loses_alike x (f x) (l x is).lives.rate (l x is).completed) h)
+    (λ ds ws d deferred w h. record {
+      devices = h.devices;
+      waiting = All-push (λ v. AwaitedIn slack c ds v) ws (record { link = k; device = d; deferred = deferred }) h.waiting
+          (λ x is. to_wait x deferred (slack_for slack c (record { link = k; device = d; deferred = deferred })) (w x is));
+    })
   where
     to_wait : (device : DeviceState) (deferred : Deferred) (slack : ℕ) → IsToWait longest_frame device deferred → IsAwaited slack device deferred
     to_wait device deferred slack w = record { soon = omega (arith, w.later); ever = omega (arith, w.later); short = w.short }

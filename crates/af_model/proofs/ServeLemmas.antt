@@ -3,13 +3,13 @@ use Rattle.std.proofs.Common.{◌≡◌, ℕ, zero, suc, ◌+◌, ◌==◌, Bool
 use Rattle.std.proofs.lemmas.Bool.{eqb-false}
 use Rattle.std.proofs.lemmas.List.{take-append-drop}
 use Rattle.std.proofs.lemmas.List.Sums.{fold-append}
-use Rattle.std.proofs.lemmas.List.Elements.{All-append, All-cons, All-from_recursion, All-nil}
+use Rattle.std.proofs.lemmas.List.Elements.{All-append, All-cons, All-nil}
 use Rattle.std.specs.List.{All, fold}
 use Rattle.std.specs.declared.option.Option.{Option}
 use Rattle.std.specs.declared.option.Option.TheVariants.{None, Some}
 use Rattle.af_limits.specs.Limits.{longest_message, most_pending}
 use Rattle.af_world.specs.declared.happening.Happening.{Happening}
-use Rattle.af_world.specs.declared.happening.Happening.TheVariants.{Woke, Read, Wrote, Closed, Captured, Emitted, Hooked}
+use Rattle.af_world.specs.declared.happening.Happening.TheVariants.{Woke, Read, Wrote, Closed, Emitted}
 use Rattle.af_world.specs.declared.happening.ReadGot.{ReadGot}
 use Rattle.af_world.specs.declared.happening.ReadGot.TheVariants.{Given, NotYet, Ended, Failed}
 use Rattle.af_world.specs.declared.happening.Why.TheVariants as why
@@ -26,13 +26,13 @@ use Rattle.af_model.specs.Dead.{fails_device, fails_line}
 use Rattle.af_model.specs.Offers.{IsOfferWithin}
 use Rattle.af_model.proofs.BoolTestLemmas.{both-true, cond-some, none_some, same_bytes-true, same_number, some_is}
 use Rattle.af_model.proofs.ListLemmas.{get-set_other, get-set_same}
-use Rattle.af_model.proofs.DeviceHistoryLemmas.{AllLive, Laters, all_live_refl, all_live_trans, laters_refl, laters_trans, live_laters}
+use Rattle.af_model.proofs.DeviceHistoryLemmas.{AllLive, Laters, all_live, laters, live_laters}
 use Rattle.af_model.proofs.DeadLemmas.{DeadAs, DeadIn, NoneFails, died, died_device, died_line, lives_dead, none_fails-append}
 use Rattle.af_model.proofs.AdvancedLemmas.{advanced_after, advanced_closing}
 use Rattle.af_model.proofs.LinkInvariantLemmas.{advance_keeps, takes_more_open}
-use Rattle.af_model.proofs.PendingLemmas.{IsPending, RoomIn, RoomOf, RoomOfSlot, advance_room, room_dropped, waiters, waiters_same}
-use Rattle.af_model.proofs.SafeLemmas.{SafeIn, SafeState, safe_dropped}
-use Rattle.af_model.proofs.OwedBytesLemmas.{Moved, OwingAt, QueuedSlot, OwingLink, moved_of, queued_closed, queued_ended, queued_failed, queued_given, queued_taken, queueing_keeps, queueing_same, sending_undropped, own_left, still_waits, SameOthers}
+use Rattle.af_model.proofs.PendingLemmas.{IsPending, RoomIn, RoomOf, RoomOfSlot, advance_room, waiters, waiters_same}
+use Rattle.af_model.proofs.SafeLemmas.{SafeIn, SafeState}
+use Rattle.af_model.proofs.OwedBytesLemmas.{Moved, MovedBy, moved_failed, OwingAt, QueuedSlot, OwingLink, moved_of, queued_closed, queued_ended, queued_given, queued_taken, queueing_keeps, queueing_same, sending_undropped, still_waits, SameOthers}
 use Rattle.af_model.proofs.PhasePartLemmas.{Takes, close_takes, read_takes, takes_chain, takes_nothing, takes_then, write_takes}
 
 -- A happening within a turn, after its wake and its emit
@@ -70,7 +70,7 @@ served_refl : (j : ℕ) (d : SlotLink) → Served j d [] d
 served_refl j d = record {
   inside = refl;
   alive = λ c sofar. (refl, refl);
-  devices = all_live_refl d.environment.devices;
+  devices = all_live.stay d.environment.devices;
   own = λ g h. h;
   others = λ k other g. refl;
   waits = refl;
@@ -82,12 +82,36 @@ served_trans : (j : ℕ) (a : SlotLink) (p : Log) (b : SlotLink) (q : Log) (c : 
 served_trans j a p b q c s t = record {
   inside = inner-append p q s.inside t.inside;
   alive = none_fails-append p q s.alive t.alive;
-  devices = all_live_trans a.environment.devices b.environment.devices c.environment.devices s.devices t.devices;
+  devices = all_live.follow a.environment.devices b.environment.devices c.environment.devices s.devices t.devices;
   own = λ g h. subst (λ x. QueuedSlot j x c) (sym (fold-append (note_happening j) g p q)) (t.own (fold (note_happening j) g p) (s.own g h));
   others = λ k other g. fold-append (note_happening k) g p q ∙ t.others k other (fold (note_happening k) g p) ∙ s.others k other g;
   waits = t.waits ∙ s.waits;
   safe = λ h. t.safe (s.safe h);
   room = λ h. let x = s.room h in let y = t.room x.0 in (y.0, All-append IsOfferWithin p q x.1 y.1);
+}
+
+-- what one happening makes of a link and its environment, and of its history
+record Happens (k : ℕ) (p : OpenLink) (note : LinkHistory → LinkHistory) (d : SlotLink) : Type 0 where
+  devices : AllLive p.environment.devices d.environment.devices
+  own : (g : LinkHistory) → QueuedSlot k g (enter p) → QueuedSlot k (note g) d
+  waits : SameOthers k p.environment.waiting d.environment.waiting
+  safe : SafeIn 0 0 p.environment → SafeIn 0 0 d.environment
+  room : RoomOf k p → RoomOfSlot k d
+
+happens_moved : (k : ℕ) (p : OpenLink) (note : LinkHistory → LinkHistory) (q : OpenLink) → MovedBy k note p q → Happens k p note (enter q)
+happens_moved k p note q m = record { devices = m.devices; own = λ g h. (m.own g h.0, m.advanced h.1); waits = m.others; safe = m.safe; room = m.room }
+
+served_happening : (k : ℕ) (p : OpenLink) (h : Happening) (note : LinkHistory → LinkHistory) (d : SlotLink) → inner (h ∷ []) ≡ true → NoneFails (h ∷ []) → ((j : ℕ) (g : LinkHistory) → note_happening j g h ≡ cond (k == j) (note g) g) →
+    (RoomOf k p → IsOfferWithin h) → Happens k p note d → Served k (enter p) (h ∷ []) d
+served_happening k p h note d inside alive noted within r = record {
+  inside = inside;
+  alive = alive;
+  devices = r.devices;
+  own = λ g q. subst (λ x. QueuedSlot k x d) (sym (noted k g ∙ ap (λ t. cond t (note g) g) (same_number k))) (r.own g q);
+  others = λ j other g. noted j g ∙ ap (λ t. cond t (note g) g) other;
+  waits = r.waits;
+  safe = r.safe;
+  room = λ q. (r.room q, All-cons IsOfferWithin h [] (within q) (All-nil IsOfferWithin));
 }
 
 -- Reads
@@ -99,64 +123,32 @@ read_more k p w = (both-true p.link.is_ready (takes_more (has_deferral p.environ
 read_open : (k : ℕ) (p : OpenLink) → wants_read (has_deferral p.environment.waiting k) p.link ≡ true → p.link.closing ≡ None
 read_open k p w = takes_more_open (has_deferral p.environment.waiting k) p.link (read_more k p w)
 
--- what a read makes of a link and its environment, and of its history
-record HasRead (k : ℕ) (p : OpenLink) (got : ReadGot) (q : OpenLink) : Type 0 where
-  devices : AllLive p.environment.devices q.environment.devices
-  own : (g : LinkHistory) → QueuedSlot k g (enter p) → QueuedSlot k (note_read got g) (enter q)
-  waits : SameOthers k p.environment.waiting q.environment.waiting
-  safe : SafeIn 0 0 p.environment → SafeIn 0 0 q.environment
-  room : RoomOf k p → RoomOf k q
-
-has_read : (k : ℕ) (p : OpenLink) (got : ReadGot) → wants_read (has_deferral p.environment.waiting k) p.link ≡ true → HasRead k p got (after_read k got p)
+has_read : (k : ℕ) (p : OpenLink) (got : ReadGot) → wants_read (has_deferral p.environment.waiting k) p.link ≡ true → Happens k p (note_read got) (enter (after_read k got p))
 has_read k p (Given bytes) w =
     let none = read_open k p w in
     let q : OpenLink = open_link p.environment (record p.link { rest = p.link.rest ++ bytes }) in
     let m : Moved k q (advance k q) = moved_of k q (advance k q) (advanced_after k q) (advance_room k q) (λ May I kept h. advance_keeps k May I kept q h) in
     let same : absorb k bytes p ≡ advance k q = ap (λ t. cond t (advance k q) p) (ap is_none none) in
-    subst (HasRead k p (Given bytes)) (sym same) (record { devices = m.devices; own = λ g h. (m.own (note_read (Given bytes) g) (queued_given k g bytes p none h.0), advanced_after k q); waits = m.others; safe = m.safe; room = λ h. m.room h })
+    subst (λ x. Happens k p (note_read (Given bytes)) (enter x)) (sym same)
+    (record { devices = m.devices; own = λ g h. (m.own (note_read (Given bytes) g) (queued_given k g bytes p none h.0), advanced_after k q); waits = m.others; safe = m.safe; room = λ h. m.room h })
 has_read k p NotYet w =
     let none = read_open k p w in
-    record {
-      devices = all_live_refl p.environment.devices;
-      own = λ g h. ((queueing_keeps k g).link p (after_read k NotYet p).link none none refl refl refl refl h.0, h.1);
-      waits = refl;
-      safe = λ h. h;
-      room = λ h. h;
-    }
+    happens_moved k p (note_read NotYet) (after_read k NotYet p)
+    (record { devices = all_live.stay p.environment.devices; own = λ g h. (queueing_keeps k g).link p (after_read k NotYet p).link none none refl refl refl refl h; advanced = λ h. h; others = refl; safe = λ h. h; room = λ h. h })
 has_read k p Ended w =
     let ended = after_read k Ended p in
     record {
-      devices = all_live_refl p.environment.devices;
+      devices = all_live.stay p.environment.devices;
       own = λ g h. (queued_ended k g p (read_open k p w) (h.1 (read_more k p w)) h.0, advanced_closing k ended.link ended.environment.waiting why.Ended refl);
       waits = refl;
       safe = λ h. h;
       room = λ h. h;
     }
-has_read k p Failed w =
-    let failed = after_read k Failed p in
-    record {
-      devices = all_live_refl p.environment.devices;
-      own = λ g h. (queued_failed k g p h.0, advanced_closing k failed.link failed.environment.waiting why.LinkFault refl);
-      waits = own_left p.environment.waiting k;
-      safe = λ h. safe_dropped k p.environment.devices p.environment.waiting h;
-      room = λ h. room_dropped k why.LinkFault p h;
-    }
-
-served_got : (k : ℕ) (p q : OpenLink) (got : ReadGot) → HasRead k p got q → Served k (enter p) (Read k got ∷ []) (enter q)
-served_got k p q got r = record {
-  inside = refl;
-  alive = λ c sofar. (refl, refl);
-  devices = r.devices;
-  own = λ g h. subst (λ x. QueuedSlot k x (enter q)) (sym (ap (λ t. cond t (note_read got g) g) (same_number k))) (r.own g h);
-  others = λ j other g. ap (λ t. cond t (note_read got g) g) other;
-  waits = r.waits;
-  safe = r.safe;
-  room = λ h. (r.room h, All-from_recursion IsOfferWithin (Read k got ∷ []) (tt, tt));
-}
+has_read k p Failed w = happens_moved k p (note_read Failed) (after_read k Failed p) (moved_failed k p)
 
 served_read : (k : ℕ) (p : OpenLink) → Takes (read_phase k p) (λ part q. Served k (enter p) part (enter q))
 served_read k p =
-    read_takes k p (λ part q. Served k (enter p) part (enter q)) (λ w. served_refl k (enter p)) (λ w got r. served_got k p (after_read k got p) got (has_read k p got w))
+    read_takes k p (λ part q. Served k (enter p) part (enter q)) (λ w. served_refl k (enter p)) (λ w got r. served_happening k p (Read k got) (note_read got) (enter (after_read k got p)) refl (λ c sofar. (refl, refl)) (λ j g. refl) (λ h. tt) (has_read k p got w))
 
 -- Writes
 
@@ -164,68 +156,33 @@ served_read k p =
 front_back : (xs ys : List ℕ) → same_bytes xs (take (length xs) ys) ≡ true → ys ≡ xs ++ drop (length xs) ys
 front_back xs ys e = sym (take-append-drop (length xs) ys) ∙ ap (λ z. z ++ drop (length xs) ys) (sym (same_bytes-true xs (take (length xs) ys) e))
 
--- a write that took something, and what follows it
-served_wrote : (k : ℕ) (p : OpenLink) (offered : ℕ) (bytes : List ℕ) (part : Log) (r : SlotLink) → wants_write p.link ≡ true → offered ≡ length p.link.pending → same_bytes bytes (take (length bytes) p.link.pending) ≡ true →
-    Served k (enter (after_write k bytes p)) part r → Served k (enter p) (Wrote k offered (Some bytes) ∷ part) r
-served_wrote k p offered bytes part r w all front s =
+has_written : (k : ℕ) (p q : OpenLink) (took : Option (List ℕ)) → wants_write p.link ≡ true → after_bytes_taken k took p ≡ Some q → Happens k p (note_write took) (enter q)
+has_written k p q None w e = subst (λ x. Happens k p (note_write None) (enter x)) (some_is e) (happens_moved k p (note_write None) (drop_link k why.LinkFault p) (moved_failed k p))
+has_written k p q (Some bytes) w e =
     let left : OpenLink = open_link p.environment (send_pending (length bytes) p.link) in
     let m : Moved k left (advance k left) = moved_of k left (advance k left) (advanced_after k left) (advance_room k left) (λ May I kept h. advance_keeps k May I kept left h) in
     let some = (both-true (not (length p.link.pending == 0)) (not p.link.is_stuck) w).0 in
-    record {
-      inside = s.inside;
-      alive = s.alive;
-      devices = all_live_trans p.environment.devices (advance k left).environment.devices r.environment.devices m.devices s.devices;
+    let t = cond-some (same_bytes bytes (take (length bytes) p.link.pending)) (Some (after_write k bytes p)) q e in
+    subst (λ x. Happens k p (note_write (Some bytes)) (enter x)) (some_is t.1) (record {
+      devices = m.devices;
       own = λ g h.
-          let f = note_write (Some bytes) g in
           let undropped = sending_undropped k g p.environment.said p.link p.environment.waiting some h.0 in
-          subst (λ t. QueuedSlot k (fold (note_happening k) (cond t f g) part) r) (sym (same_number k)) (s.own f (m.own f (queued_taken k g bytes p left.link undropped refl refl refl refl refl (front_back bytes p.link.pending front) h.0), advanced_after k left));
-      others = λ j other g. ap (λ t. fold (note_happening j) (cond t (note_write (Some bytes) g) g) part) other ∙ s.others j other g;
-      waits = s.waits ∙ m.others;
-      safe = λ h. s.safe (m.safe h);
-      room = λ h.
-          let fewer = length-drop (length bytes) p.link.pending in
-          let x = s.room (m.room (h.0, omega (arith, h.1, fewer))) in
-          (x.0, All-cons IsOfferWithin (Wrote k offered (Some bytes)) part (omega (arith, h.1, all)) x.1);
-    }
-
--- a write that failed, and what follows it
-served_failed : (k : ℕ) (p : OpenLink) (offered : ℕ) (part : Log) (r : SlotLink) → offered ≡ length p.link.pending → Served k (enter (drop_link k why.LinkFault p)) part r → Served k (enter p) (Wrote k offered None ∷ part) r
-served_failed k p offered part r all s = record {
-  inside = s.inside;
-  alive = s.alive;
-  devices = s.devices;
-  own = λ g h.
-      let f = note_write None g in
-      let failed = drop_link k why.LinkFault p in
-      subst (λ t. QueuedSlot k (fold (note_happening k) (cond t f g) part) r) (sym (same_number k)) (s.own f (queued_failed k g p h.0, advanced_closing k failed.link failed.environment.waiting why.LinkFault refl));
-  others = λ j other g. ap (λ t. fold (note_happening j) (cond t (note_write None g) g) part) other ∙ s.others j other g;
-  waits = s.waits ∙ own_left p.environment.waiting k;
-  safe = λ h. s.safe (safe_dropped k p.environment.devices p.environment.waiting h);
-  room = λ h. let x = s.room (room_dropped k why.LinkFault p h) in (x.0, All-cons IsOfferWithin (Wrote k offered None) part (omega (arith, h.1, all)) x.1);
-}
+          (m.own (note_write (Some bytes) g) (queued_taken k g bytes p left.link undropped refl refl refl refl refl (front_back bytes p.link.pending t.0) h.0), advanced_after k left);
+      waits = m.others;
+      safe = m.safe;
+      room = λ h. let fewer = length-drop (length bytes) p.link.pending in m.room (h.0, omega (arith, h.1, fewer));
+    })
 
 served_one : (k : ℕ) (p q : OpenLink) (h : Happening) → wants_write p.link ≡ true → write_by k p h ≡ Some q → (part : Log) (r : OpenLink) → Served k (enter q) part (enter r) → Served k (enter p) (h ∷ part) (enter r)
-served_one k p q (Woke wake) w e part r s = absurd (none_some e)
-served_one k p q (Read j got) w e part r s = absurd (none_some e)
-served_one k p q (Closed j why) w e part r s = absurd (none_some e)
-served_one k p q (Captured d n got) w e part r s = absurd (none_some e)
-served_one k p q (Emitted d out done) w e part r s = absurd (none_some e)
-served_one k p q (Hooked d off done) w e part r s = absurd (none_some e)
 served_one k p q (Wrote j offered took) w e part r s =
     let i = cond-some (j == k) (after_bytes_offered k offered took p) q e in
     let t = cond-some (offered == length p.link.pending) (after_bytes_taken k took p) q i.1 in
-    subst (λ n. Served k (enter p) (Wrote n offered took ∷ part) (enter r)) (sym (eqb-true j k i.0)) (wrote took t.1)
-  where
-    all : offered ≡ length p.link.pending
-    all =
-        let i = cond-some (j == k) (after_bytes_offered k offered took p) q e in
-        eqb-true offered (length p.link.pending) (cond-some (offered == length p.link.pending) (after_bytes_taken k took p) q i.1).0
-
-    wrote : (took : Option (List ℕ)) → after_bytes_taken k took p ≡ Some q → Served k (enter p) (Wrote k offered took ∷ part) (enter r)
-    wrote None e = served_failed k p offered part (enter r) all (subst (λ x. Served k (enter x) part (enter r)) (sym (some_is e)) s)
-    wrote (Some bytes) e =
-        let t = cond-some (same_bytes bytes (take (length bytes) p.link.pending)) (Some (after_write k bytes p)) q e in
-        served_wrote k p offered bytes part (enter r) w all t.0 (subst (λ x. Served k (enter x) part (enter r)) (sym (some_is t.1)) s)
+    let all : offered ≡ length p.link.pending = eqb-true offered (length p.link.pending) t.0 in
+    let own : k ≡ j = sym (eqb-true j k i.0) in
+    subst (λ n. Served k (enter p) (Wrote n offered took ∷ part) (enter r)) own
+    (served_trans k (enter p) (Wrote k offered took ∷ []) (enter q) part (enter r)
+    (served_happening k p (Wrote k offered took) (note_write took) (enter q) refl (λ c sofar. (refl, refl)) (λ j g. refl) (λ h. omega (arith, h.1, all)) (has_written k p q took w t.1)) s)
+served_one k p q other w e part r s = absurd (none_some e)
 
 served_write : (k : ℕ) (p : OpenLink) → Takes (write_phase k p) (λ part q. Served k (enter p) part (enter q))
 served_write k p log b e =
@@ -234,16 +191,10 @@ served_write k p log b e =
 
 served_close : (k : ℕ) (p : OpenLink) → Takes (close_phase k p) (λ part d. Served k (enter p) part d)
 served_close k p =
-    close_takes k p (λ part d. Served k (enter p) part d) (served_refl k (enter p)) (λ cause due. record {
-      inside = refl;
-      alive = λ c sofar. (refl, refl);
-      devices = all_live_refl p.environment.devices;
-      own = λ g h. subst (λ x. QueuedSlot k x (link_in_slot p.environment None)) (sym (ap (λ t. cond t (record g { closed = Some cause }) g) (same_number k))) (queued_closed k g p cause due h.0);
-      others = λ j other g. ap (λ t. cond t (record g { closed = Some cause }) g) other;
-      waits = refl;
-      safe = λ h. h;
-      room = λ h. ((h.0, tt), All-from_recursion IsOfferWithin (Closed k cause ∷ []) (tt, tt));
-    })
+    close_takes k p (λ part d. Served k (enter p) part d) (served_refl k (enter p)) (λ cause due.
+    let closed : LinkHistory → LinkHistory = λ g. record g { closed = Some cause } in
+    served_happening k p (Closed k cause) closed (link_in_slot p.environment None) refl (λ c sofar. (refl, refl)) (λ j g. refl) (λ h. tt)
+    (record { devices = all_live.stay p.environment.devices; own = λ g h. queued_closed k g p cause due h.0; waits = refl; safe = λ h. h; room = λ h. (h.0, tt) }))
 
 pub served_link : (k : ℕ) (p : OpenLink) → Takes (serve_link k p) (λ part d. Served k (enter p) part d)
 unfolding serve_link
@@ -265,11 +216,11 @@ pub record Goes (s : State) (part : Log) (t : State) : Type 0 where
   pub room : RoomIn s → RoomIn t × All IsOfferWithin part
 
 pub goes_refl : (s : State) → Goes s [] s
-goes_refl s = record { devices = laters_refl s.devices; deaths = λ d x y h. h; queued = λ k g h. h; safe = λ h. h; room = λ h. (h, All-nil IsOfferWithin) }
+goes_refl s = record { devices = laters.stay s.devices; deaths = λ d x y h. h; queued = λ k g h. h; safe = λ h. h; room = λ h. (h, All-nil IsOfferWithin) }
 
 pub goes_trans : (s : State) (p : Log) (t : State) (q : Log) (u : State) → Goes s p t → Goes t q u → Goes s (p ++ q) u
 goes_trans s p t q u a b = record {
-  devices = laters_trans s.devices t.devices u.devices a.devices b.devices;
+  devices = laters.follow s.devices t.devices u.devices a.devices b.devices;
   deaths = λ d x y h.
       subst (λ z. DeadAs d z (died_line d y (p ++ q)) u) (sym (fold-append (died (fails_device d)) x p q)) (subst (λ z. DeadAs d (died_device d (died_device d x p) q) z u) (sym (fold-append (died (fails_line d)) y p q))
       (b.deaths d (died_device d x p) (died_line d y p) (a.deaths d x y h)));

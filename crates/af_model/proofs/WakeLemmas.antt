@@ -11,7 +11,7 @@ use Rattle.af_request.specs.declared.reply.Phone.{Phone}
 use Rattle.af_phone.specs.declared.line.LineChange.{LineChange}
 use Rattle.af_phone.specs.declared.line.LineChange.TheVariants.{Ring, Current, Digit}
 use Rattle.af_phone.specs.Lines.{line_after_change, flag_value, line_after_hook, event_kind_of, selects, value_of}
-use Rattle.af_world.specs.declared.happening.Happening.TheVariants.{Woke, Read, Wrote, Closed, Captured, Emitted, Hooked}
+use Rattle.af_world.specs.declared.happening.Happening.TheVariants.{Woke, Captured, Emitted, Hooked}
 use Rattle.af_world.specs.declared.happening.Why.TheVariants as why
 use Rattle.af_world.specs.declared.happening.Wake.{Wake}
 use Rattle.af_world.specs.declared.happening.Wake.TheVariants.{Opened, Readable, Writable, Ticked, Line, Idle, Stop}
@@ -27,13 +27,13 @@ use Rattle.af_model.specs.Turn.{Parsed, accept, parse_then, parse_one, capture_b
 use Rattle.af_model.specs.LinkHistory.{LinkHistory, no_history, note_happening}
 use Rattle.af_model.specs.Prefix.{is_dropped}
 use Rattle.af_model.proofs.BoolTestLemmas.{both-true, cond-some, none_some, some_is}
-use Rattle.af_model.proofs.DeviceHistoryLemmas.{AllLive, Later, Laters, Lives, all_live_refl, all_live_trans, all_live_with, later_passed, later_line, later_trans, laters_get, laters_lines, laters_refl, laters_trans, laters_with, live_laters, lives_completing, lives_line, with_there}
+use Rattle.af_model.proofs.DeviceHistoryLemmas.{AllLive, Later, Laters, Lives, all_live, later_passed, later_line, later_trans, laters, laters_lines, live_laters, lives_completing, lives_line, with_there}
 use Rattle.af_model.proofs.DeadLemmas.{DeadAs, lives_dead, with_dead}
 use Rattle.af_model.proofs.SafeLemmas.{AwaitedIn, SafeIn, SafeState, all_without_first, loses_alike, safe_becomes, safe_completing, safe_fewer, safe_keeps}
 use Rattle.af_model.proofs.CompletionLemmas.{found_all, ticks_safe}
 use Rattle.af_model.proofs.AdvancedLemmas.{IsAdvanced, advanced_complete, advanced_says}
 use Rattle.af_model.proofs.LinkInvariantLemmas.{complete_keeps, open_undropped}
-use Rattle.af_model.proofs.OwedBytesLemmas.{Moved, Owed, moved_overrun, OwingAt, OwingLink, Owing, SameOthers, found_waits, grows_keeps, owed_fewer, queueing_keeps, queueing_left, others_keep, others_left, still_waits, selects_open, waiting_undropped, waits_left}
+use Rattle.af_model.proofs.OwedBytesLemmas.{Moved, Owed, moved_overrun, OwingAt, OwingLink, Owing, SameOthers, found_waits, grows_keeps, owed_waiting, queueing_keeps, queueing_left, others_keep, others_left, still_waits, selects_open, waiting_undropped, waits_left}
 use Rattle.af_model.proofs.PendingLemmas.{IsPending, RoomIn, room_complete, room_found, room_told, room_with, waiters_left_other, waiters_same}
 use Rattle.af_model.specs.Offers.{IsOfferWithin}
 use Rattle.std.proofs.lemmas.List.Elements.{All-from_recursion, All-nil}
@@ -45,7 +45,7 @@ use Rattle.af_model.proofs.ServeLemmas.{Goes, Within, goes_refl, goes_trans, inn
 -- each is dead or alive as before
 becomes_goes : (d : ℕ) (f : DeviceState → DeviceState) (s : State) → ((device : DeviceState) → Lives device (f device)) → ((device : DeviceState) → (f device).completed ≡ device.completed) → Goes s [] (record s { devices = with_device d f s.devices })
 becomes_goes d f s l same =
-    let all = all_live_with d f s.devices (λ device there. l device) in
+    let all = all_live.change d f s.devices (λ device there. l device) in
     record {
       devices = live_laters s.devices (with_device d f s.devices) all;
       deaths = λ c x y h. lives_dead c x y s.devices (with_device d f s.devices) all h;
@@ -67,7 +67,7 @@ completed passes s w x found there =
     elim (slot_at k s).link as (λ o. (slot_at k s).link ≡ o → Goes s [] (with_slot_link k fewer (complete_at w a o))) [
       | None ↦ λ is.
           let back : with_slot_link k fewer (link_in_slot a None) ≡ fewer = ap (λ o. with_slot_link k fewer (link_in_slot a o)) (sym is) ∙ same_door k fewer in
-          subst (Goes s []) (sym back) (record { devices = laters_refl s.devices; deaths = λ c x y h. h; queued = λ j g h. queueing_left passes w j g (slot_at j s).said (slot_at j s).link s.waiting found (λ own. subst (λ n. (slot_at n s).link ≡ None) (eqb-true k j own) is) h; safe = λ h. left h; room = λ h. (room_found passes s w found h, All-nil IsOfferWithin) })
+          subst (Goes s []) (sym back) (record { devices = laters.stay s.devices; deaths = λ c x y h. h; queued = λ j g h. queueing_left passes w j g (slot_at j s).said (slot_at j s).link s.waiting found (λ own. subst (λ n. (slot_at n s).link ≡ None) (eqb-true k j own) is) h; safe = λ h. left h; room = λ h. (room_found passes s w found h, All-nil IsOfferWithin) })
       | Some l ↦ λ is.
           let p = open_link a l in
           let device = slice_get s.devices w.device in
@@ -76,12 +76,12 @@ completed passes s w x found there =
           complete_keeps k (λ closing. Unit {0}) (λ q. SameOthers k fewer.waiting q.environment.waiting) (others_keep k fewer.waiting) w.device w.deferred device p refl (λ x there h. h) tt refl in
           put_goes k s l (enter (complete_for w device p)) [] is (λ c sofar. (refl, refl))
           (complete_keeps k (λ closing. Unit {0}) (λ q. AllLive s.devices q.environment.devices) (grows_keeps k s.devices) w.device w.deferred device p refl
-          (λ x there h. all_live_trans s.devices s.devices (with_device w.device (complete_deferred w.link w.deferred) s.devices) h (all_live_with w.device (complete_deferred w.link w.deferred) s.devices (λ d is. lives_completing w.link d w.deferred))) tt (all_live_refl s.devices))
+          (λ x there h. all_live.follow s.devices s.devices (with_device w.device (complete_deferred w.link w.deferred) s.devices) h (all_live.change w.device (complete_deferred w.link w.deferred) s.devices (λ d is. lives_completing w.link d w.deferred))) tt (all_live.stay s.devices))
           (λ g h.
           let here : OwingLink k g a.said (Some l) s.waiting = subst (λ o. OwingLink k g a.said o s.waiting) is h in
           let undropped = waiting_undropped k g a.said l s.waiting (found_waits passes s.waiting w found) here.0 in (
             complete_keeps k (λ closing. is_dropped closing ≡ false) (Owing k g) (queueing_keeps k g) w.device w.deferred device p refl (λ x there h. h) undropped
-                (owed_fewer k g a.said l s.waiting fewer.waiting (waits_left passes s.waiting k) here.0),
+                (owed_waiting k g a.said l s.waiting fewer.waiting (λ e. waits_left passes s.waiting k (here.0.waits e)) here.0),
             advanced_complete w device x p there,
           ))
           (λ j other g. refl)
@@ -140,7 +140,7 @@ ticks d n captured is_dead s device there few =
     let t : State = record s { devices = with_device d f s.devices } in
     let goes = due_goes d t in
     record {
-      devices = laters_trans s.devices t.devices (complete_due d t).devices (laters_with d f s.devices (λ device there. later_passed device n captured is_dead)) goes.devices;
+      devices = laters.follow s.devices t.devices (complete_due d t).devices (laters.change d f s.devices (λ device there. later_passed device n captured is_dead)) goes.devices;
       deaths = λ c x y h. goes.deaths c (cond (d == c) is_dead x) y
           (with_dead d f s.devices c x y (cond (d == c) is_dead x) y (λ device same was. (sym (ap (λ b. cond b is_dead x) same), was.1)) (λ other. (sym (ap (λ b. cond b is_dead x) other), refl)) h);
       queued = goes.queued;
@@ -155,7 +155,7 @@ told k e p =
     elim (selects (mask_of p.link e.device) e.kind) as (λ t. selects (mask_of p.link e.device) e.kind ≡ t → Moved k p (cond t (tell_selected k e p) p)) [
       | true ↦ λ t. elim (nat_le (length p.link.pending + 20) event_limit) as (λ u. nat_le (length p.link.pending + 20) event_limit ≡ u → Moved k p (cond u (say p (event_bytes p.link.order e p.link.sequence)) (drop_link k why.Overrun p))) [
         | true ↦ λ u. record {
-          devices = all_live_refl p.environment.devices;
+          devices = all_live.stay p.environment.devices;
           own = λ g h. (queueing_keeps k g).says p (event_bytes p.link.order e p.link.sequence) (open_undropped p.link.closing (selects_open k e.device e.kind g p t h)) h;
           advanced = advanced_says k p (event_bytes p.link.order e p.link.sequence);
           others = refl;
@@ -164,7 +164,7 @@ told k e p =
         }
         | false ↦ λ u. moved_overrun k p (λ g h. selects_open k e.device e.kind g p t h) u
       ] refl
-      | false ↦ λ t. record { devices = all_live_refl p.environment.devices; own = λ g h. h; advanced = λ h. h; others = refl; safe = λ h. h; room = λ h. h }
+      | false ↦ λ t. record { devices = all_live.stay p.environment.devices; own = λ g h. h; advanced = λ h. h; others = refl; safe = λ h. h; room = λ h. h }
     ] refl
 
 -- an open link moves, and nothing is taken
@@ -201,7 +201,7 @@ refused_goes : (d : ℕ) (off : Bool) (s : State) → Goes s (Hooked d off false
 refused_goes d off s =
     let f : DeviceState → DeviceState = λ device. record device { line = option_map (line_after_hook false) device.line } in
     record {
-      devices = laters_with d f s.devices (λ device there. later_line (line_after_hook false) device);
+      devices = laters.change d f s.devices (λ device there. later_line (line_after_hook false) device);
       deaths = λ c x y h.
           with_dead d f s.devices c x y x ((d == c) || y) (λ device same was. (was.0, subst (λ b. IfSome (option_map (line_after_hook false) device.line) (λ line. line.dead ≡ (b || y))) (sym same) (dies device.line)))
           (λ other. (refl, sym (ap (λ b. b || y) other))) h;
@@ -248,8 +248,13 @@ pub record HandedOut (s : State) (d frames : ℕ) (sent : List ℕ) (t : State) 
   pub stands : slice_get t.devices d ≡ Some last
   pub becomes : Later after last
 
+pub later_handed : (s t u : State) (d frames : ℕ) (sent : List ℕ) → Laters t.devices u.devices → HandedOut s d frames sent t → HandedOut s d frames sent u
+later_handed s t u d frames sent l o =
+    let got = laters.get t.devices u.devices d o.last l o.stands in
+    record { device = o.device; there = o.there; same = o.same; after = o.after; accepted = o.accepted; past = o.past; last = got.0; stands = got.1; becomes = later_trans o.after o.last got.0 o.becomes got.2 }
+
 -- a part that hands out
-pub record Hands (s : State) (w : Wake) (part : Log) (t : State) : Type 0 where
+pub record Emits (w : Wake) (part : Log) : Type 0 where
   pub d : ℕ
   pub frames : ℕ
   pub captured : List ℕ
@@ -257,7 +262,9 @@ pub record Hands (s : State) (w : Wake) (part : Log) (t : State) : Type 0 where
   pub done : Bool
   pub wake : w ≡ Ticked d frames
   pub is : part ≡ Captured d frames (Some captured) ∷ Emitted d sent done ∷ []
-  pub out : HandedOut s d frames sent t
+
+abbrev pub Hands : State → Wake → Log → State → Type 0
+Hands s w part t = (h : Emits w part) × HandedOut s h.d h.frames h.sent t
 
 -- what a wake makes of a state, and of the part that it takes: it hands something out, or has no emit
 pub record Woken (s : State) (w : Wake) (part : Log) (t : State) : Type 0 where
@@ -270,7 +277,7 @@ ticked d n device s bytes done there =
     let captured = captured_samples device n (Some bytes) in
     let after : DeviceState = device_after n captured (not done) device in
     let t : State = record s { devices = with_device d (device_after n captured (not done)) s.devices } in
-    let got = laters_get t.devices (complete_due d t).devices d after (due_goes d t).devices (with_there d (device_after n captured (not done)) s.devices device there) in
+    let got = laters.get t.devices (complete_due d t).devices d after (due_goes d t).devices (with_there d (device_after n captured (not done)) s.devices device there) in
     record { device = device; there = there; same = refl; after = after; accepted = refl; past = omega arith; last = got.0; stands = got.1; becomes = got.2 }
 
 -- a device that fails dies, and another is dead or alive as before
@@ -334,7 +341,7 @@ woken_ticked d n (Some device) s few there =
       | false ↦ λ alive. live_takes d n device s (Woken s (Ticked d n)) (record { goes = failed_goes d n device s few there; emits = inl refl })
           (λ bytes done size. record {
             goes = sounded_goes d n device s bytes (sound device n) done few there alive;
-            emits = inr (record { d = d; frames = n; captured = bytes; sent = sound device n; done = done; wake = refl; is = refl; out = ticked d n device s bytes done there });
+            emits = inr (record { d = d; frames = n; captured = bytes; sent = sound device n; done = done; wake = refl; is = refl }, ticked d n device s bytes done there);
           })
     ] refl
 
@@ -362,7 +369,7 @@ opened_goes : (k : ℕ) (s : State) → fits (outline s) (Opened k) ≡ true →
 opened_goes j s fit =
     let slot : SlotState = record { link = Some new_link_state; said = [] } in
     record {
-      devices = laters_refl s.devices;
+      devices = laters.stay s.devices;
       deaths = λ d x y h. h;
       safe = λ h. h;
       room = λ h. (opened_room j s fit h, All-from_recursion IsOfferWithin (Woke (Opened j) ∷ []) (tt, tt));
@@ -392,7 +399,7 @@ opens_goes f k s queued advanced room =
     let a = (slot_link_at k s).environment in
     elim (slot_at k s).link as (λ o. (slot_at k s).link ≡ o → Goes s [] (with_slot_link k s (link_in_slot a (in_open f o)))) [
       | None ↦ λ is. subst (Goes s []) (sym (ap (λ o. with_slot_link k s (link_in_slot a o)) (sym is) ∙ same_door k s)) (goes_refl s)
-      | Some l ↦ λ is. moves_goes k s l (open_link a (f l)) is (record { devices = all_live_refl s.devices; own = λ g h. queued g a.said l s.waiting h; advanced = advanced l s.waiting; others = refl; safe = λ h. h; room = λ h. (h.0, room l s.waiting h.1) })
+      | Some l ↦ λ is. moves_goes k s l (open_link a (f l)) is (record { devices = all_live.stay s.devices; own = λ g h. queued g a.said l s.waiting h; advanced = advanced l s.waiting; others = refl; safe = λ h. h; room = λ h. (h.0, room l s.waiting h.1) })
     ] refl
 
 -- a wake that opens no link, and that takes nothing off
@@ -441,19 +448,7 @@ pub record Turned (s : State) (part : Log) (t : State) : Type 0 where
 -- what was handed out within a turn, the turn has handed out
 later_emits : (s t u : State) (w : Wake) (part : Log) → Laters t.devices u.devices → (inner part ≡ true) ⊎ Hands s w part t → (inner part ≡ true) ⊎ Hands s w part u
 later_emits s t u w part l (inl inside) = inl inside
-later_emits s t u w part l (inr h) =
-    let o = h.out in
-    let got = laters_get t.devices u.devices h.d o.last l o.stands in
-    inr (record {
-      d = h.d;
-      frames = h.frames;
-      captured = h.captured;
-      sent = h.sent;
-      done = h.done;
-      wake = h.wake;
-      is = h.is;
-      out = record { device = o.device; there = o.there; same = o.same; after = o.after; accepted = o.accepted; past = o.past; last = got.0; stands = got.1; becomes = later_trans o.after o.last got.0 o.becomes got.2 };
-    })
+later_emits s t u w part l (inr h) = inr (h.0, later_handed s t u h.0.d h.0.frames h.0.sent l h.1)
 
 turned_then : (s : State) (w : Wake) (p : Log) (t : State) (q : Log) (u : State) → Woken s w p t → Within t q u → Turned s (Woke w ∷ (p ++ q)) u
 turned_then s w p t q u a b = record {
@@ -468,13 +463,6 @@ turned_then s w p t q u a b = record {
 
 pub turned : (s : State) → Takes (turn s) (Turned s)
 unfolding turn
-turned s [] b e = absurd (none_some e)
-turned s (Read k got ∷ log) b e = absurd (none_some e)
-turned s (Wrote k offered took ∷ log) b e = absurd (none_some e)
-turned s (Closed k why ∷ log) b e = absurd (none_some e)
-turned s (Captured d n got ∷ log) b e = absurd (none_some e)
-turned s (Emitted d out done ∷ log) b e = absurd (none_some e)
-turned s (Hooked d off done ∷ log) b e = absurd (none_some e)
 turned s (Woke w ∷ log) b e =
     let i = cond-some (fits (outline s) w) (parse_then (wake_phase w s log) serve_and_hook) b e in
     let all : Takes (λ log. parse_then (wake_phase w s log) serve_and_hook) (λ part u. Turned s (Woke w ∷ part) u) =
@@ -487,6 +475,7 @@ turned s (Woke w ∷ log) b e =
       again = λ more. ap (λ t. cond t (parse_then (wake_phase w s (a.part ++ more)) serve_and_hook) None) i.0 ∙ a.again more;
       holds = a.holds;
     }
+turned s log b e = absurd (none_some e)
 
 -- a turn leaves the devices their lines
 pub turn_lines : (s : State) (log : Log) (b : Parsed State) → turn s log ≡ Some b → lines_of b.state.devices ≡ lines_of s.devices

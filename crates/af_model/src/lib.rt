@@ -36,7 +36,6 @@ pub fn one_log_law()
 /// a link for it. Then nothing in the link's environment changes, no device and no other request. All that is queued for the link
 /// is still sent, and no more of its input is read. Serving a link, that one or any other, changes no other link, and leaves the
 /// other deferred requests in their order.
-/// the others that wait in their order.
 pub fn malformed_alone_law()
     ensures closes { (k : ℕ) (p q : OpenLink) → advance_step k p ≡ Some q → q.link.closing ≡ Some why.Malformed →
         (q.environment ≡ p.environment) × (q.link.pending ≡ p.link.pending) × (q.link.rest ≡ []) }

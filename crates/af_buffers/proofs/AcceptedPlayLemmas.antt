@@ -1,26 +1,23 @@
 -- What an accepted play makes of a time and a channel.
 use Rattle.std.proofs.Common.{◌≡◌, ℕ, ℤ, pos, ◌+◌, ◌-◌, ◌*◌, ◌/◌, ◌%◌, ◌^◌, ◌<◌, ◌≤◌, inl, inr, Bool, true, false, cond, nat_lt, nat_le, ◌&&◌, length, get_or, refl, sym, ap, ◌∙◌, arith}
 use Rattle.std.proofs.lemmas.Bool.{cases_lt, le-leb, lt-leb, lt-ltb, le-ltb}
+use Rattle.std.proofs.Math.Bool.{and-false}
 use Rattle.af_time.specs.DeviceTime.{unwrap, IsMeant}
 use Rattle.af_time.proofs.WholeTimeLemmas.{unwrap_meant, meant_unwrap}
 use Rattle.af_sample.specs.Channels.{AreWholeFrames, frame_count}
 use Rattle.af_sample.specs.Heard.{AcceptedPlay, covers, with_entry, sound_with_sample, sample_of_entry}
 use Rattle.af_sample.proofs.FrameLemmas.{channel_within, place_of, place_past, time_before, time_from}
 
-and_false : (b : Bool) → (b && false) ≡ false
-and_false true = refl
-and_false false = refl
-
 -- a time before the start
 pub covers_before : (channels : ℕ) (e : AcceptedPlay) (t : ℕ) → t < e.start → covers channels e t ≡ false
 covers_before channels e t before =
-    ap (λ b. nat_le e.at t && (b && nat_lt t (e.start + frame_count channels e.samples))) (lt-leb e.start t before) ∙ and_false (nat_le e.at t)
+    ap (λ b. nat_le e.at t && (b && nat_lt t (e.start + frame_count channels e.samples))) (lt-leb e.start t before) ∙ and-false (nat_le e.at t)
 
 -- a time past the end
 pub covers_past : (channels : ℕ) (e : AcceptedPlay) (t : ℕ) → e.start + frame_count channels e.samples ≤ t → covers channels e t ≡ false
 covers_past channels e t past =
     ap (λ b. nat_le e.at t && (nat_le e.start t && b)) (le-ltb t (e.start + frame_count channels e.samples) past)
-    ∙ ap (λ b. nat_le e.at t && b) (and_false (nat_le e.start t)) ∙ and_false (nat_le e.at t)
+    ∙ ap (λ b. nat_le e.at t && b) (and-false (nat_le e.start t)) ∙ and-false (nat_le e.at t)
 
 -- a play does not change the sound of a time that it does not cover
 pub not_covered : (channels : ℕ) (e : AcceptedPlay) (t channel : ℕ) (sound : ℤ) → covers channels e t ≡ false → with_entry channels t channel sound e ≡ sound

@@ -53,12 +53,23 @@ kept_push room [] w = refl
 kept_push room (x ∷ order) w = ap (λ l. kept_deferral room x ∷ l) (kept_push room order w)
 
 -- a link's request is deferred
-pub begins : (room : List Deferred) (order order' : List Wait) (w : Wait) (h : Deferred) → w.link < length room → is_waiting order w.link ≡ false → order' ≡ order ++ w ∷ [] →
+begins : (room : List Deferred) (order order' : List Wait) (w : Wait) (h : Deferred) → w.link < length room → is_waiting order w.link ≡ false → order' ≡ order ++ w ∷ [] →
     map (kept_deferral (slice_set room w.link h)) order' ≡ map (kept_deferral room) order ++ record { wait = w; deferred = h } ∷ []
 begins room order order' w h low free is =
     ap (map (kept_deferral (slice_set room w.link h))) is ∙ kept_push (slice_set room w.link h) order w
     ∙ ap (λ l. l ++ kept_deferral (slice_set room w.link h) w ∷ []) (others_kept room order w.link h free)
     ∙ ap (λ x. map (kept_deferral room) order ++ record { wait = w; deferred = x } ∷ []) (own_room room w.link h (deferred_play false 0 [] false) low)
+
+-- no deferred request of a link waits, as is known of what is kept
+pub none_waits : (room : List Deferred) (order : List Wait) (ks : List KeptDeferral) (link : ℕ) → map (kept_deferral room) order ≡ ks → has_waiting ks link ≡ false → is_waiting order link ≡ false
+none_waits room order ks link kept free = ap (λ ws. is_waiting ws link) (sym (waits_of-kept room order)) ∙ ap (λ (ks : List KeptDeferral). has_waiting ks link) kept ∙ free
+
+-- the place of its link becomes the deferred request that begins to wait
+pub begins_at : (room : List Deferred) (order order' : List Wait) (ks : List KeptDeferral) (i : ℕ) (at h : Deferred) (w : Wait) → i ≡ w.link → at ≡ h → w.link < length room → has_waiting ks w.link ≡ false → order' ≡ order ++ w ∷ [] → map (kept_deferral room) order ≡ ks →
+    map (kept_deferral (slice_set room i at)) order' ≡ ks ++ record { wait = w; deferred = h } ∷ []
+begins_at room order order' ks i at h w own is low free added kept =
+    ap (λ i. map (kept_deferral (slice_set room i at)) order') own ∙ ap (λ x. map (kept_deferral (slice_set room w.link x)) order') is
+    ∙ begins room order order' w h low (none_waits room order ks w.link kept free) added ∙ ap (λ ks. ks ++ record { wait = w; deferred = h } ∷ []) kept
 
 -- frames pass
 pub kept_pass : (room : List Deferred) (order : List Wait) (d n : ℕ) → map (kept_deferral room) (map (wait_after_frames d n) order) ≡ map (deferral_after_frames d n) (map (kept_deferral room) order)

@@ -1,11 +1,13 @@
 -- A device goes on to stand for its states as it plays and records.
 use Rattle.std.proofs.Common.{◌≡◌, ℕ, ℤ, pos, false, cond, ◌==◌, ◌+◌, ◌-◌, ◌*◌, ◌/◌, ◌%◌, ◌^◌, ◌<◌, ◌≤◌, inl, inr, Bool, List, [], ◌∷◌, ◌++◌, length, replicate, map, refl, sym, ap, ◌∙◌, subst, arith}
 use Rattle.std.specs.declared.option.Option.{Option}
+use Rattle.std.specs.List.{All}
 use Rattle.std.proofs.lemmas.List.Elements.{All-push}
 use Rattle.std.proofs.lemmas.Bool.Decides.{nat_tests}
 use Rattle.std.proofs.lemmas.List.{length-map}
 use Rattle.af_time.specs.DeviceTime.{unwrap, IsMeant}
 use Rattle.af_time.proofs.WholeTimeLemmas.{meant_unwrap, unwrap_meant}
+use Rattle.af_sample.specs.Heard.{AcceptedPlay}
 use Rattle.af_sample.specs.Samples.{bytes_of}
 use Rattle.af_sample.specs.Gains.{gained}
 use Rattle.af_sample.specs.Channels.{AreWholeFrames, IsChannelCount, frame_count}
@@ -19,7 +21,7 @@ use Rattle.af_buffers.specs.RecordBuffer.{RecordWindow, Captures, Keeps, frames_
 use Rattle.af_buffers.proofs.HorizonLemmas.{horizon_of_rate, horizon_within}
 use Rattle.af_buffers.proofs.PlayBufferLemmas.{hears_silence, hears_play, hears_hand_out, gives_heard_from, frames_beyond-same as play_later, frames_within-same}
 use Rattle.af_buffers.proofs.RecordBufferLemmas.{keeps_silence, keeps_capture, reads_window, frames_before-same, frames_beyond-same as record_later}
-use Rattle.af_model.specs.State.{DeviceState, Deferred, opening_controls, opening_device, opening_line}
+use Rattle.af_model.specs.State.{Completion, DeviceState, Deferred, opening_controls, opening_device, opening_line}
 use Rattle.af_model.specs.Play.{accept_play}
 use Rattle.af_model.specs.Record.{recorded_bytes}
 use Rattle.af_request.specs.declared.reply.Controls.{Controls}
@@ -88,6 +90,24 @@ start_meant d s start word h = unwrap_meant s.now start h.hears.late word
 pub horizon_bounds : (s : DeviceState) (d : KeptDevice) → StandsForDevice d s → (32000 ≤ s.rate * 4) × (s.rate * 4 ≤ 192000)
 horizon_bounds s d h = horizon_within (s.rate * 4) (horizon_of_rate s.rate h.listed)
 
+-- it is to play something else, its controls or its line become others, or a deferred request completes; who acted is not kept
+pub stands_changed : (d : KeptDevice) (s : DeviceState) (next : PlayWindow) (accepted : List AcceptedPlay) (completed : List Completion) (kept now : Controls) (line line_now : Option Phone) (actors : List ℕ) → StandsForDevice d s →
+    next.horizon ≡ d.next.horizon → Hears next s.channels accepted s.now → All (λ c. IsWholeAt (s.rate * 4) c.at c.deferred) completed → kept ≡ now → line ≡ line_now →
+    StandsForDevice (record d { next = next; controls = kept; line = line }) (record s { accepted = accepted; completed = completed; controls = now; line = line_now; actors = actors })
+stands_changed d s next accepted completed kept now line line_now actors h horizon hears whole same_controls same_line = record {
+  ty = h.ty;
+  rate = h.rate;
+  listed = h.listed;
+  ahead = horizon ∙ h.ahead;
+  back = h.back;
+  hears = hears;
+  keeps = h.keeps;
+  whole = whole;
+  controls = same_controls;
+  line = same_line;
+  dead = h.dead;
+}
+
 -- a play without a sample changes nothing
 pub accepts_nothing : (k : ℕ) (d : KeptDevice) (start : ℕ) (sound : List ℤ) (preempt : Bool) (s : DeviceState) → length sound ≡ 0 → StandsForDevice d s → StandsForDevice d (accept_play k (accepted_at s.now start sound preempt) s)
 accepts_nothing k d start sound preempt s none h =
@@ -113,35 +133,14 @@ accepts k d next start sound preempt word some whole few p s h =
     let heard = hears_play d.next next s.channels s.accepted s.now start sound preempt h.hears word within p in
     let not_none : (length sound == 0) ≡ false = grind (arith, nat_tests) in
     subst (λ b. StandsForDevice (record d { next = next }) (record s { accepted = cond b s.accepted (s.accepted ++ accepted_at s.now start sound preempt ∷ []); actors = cond b s.actors (s.actors ++ k ∷ []) })) (sym not_none)
-    (record {
-      ty = h.ty;
-      rate = h.rate;
-      listed = h.listed;
-      ahead = p.horizon ∙ h.ahead;
-      back = h.back;
-      hears = heard;
-      keeps = h.keeps;
-      whole = h.whole;
-      controls = h.controls;
-      line = h.line;
-      dead = h.dead;
-    })
+    (stands_changed d s next (s.accepted ++ accepted_at s.now start sound preempt ∷ []) s.completed d.controls s.controls d.line s.line (s.actors ++ k ∷ []) h p.horizon heard h.whole h.controls h.line)
 
 -- a deferred request, of which nothing is lost
 pub completes : (k : ℕ) (d : KeptDevice) (s : DeviceState) (deferred : Deferred) → StandsForDevice d (record s { accepted = with_deferred deferred s.now s.accepted; actors = with_deferred_actor k deferred s.actors }) → IsWholeAt (s.rate * 4) s.now deferred → StandsForDevice d (complete_deferred k deferred s)
-completes k d s deferred h whole = record {
-  ty = h.ty;
-  rate = h.rate;
-  listed = h.listed;
-  ahead = h.ahead;
-  back = h.back;
-  hears = h.hears;
-  keeps = h.keeps;
-  whole = All-push (λ c. IsWholeAt (s.rate * 4) c.at c.deferred) s.completed (record { link = k; deferred = deferred; at = s.now }) h.whole whole;
-  controls = h.controls;
-  line = h.line;
-  dead = h.dead;
-}
+completes k d s deferred h whole =
+    let done : Completion = record { link = k; deferred = deferred; at = s.now } in
+    let played : DeviceState = record s { accepted = with_deferred deferred s.now s.accepted; actors = with_deferred_actor k deferred s.actors } in
+    stands_changed d played d.next played.accepted (s.completed ++ done ∷ []) d.controls s.controls d.line s.line played.actors h refl h.hears (All-push (λ c. IsWholeAt (s.rate * 4) c.at c.deferred) s.completed done h.whole whole) h.controls h.line
 
 -- a record
 pub records : (d : KeptDevice) (c : Context) (start n : ℕ) (s : DeviceState) → start < 2 ^ 32 → StandsForDevice d s →

@@ -1,6 +1,5 @@
 -- Checks that pass, and how many frames bytes are.
 use Rattle.std.proofs.Common.{◌≡◌, ℕ, true, false, not, nat_lt, ◌*◌, ◌/◌, ◌%◌, ◌≤◌, Bool, List, [], ◌∷◌, eqb-true, refl, subst, arith}
-use Rattle.std.proofs.lemmas.Nat.{mul-le}
 use Rattle.std.specs.declared.option.Option.{Option}
 use Rattle.std.specs.declared.option.Option.TheVariants.{None}
 use Rattle.std.proofs.lemmas.Bool.Decides.{nat_tests}
@@ -98,7 +97,3 @@ frames_fit ty channels frames count = by_count (λ c. frames * frame_bytes ty c 
     two Alaw e = record { bytes = omega arith; few = omega (arith, e); frames_few = omega (arith, e); whole = omega arith; count = omega arith }
     two Lin16 e = record { bytes = omega arith; few = omega (arith, e); frames_few = omega (arith, e); whole = omega arith; count = omega arith }
     two Lin32 e = record { bytes = omega arith; few = omega (arith, e); frames_few = omega (arith, e); whole = omega arith; count = omega arith }
-
--- fewer frames fit too
-pub fewer_fit : (m n size : ℕ) → m ≤ n → n * size ≤ longest_record → m * size ≤ longest_record
-fewer_fit m n size few fit = let le : m * size ≤ n * size = mul-le m size n size few (omega arith) in omega (arith, le, fit)

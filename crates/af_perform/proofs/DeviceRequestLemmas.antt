@@ -20,6 +20,7 @@ use Rattle.af_perform.specs.Lines.{device_line_or, line_at, line_or}
 use Rattle.af_state.specs.Deferrals.{KeptDeferral}
 use Rattle.af_state.specs.SharedState.{StandsForSharedState, StandsForLink, ChangesLink, kept_shared_state}
 use Rattle.af_state.proofs.DeviceLemmas.{Found, found, not_found}
+use Rattle.af_state.proofs.PlayLemmas.{stands_changed}
 use Rattle.af_perform.proofs.LinkRequestLemmas.{device_changes, with_error}
 
 -- a device changes, but not its time, its rate or its channels, and the link is replied to
@@ -33,58 +34,22 @@ pub controlled : (k : ℕ) (x x' : KeptDevice) (c : Controls) (s : DeviceState) 
     StandsForDevice x' (with_device_controls k mask input_on output_on input_gain output_gain s)
 controlled k x x' c s mask input_on output_on input_gain output_gain h is e =
     subst (λ (y : KeptDevice). StandsForDevice y (with_device_controls k mask input_on output_on input_gain output_gain s)) (sym e)
-    (record {
-      ty = h.ty;
-      rate = h.rate;
-      listed = h.listed;
-      ahead = h.ahead;
-      back = h.back;
-      hears = h.hears;
-      keeps = h.keeps;
-      whole = h.whole;
-      controls = is ∙ ap (with_named mask input_on output_on input_gain output_gain) h.controls;
-      line = h.line;
-      dead = h.dead;
-    })
+    (stands_changed x s x.next s.accepted s.completed c (with_named mask input_on output_on input_gain output_gain s.controls) x.line s.line (s.actors ++ k ∷ []) h refl h.hears h.whole
+    (is ∙ ap (with_named mask input_on output_on input_gain output_gain) h.controls) h.line)
 
--- the line of a device becomes another
+-- the line of a device becomes another, and who acted on it is not kept
+pub relined_by : (actors : List ℕ) (f : Phone → Phone) (x x' : KeptDevice) (line : Option Phone) (s : DeviceState) → StandsForDevice x s → line ≡ option_map f x.line → x' ≡ record x { line = line } →
+    StandsForDevice x' (record s { line = option_map f s.line; actors = actors })
+relined_by actors f x x' line s h is e =
+    subst (λ (y : KeptDevice). StandsForDevice y (record s { line = option_map f s.line; actors = actors })) (sym e)
+    (stands_changed x s x.next s.accepted s.completed x.controls s.controls line (option_map f s.line) actors h refl h.hears h.whole h.controls (is ∙ ap (option_map f) h.line))
+
 pub relined : (f : Phone → Phone) (x x' : KeptDevice) (line : Option Phone) (s : DeviceState) → StandsForDevice x s → line ≡ option_map f x.line → x' ≡ record x { line = line } → StandsForDevice x' (record s { line = option_map f s.line })
-relined f x x' line s h is e =
-    subst (λ (y : KeptDevice). StandsForDevice y (record s { line = option_map f s.line })) (sym e)
-    (record {
-      ty = h.ty;
-      rate = h.rate;
-      listed = h.listed;
-      ahead = h.ahead;
-      back = h.back;
-      hears = h.hears;
-      keeps = h.keeps;
-      whole = h.whole;
-      controls = h.controls;
-      line = is ∙ ap (option_map f) h.line;
-      dead = h.dead;
-    })
-
--- who acted on a device is not kept
-pub whoever_acted : (x : KeptDevice) (s : DeviceState) (actors : List ℕ) → StandsForDevice x s → StandsForDevice x (record s { actors = actors })
-whoever_acted x s actors h = record {
-  ty = h.ty;
-  rate = h.rate;
-  listed = h.listed;
-  ahead = h.ahead;
-  back = h.back;
-  hears = h.hears;
-  keeps = h.keeps;
-  whole = h.whole;
-  controls = h.controls;
-  line = h.line;
-  dead = h.dead;
-}
+relined f x x' line s h is e = relined_by s.actors f x x' line s h is e
 
 -- the hook of a device's line is wanted
 pub hook_wanted : (k : ℕ) (off : Bool) (x x' : KeptDevice) (line : Option Phone) (s : DeviceState) → StandsForDevice x s → line ≡ option_map (with_wanted_hook off) x.line → x' ≡ record x { line = line } → StandsForDevice x' (with_device_hook k off s)
-hook_wanted k off x x' line s h is e =
-    whoever_acted x' (record s { line = option_map (with_wanted_hook off) s.line }) (s.actors ++ k ∷ []) (relined (with_wanted_hook off) x x' line s h is e)
+hook_wanted k off x x' line s h is e = relined_by (s.actors ++ k ∷ []) (with_wanted_hook off) x x' line s h is e
 
 -- the controls that are kept are those that are replied
 pub controls_told : (l l' : LinkState) (x : KeptDevice) (c : Controls) → c ≡ x.controls → l' ≡ record l { pending = l.pending ++ reply_message l.order opcodes.query_controls (controls c) l.sequence } → (s : DeviceState) → StandsForDevice x s → ChangesLink (tell_controls s) l l'

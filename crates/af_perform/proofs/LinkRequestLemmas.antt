@@ -96,21 +96,33 @@ device_here e ds ks a i d x s view number there at h known =
     let here = device_at ds i d x number (omega (arith, low, number)) ∙ ap (λ x. Some x) (sym at) in
     (environment, stands_here ds ks a d x s environment here known)
 
+-- the same, where a context names the device
+pub device_named : (e : KeptSharedState) (ds : List KeptDevice) (ks : List KeptDeferral) (a : EnvironmentState) (i d named : ℕ) (x : KeptDevice) (s : DeviceState) → kept_shared_state ds ks ≡ e → i ≡ d → d < length e.devices → x ≡ get_or ds i x →
+    StandsForSharedState e a → d ≡ named → slice_get a.devices named ≡ Some s → (slice_get a.devices d ≡ Some s) × StandsForSharedState (kept_shared_state ds ks) a × StandsForDevice x s
+device_named e ds ks a i d named x s view number there at h is known =
+    let own : slice_get a.devices d ≡ Some s = ap (slice_get a.devices) is ∙ known in
+    let here = device_here e ds ks a i d x s view number there at h own in
+    (own, here.0, here.1)
+
 -- a device exists whose number is below the number of devices
 pub kept_there : (ds : List KeptDevice) (d : ℕ) → d < length ds → (x : KeptDevice) × (slice_get ds d ≡ Some x)
 kept_there [] d low = absurd (omega arith)
 kept_there (x ∷ ds) zero low = (x, refl)
 kept_there (x ∷ ds) (suc d) low = kept_there ds d (omega arith)
 
--- it exists in its environment
-pub device_there : (e : KeptSharedState) (ds : List KeptDevice) (ks : List KeptDeferral) (i d : ℕ) (x : KeptDevice) → kept_shared_state ds ks ≡ e → i ≡ d → d < length e.devices → x ≡ get_or ds i x → slice_get e.devices d ≡ Some x
-device_there e ds ks i d x view number there at =
-    let low = subst (λ (e : KeptSharedState). d < length e.devices) (sym view) there in
+-- it is kept if its number is below the number of those that are lent
+pub device_lent : (e : KeptSharedState) (ds lent : List KeptDevice) (ks : List KeptDeferral) (i d : ℕ) (x : KeptDevice) → kept_shared_state ds ks ≡ e → lent ≡ ds → i ≡ d → d < length lent → x ≡ get_or ds i x → slice_get e.devices d ≡ Some x
+device_lent e ds lent ks i d x view same number there at =
+    let low : d < length ds = subst (λ xs. d < length xs) same there in
     subst (λ (e : KeptSharedState). slice_get e.devices d ≡ Some x) view (device_at ds i d x number (omega (arith, low, number)) ∙ ap (λ x. Some x) (sym at))
 
--- and what is kept of it is one
-pub device_kept : (e : KeptSharedState) (ds : List KeptDevice) (ks : List KeptDeferral) (i d : ℕ) (x y : KeptDevice) → kept_shared_state ds ks ≡ e → i ≡ d → d < length e.devices → x ≡ get_or ds i x → slice_get e.devices d ≡ Some y → x ≡ y
-device_kept e ds ks i d x y view number there at known = let both : Some x ≡ Some y = sym (device_there e ds ks i d x view number there at) ∙ known in cc
+-- none is kept if it is not
+pub none_lent : (e : KeptSharedState) (ds lent : List KeptDevice) (ks : List KeptDeferral) (d : ℕ) → kept_shared_state ds ks ≡ e → lent ≡ ds → length lent ≤ d → length e.devices ≤ d
+none_lent e ds lent ks d view same past = subst (λ (e : KeptSharedState). length e.devices ≤ d) view (subst (λ xs. length xs ≤ d) same past)
+
+-- it exists in its environment
+pub device_there : (e : KeptSharedState) (ds : List KeptDevice) (ks : List KeptDeferral) (i d : ℕ) (x : KeptDevice) → kept_shared_state ds ks ≡ e → i ≡ d → d < length e.devices → x ≡ get_or ds i x → slice_get e.devices d ≡ Some x
+device_there e ds ks i d x view number there at = device_lent e ds ds ks i d x view refl number (subst (λ (e : KeptSharedState). d < length e.devices) (sym view) there) at
 
 -- a device that exists
 pub any_device : (ds ds' : List KeptDevice) (ks ks' : List KeptDeferral) (l l' : LinkState) (opcode d : ℕ) (f : DeviceState → OpenLink → OpenLink) → d < length ds →

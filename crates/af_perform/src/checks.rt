@@ -1,6 +1,6 @@
 // The checks of a request, in their order.
-ghost use Rattle.std.specs.Prelude.{◌≡◌, ◌<◌, ◌≤◌, length, IsFalse, IsTrue};
-ghost use Rattle.af_model.specs.declared.refusal.RefusalCause.TheVariants.{BadAc, BadDevice, BadLine};
+ghost use Rattle.std.specs.Prelude.{◌≡◌, ◌<◌, ◌≤◌, length, nat_lt, IsFalse, IsTrue};
+ghost use Rattle.af_model.specs.declared.refusal.RefusalCause.TheVariants.{BadAc, BadDevice, BadLine, BadValue};
 ghost use Rattle.af_model.specs.Reply.{refusal};
 ghost use Rattle.af_model.specs.ContextRequests.{named_gain};
 ghost use Rattle.af_model.specs.Checks.{check, check_gain, context_cause, first_refusal, names, where_named};
@@ -27,6 +27,13 @@ pub fn check_gain(gain: i16) -> Option<Refusal>
         RefusalCause::BadValue,
         u32::from(gain.cast_unsigned()),
     )
+}
+
+/// A switch that is neither 0 nor 1 is refused.
+pub fn check_switch(value: u32) -> Option<Refusal>
+    ensures { result ≡ check (nat_lt 1 value) BadValue value }
+{
+    check(value > 1, RefusalCause::BadValue, value)
 }
 
 /// Whether a mask names the field of a bit.

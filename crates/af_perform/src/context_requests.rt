@@ -11,7 +11,7 @@ ghost use Rattle.af_state.specs.SharedState.{StepsDevices, ChangesLink};
 ghost use Rattle.af_perform.specs.Asked.{new_context, new_settings};
 
 use crate::checks::{
-    check, check_gain, context_refusal, first_refusal, named_gain, names, where_named,
+    check, check_gain, check_switch, context_refusal, first_refusal, named_gain, names, where_named,
 };
 use af_context::Context;
 use af_model::{Refusal, RefusalCause};
@@ -71,11 +71,7 @@ fn creation_refusal(own: Option<u8>, asked: NewContext) -> Option<Refusal>
             u32::from(asked.device),
         ),
         check(asked.ty > 3, RefusalCause::BadValue, u32::from(asked.ty)),
-        check(
-            asked.preempt > 1,
-            RefusalCause::BadValue,
-            u32::from(asked.preempt),
-        ),
+        check_switch(u32::from(asked.preempt)),
         check_gain(asked.play_gain),
         check_gain(asked.record_gain),
         check(
@@ -140,15 +136,7 @@ fn change_refusal(link: &ServedLink, asked: NewSettings) -> Option<Refusal>
         check(!link.has_context(asked.ac), RefusalCause::BadAc, asked.ac),
         where_named(asked.mask, 1, check_gain(asked.play_gain)),
         where_named(asked.mask, 2, check_gain(asked.record_gain)),
-        where_named(
-            asked.mask,
-            4,
-            check(
-                asked.preempt > 1,
-                RefusalCause::BadValue,
-                u32::from(asked.preempt),
-            ),
-        ),
+        where_named(asked.mask, 4, check_switch(u32::from(asked.preempt))),
     ])
 }
 

@@ -18,8 +18,8 @@ ghost use Rattle.af_state.specs.Deferrals.{KeptDeferral};
 ghost use Rattle.af_state.specs.SharedState.{kept_shared_state, StepsDevices, StepsLinkFor, ChangesLink};
 
 use crate::checks::{
-    check, check_gain, first_refusal, is_missing, named_gain, names, no_device, no_line,
-    where_named,
+    check, check_gain, check_switch, first_refusal, is_missing, named_gain, names, no_device,
+    no_line, where_named,
 };
 use af_model::{Refusal, RefusalCause};
 use af_phone::Line;
@@ -86,24 +86,8 @@ fn controls_refusal(asked: NewControls) -> Option<Refusal>
     first_refusal(&[
         where_named(asked.mask, 1, check_gain(asked.input_gain)),
         where_named(asked.mask, 2, check_gain(asked.output_gain)),
-        where_named(
-            asked.mask,
-            4,
-            check(
-                asked.input_on > 1,
-                RefusalCause::BadValue,
-                u32::from(asked.input_on),
-            ),
-        ),
-        where_named(
-            asked.mask,
-            8,
-            check(
-                asked.output_on > 1,
-                RefusalCause::BadValue,
-                u32::from(asked.output_on),
-            ),
-        ),
+        where_named(asked.mask, 4, check_switch(u32::from(asked.input_on))),
+        where_named(asked.mask, 8, check_switch(u32::from(asked.output_on))),
     ])
 }
 
@@ -187,7 +171,7 @@ fn switch_refusal(device: u8, off: u32, line: Phone) -> Option<Refusal>
 {
     first_refusal(&[
         check(line.dead, RefusalCause::BadLine, u32::from(device)),
-        check(off > 1, RefusalCause::BadValue, off),
+        check_switch(off),
     ])
 }
 

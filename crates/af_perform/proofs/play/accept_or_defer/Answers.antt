@@ -1,13 +1,11 @@
-use Rattle.std.proofs.Common.{◌≡◌, ◌/◌, ◌<◌, ◌≤◌, ◌^◌, ◌∙◌, ◌++◌, ◌∷◌, [], ap, sym, subst, length, refl, rules}
-use Rattle.std.specs.declared.option.Option.TheVariants.{Some}
-use Rattle.std.specs.Prelude.{slice_get}
+use Rattle.std.proofs.Common.{◌/◌, ◌<◌, ◌≤◌, ◌∙◌, ◌++◌, ◌∷◌, [], ap, sym, subst, length, refl, rules}
 use Rattle.std.proofs.lemmas.List.{with_items_is}
 use Rattle.af_sample.specs.Channels.{frame_count}
 use Rattle.af_buffers.specs.PlayBuffer.{accepted_at, frames_beyond}
 use Rattle.af_model.specs.State.{deferred_play, open_link}
 use Rattle.af_model.specs.Play.{accept_play, in_devices, start_play, tell_played}
 use Rattle.af_state.specs.SharedState.{StandsForLink, StandsForSharedState, kept_shared_state}
-use Rattle.af_perform.proofs.LinkRequestLemmas.{device_here, device_there, play_started, play_waits}
+use Rattle.af_perform.proofs.LinkRequestLemmas.{device_named, device_there, play_started, play_waits}
 use Rattle.af_perform.proofs.LeavesLemmas.{leaves_opened, leaves_waiting}
 use Rattle.af_perform.proofs.play.accept_or_defer.Goals as goal
 
@@ -16,16 +14,14 @@ returns-then-frames-frames_within-clause-step c = λ x bytes is a s h there.
     let p = c.args.play.now in
     let ds = c.shared.inside.devices.items in
     let ks = c.shared.inside.waits in
-    let word : p.start.0 < 2 ^ 32 = search rules in
-    let known : slice_get a.devices p.device ≡ Some s = ap (λ d. slice_get a.devices d) is.device ∙ there in
-    let here = device_here _ ds ks a _ p.device _ s c.shared.view_is c.from.ensures c.requires.there c.index-device.ensures h known in
-    let lent = subst (λ xs. StandsForSharedState (kept_shared_state xs ks) a) (sym c.deref_mut.ensures.value) here.0 in
+    let named = device_named _ ds ks a _ p.device x.device _ s c.shared.view_is c.from.ensures c.requires.there c.index-device.ensures h is.device there in
+    let lent = subst (λ xs. StandsForSharedState (kept_shared_state xs ks) a) (sym c.deref_mut.ensures.value) named.1 in
     subst (λ xs. StandsForLink (kept_shared_state xs ks) c.accept.new.link (start_play c.args.number p.quiet x p.start.0 bytes s (open_link a c.args.link.now))) (sym (with_items_is c.shared.inside.devices c.accept.new.devices (search rules)))
-    (play_started ds c.accept.new.devices ks _ c.args.link.now _ c.args.number p.quiet x p.start.0 bytes p.sound.now a s word here.1 is.sound
+    (play_started ds c.accept.new.devices ks _ c.args.link.now _ c.args.number p.quiet x p.start.0 bytes p.sound.now a s (search rules) named.2 is.sound
     (subst (λ n. frame_count c.index-device.result.now.next.channels p.sound.now ≤ n) c.frames_within.ensures (subst (λ n. length p.sound.now / n ≤ c.frames_within.result) (c.from-2.ensures ∙ c.channels.ensures.value) c.if-frames-frames_within.true))
     (subst (λ d. StandsForLink (kept_shared_state c.accept.new.devices ks) c.accept.new.link (tell_played p.quiet s (in_devices d (accept_play c.args.number (accepted_at s.now p.start.0 p.sound.now x.preempt)) (open_link a c.args.link.now)))) is.device
     (subst (λ b. StandsForLink (kept_shared_state c.accept.new.devices ks) c.accept.new.link (tell_played p.quiet s (in_devices p.device (accept_play c.args.number (accepted_at s.now p.start.0 p.sound.now b)) (open_link a c.args.link.now)))) is.preempt
-    (c.accept.ensures.accepts c.args.number ks a s lent known))))
+    (c.accept.ensures.accepts c.args.number ks a s lent named.0))))
 
 pub returns-then-frames-frames_within-clause-leaves : goal.returns-then-frames-frames_within-clause-leaves
 returns-then-frames-frames_within-clause-leaves c =
@@ -34,12 +30,9 @@ returns-then-frames-frames_within-clause-leaves c =
 pub returns-else-frames-frames_within-clause-step : goal.returns-else-frames-frames_within-clause-step
 returns-else-frames-frames_within-clause-step c = λ x bytes is a s h there.
     let p = c.args.play.now in
-    let ds = c.shared.inside.devices.items in
     let ks = c.shared.inside.waits in
-    let word : p.start.0 < 2 ^ 32 = search rules in
-    let known : slice_get a.devices p.device ≡ Some s = ap (λ d. slice_get a.devices d) is.device ∙ there in
-    let here = device_here _ ds ks a _ p.device _ s c.shared.view_is c.from.ensures c.requires.there c.index-device.ensures h known in
-    play_waits ds ks _ _ c.args.link.now c.args.number p.quiet x p.start.0 bytes p.sound.now c.play_due_in-left.result a s word here.0 there here.1 is.sound c.requires.few (c.requires.whole _ (device_there _ ds ks _ p.device _ c.shared.view_is c.from.ensures c.requires.there c.index-device.ensures))
+    let named = device_named _ _ ks a _ p.device x.device _ s c.shared.view_is c.from.ensures c.requires.there c.index-device.ensures h is.device there in
+    play_waits _ ks _ _ c.args.link.now c.args.number p.quiet x p.start.0 bytes p.sound.now c.play_due_in-left.result a s (search rules) named.1 there named.2 is.sound c.requires.few (c.requires.whole _ (device_there _ _ ks _ p.device _ c.shared.view_is c.from.ensures c.requires.there c.index-device.ensures))
     (subst (λ n. n < frame_count c.index-device.result.now.next.channels p.sound.now) c.frames_within.ensures (subst (λ n. c.frames_within.result < length p.sound.now / n) (c.from-2.ensures ∙ c.channels.ensures.value) c.if-frames-frames_within.false))
     (c.play_due_in-left.ensures ∙ ap (λ n. frames_beyond c.index-device.result.now.next p.start.0 (length p.sound.now / n)) (c.from-2.ensures ∙ c.channels.ensures.value))
     (c.begin_play.ensures

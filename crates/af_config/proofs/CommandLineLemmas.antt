@@ -3,6 +3,7 @@ use Rattle.std.proofs.Common.{◌≡◌, ℕ, ◌<◌, ◌≤◌, Bool, true, fa
 use Rattle.std.specs.Prelude.{None}
 use Rattle.std.proofs.lemmas.Bool.Decides.{nat_tests}
 use Rattle.std.proofs.lemmas.List.{length-map, map-append}
+use Rattle.std.proofs.Math.Bool.{and-false}
 use Rattle.arrayvec.specs.ArrayVec.{ArrayVec}
 use Rattle.arrayvec.specs.ArrayString.{ArrayString}
 use Rattle.af_process.specs.Acts.{words_of}
@@ -18,10 +19,6 @@ are_short-with (x ∷ xs) word ys = ap (λ b. nat_le (length x) 64 && b) (are_sh
     all true b c = refl
     all false b c = refl
 
-and_false : (a : Bool) → a && false ≡ false
-and_false true = refl
-and_false false = refl
-
 refused : (words : List (List ℕ)) → is_command_line words ≡ false → only_if is_command_line words ≡ None
 refused words bad = ap (λ t. then_some t words) bad
 
@@ -29,8 +26,8 @@ refused words bad = ap (λ t. then_some t words) bad
 pub long_refused : (all xs : List (List ℕ)) (word : List ℕ) (ys : List (List ℕ)) → all ≡ xs ++ word ∷ ys → 64 < length word → only_if is_command_line all ≡ None
 long_refused all xs word ys is long =
     let test : nat_le (length word) 64 ≡ false = grind (arith, nat_tests) in
-    let short : are_short all ≡ false = ap are_short is ∙ are_short-with xs word ys ∙ ap (λ b. are_short xs && (b && are_short ys)) test ∙ and_false (are_short xs) in
-    refused all (ap (λ b. nat_le 1 (length all) && nat_le (length all) 8 && b) short ∙ and_false (nat_le 1 (length all) && nat_le (length all) 8))
+    let short : are_short all ≡ false = ap are_short is ∙ are_short-with xs word ys ∙ ap (λ b. are_short xs && (b && are_short ys)) test ∙ and-false (are_short xs) in
+    refused all (ap (λ b. nat_le 1 (length all) && nat_le (length all) 8 && b) short ∙ and-false (nat_le 1 (length all) && nat_le (length all) 8))
 
 -- there are too many
 pub many_refused : (all : List (List ℕ)) (xs : ArrayVec ArrayString) (word : List ℕ) (ys : List (List ℕ)) → all ≡ words_of xs ++ word ∷ ys → 8 ≤ length xs.items → only_if is_command_line all ≡ None
@@ -38,7 +35,7 @@ many_refused all xs word ys is eight =
     let count = ap length is ∙ length-append (words_of xs) (word ∷ ys) in
     let same = length-map xs.items (λ (w : ArrayString). w.bytes) in
     let test : nat_le (length all) 8 ≡ false = grind (arith, nat_tests) in
-    refused all (ap (λ b. nat_le 1 (length all) && b && are_short all) test ∙ ap (λ b. b && are_short all) (and_false (nat_le 1 (length all))))
+    refused all (ap (λ b. nat_le 1 (length all) && b && are_short all) test ∙ ap (λ b. b && are_short all) (and-false (nat_le 1 (length all))))
 
 -- with one more word
 pub words_more : (old new : ArrayVec ArrayString) (copy : ArrayString) (word : List ℕ) → new.items ≡ old.items ++ copy ∷ [] → copy.bytes ≡ word → words_of new ≡ words_of old ++ word ∷ []

@@ -7,7 +7,7 @@ ghost use Rattle.af_model.specs.Perform.{request_effect, perform};
 ghost use Rattle.af_state.specs.SharedState.{StepsLink, StepsDevices, Leaves, MayAsk};
 ghost use Rattle.af_perform.specs.Asked.{is_done_at_once};
 
-use crate::checks::{is_missing, no_device};
+use crate::checks::no_device;
 use crate::context_requests::{NewContext, NewSettings, change_ac, create_ac, free_ac};
 use crate::device_requests::{
     NewControls, hook_switch, query_controls, query_phone, select_events, set_controls,
@@ -23,12 +23,13 @@ fn get_time(device: u8, devices: &[Device], link: &mut ServedLink, work: &mut Wo
     ensures step { (k : ℕ) → StepsDevices (request_effect k (get_time device)) devices.now link.old devices.now link.new }
     ensures rest { link.new.rest ≡ link.old.rest }
 {
-    if is_missing(device, devices) {
-        link.refuse(opcode::GET_TIME, no_device(device));
-        return;
+    match devices.get(usize::from(device)) {
+        Some(device) => {
+            let time = device.time();
+            link.reply(opcode::GET_TIME, &Reply::Time { time }, &mut work.message);
+        }
+        None => link.refuse(opcode::GET_TIME, no_device(device)),
     }
-    let time = devices[usize::from(device)].time();
-    link.reply(opcode::GET_TIME, &Reply::Time { time }, &mut work.message);
 }
 
 // Performs a request that changes only its own link.

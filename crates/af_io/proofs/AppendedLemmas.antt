@@ -1,5 +1,7 @@
 -- Lists that are appended to or unchanged, if they are observable.
-use Rattle.std.proofs.Common.{List, [], ◌++◌, refl, sym, ap, ◌∙◌, append_assoc, append-nil}
+use Rattle.std.proofs.Common.{◌≡◌, List, [], ◌∷◌, ◌++◌, refl, sym, ap, ◌∙◌, append_assoc, append-nil, IfSome}
+use Rattle.std.proofs.lemmas.List.Sums.{fold-append}
+use Rattle.std.specs.List.{fold}
 use Rattle.std.specs.declared.option.Option.{Option}
 use Rattle.std.specs.declared.option.Option.TheVariants.{None, Some}
 use Rattle.af_io.specs.Observed.{Appended, Unchanged}
@@ -41,3 +43,10 @@ appended_stays a b None p h k = tt
 appended_stays a None (Some z) p h k = absurd k
 appended_stays None (Some y) (Some z) p h k = absurd h
 appended_stays (Some x) (Some y) (Some z) p h k = k ∙ h
+
+-- what is folded out of a list goes on with the element that is appended
+pub appended_folds : {A B : Type 0} (step : B → A → B) (start : B) (before after : Option (List A)) (a : A) (b : B) → Appended before (a ∷ []) after →
+    IfSome before (λ xs. b ≡ fold step start xs) → IfSome after (λ xs. step b a ≡ fold step start xs)
+appended_folds step start before None a b added shown = tt
+appended_folds step start None (Some after) a b added shown = absurd added
+appended_folds step start (Some before) (Some after) a b added shown = ap (λ x. step x a) shown ∙ sym (fold-append step start before (a ∷ [])) ∙ ap (fold step start) (sym added)

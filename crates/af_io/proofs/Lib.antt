@@ -1,3 +1,4 @@
 pub mod ConsumedLemmas
 pub mod AppendedLemmas
 pub mod KnownBytesLemmas
+pub mod NotesLemmas

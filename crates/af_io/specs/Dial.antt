@@ -1,10 +1,10 @@
 -- Links to servers, which are dialled by address and given back.
-use Rattle.std.specs.Prelude.{◌≡◌, ◌<◌, ◌≤◌, ⊤, ℕ, List, [], ◌∷◌}
+use Rattle.std.specs.Prelude.{◌≡◌, ◌<◌, ◌≤◌, ⊤, ℕ, nat_lt, if◌then◌else◌, List, [], ◌∷◌}
 use Rattle.std.specs.declared.option.Option.{Option}
 use Rattle.std.specs.declared.option.Option.TheVariants.{None, Some}
 use Rattle.af_io.specs.declared.dial.Dialed.{Dialed}
 use Rattle.af_io.specs.declared.dial.Dialed.TheVariants as dialed
-use Rattle.af_io.specs.Observed.{Appended, FaultCounted}
+use Rattle.af_io.specs.Observed.{Appended, FaultCounted, next_count}
 
 -- a link that a dial will give: the bytes that it gives, and those that it was sent before
 pub record ToldLink : Type 0 where
@@ -39,7 +39,6 @@ pub record CountsHurt (faults before after : ℕ) : Type 0 where
   pub unhurt : faults ≡ 0 → after ≡ before
   pub count : before ≤ after
 
--- a dial that is not observable: how many dials have failed, and how many links had failed
-pub record DialCounts : Type 0 where
-  pub faults : ℕ
-  pub hurt : ℕ
+-- the count of failed links after one is given back that had failed so often
+abbrev pub hurt_after : ℕ → ℕ → ℕ
+hurt_after faults hurt = if nat_lt 0 faults then next_count hurt else hurt

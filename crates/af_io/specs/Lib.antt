@@ -5,3 +5,4 @@ pub mod Link
 pub mod Dial
 pub mod MemDial
 pub mod Real
+pub mod Notes

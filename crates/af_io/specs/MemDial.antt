@@ -1,10 +1,10 @@
 -- A dial in memory.
-use Rattle.std.specs.Prelude.{ℕ, nat_lt, if◌then◌else◌, Bool, List, [], ◌∷◌, map}
+use Rattle.std.specs.Prelude.{ℕ, Bool, List, [], ◌∷◌, map}
 use Rattle.std.specs.declared.option.Option.{Option}
 use Rattle.std.specs.declared.option.Option.TheVariants.{None, Some}
 use Rattle.af_io.specs.Link.{MemLinkState}
 use Rattle.af_io.specs.Dial.{ToldLink}
-use Rattle.af_io.specs.Observed.{next_count}
+use Rattle.af_io.specs.Observed.{told_if}
 
 -- A dial in memory: the links that it will give; the addresses of its dials, if they are observable; the links that were given
 -- back and kept, and whether these are all; how many dials have failed; and how many links had failed.
@@ -27,14 +27,6 @@ both_of (Some a) (Some b) = a ∷ b ∷ []
 abbrev pub told_link : MemLinkState → ToldLink
 told_link link = record { gives = link.left; sent = link.sent }
 
--- a list that is observable, or not
-abbrev pub told_if : {A : Type 0} → Bool → List A → Option (List A)
-told_if tells list = if tells then Some list else None
-
 -- what each link that was given back had been sent
 abbrev pub back_of : MemDialState → Option (List (List ℕ))
 back_of d = told_if d.keeps_all (map (λ (link : MemLinkState). link.sent) d.kept)
-
--- a count that rises if a link has failed
-abbrev pub count_after : MemLinkState → ℕ → ℕ
-count_after link hurt = if nat_lt 0 link.faults then next_count hurt else hurt

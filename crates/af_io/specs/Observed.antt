@@ -1,7 +1,11 @@
 -- What is observable of the things that programs read from and write to: lists that grow or are consumed, and counts of faults.
-use Rattle.std.specs.Prelude.{◌≡◌, ℕ, ◌+◌, ◌-◌, ◌≤◌, ◌^◌, min, Bool, true, false, List, ◌++◌}
+use Rattle.std.specs.Prelude.{◌≡◌, ℕ, ◌+◌, ◌-◌, ◌≤◌, ◌^◌, min, if◌then◌else◌, Bool, true, false, List, ◌++◌}
 use Rattle.std.specs.declared.option.Option.{Option}
 use Rattle.std.specs.declared.option.Option.TheVariants.{None, Some}
+
+-- a list that is observable, or not
+abbrev pub told_if : {A : Type 0} → Bool → List A → Option (List A)
+told_if tells list = if tells then Some list else None
 
 -- if the list is observable afterwards, it was so before, and this part was appended
 abbrev pub Appended : {A : Type 0} → Option (List A) → List A → Option (List A) → Type 0

@@ -30,6 +30,10 @@ ReadsOn (got.Bytes n) before into after = (1 ≤ n) × (n ≤ length into) × Co
 ReadsOn got.Ended before into after = Keeps before after × IsAtEnd after
 ReadsOn got.Failed before into after = Keeps before after
 
+-- the first so many bytes of this piece were added to known ones
+abbrev pub AppendsSoFar : (before now : Option (List ℕ)) (piece : List ℕ) (count : ℕ) → Type 0
+AppendsSoFar before now piece count = (count ≤ length piece) × Appends before now (take count piece)
+
 -- known bytes have grown by a prefix of this piece
 pub record AppendsPrefix (before : Option (List ℕ)) (piece : List ℕ) (after : Option (List ℕ)) : Type 0 where
   pub front : List ℕ

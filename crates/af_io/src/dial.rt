@@ -2,8 +2,10 @@
 ghost use Rattle.std.specs.Prelude.{◌≡◌, ◌≤◌, ℕ, List, [], ◌∷◌, length};
 ghost use Rattle.std.specs.declared.option.Option.{Option};
 ghost use Rattle.af_limits.specs.Limits.{longest_address};
+ghost use Rattle.af_io.specs.Dial.{CountsHurt, hurt_after};
 
 use crate::Link;
+use crate::faults::faults_after;
 
 /// What a dial gave: a link, or none.
 #[derive(Drop)]
@@ -53,4 +55,28 @@ pub trait Dial {
         ensures asked { asked self.new ≡ asked self.old }
         ensures back { AppendedBack (back self.old) (Self.Far.Link.sent far) (back self.new) }
         ensures gives { links self.new ≡ links self.old };
+}
+
+/// How many dials have failed, and how many of the links that were given back. Both counts stand still at 2^64 - 1.
+#[derive(Clone, Copy)]
+pub(crate) struct DialCounts {
+    pub(crate) faults: u64,
+    pub(crate) hurt: u64,
+}
+
+impl DialCounts {
+    /// Nothing was dialled.
+    pub(crate) fn new() -> DialCounts
+        ensures { result ≡ record { faults = 0; hurt = 0 } }
+    {
+        DialCounts { faults: 0, hurt: 0 }
+    }
+
+    /// Counts a link that is given back, if it had failed so often.
+    pub(crate) fn count_hurt(&mut self, faults: u64)
+        ensures hurt { CountsHurt faults self.old.hurt self.new.hurt }
+        ensures counts { self.new ≡ record self.old { hurt = hurt_after faults self.old.hurt } }
+    {
+        self.hurt = faults_after(self.hurt, faults > 0);
+    }
 }

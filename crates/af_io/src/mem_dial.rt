@@ -2,11 +2,12 @@
 ghost use Rattle.std.specs.Prelude.{◌≡◌, ◌≢◌, ◌≤◌, ◌<◌, ◌+◌, ◌↔◌, ℕ, [], ◌∷◌, ◌++◌, length, map, option_map, slice_get, true, false, Bool, IfSome, IsSome, IsTrue};
 ghost use Rattle.std.specs.declared.option.Option.TheVariants.{Some, None};
 ghost use Rattle.af_limits.specs.Limits.{longest_address};
-ghost use Rattle.af_io.specs.Observed.{Appended, CountsOneFault, next_count};
+ghost use Rattle.af_io.specs.Observed.{told_if, Appended, CountsOneFault};
 ghost use Rattle.af_io.specs.Link.{MemLinkState};
-ghost use Rattle.af_io.specs.Dial.{CountsHurt, GivesNext, AppendedBack, IsUnhurt};
-ghost use Rattle.af_io.specs.MemDial.{back_of, both_of, count_after, told_if, told_link};
+ghost use Rattle.af_io.specs.Dial.{CountsHurt, GivesNext, AppendedBack, IsUnhurt, hurt_after};
+ghost use Rattle.af_io.specs.MemDial.{back_of, both_of, told_link};
 
+use crate::dial::DialCounts;
 use crate::faults::faults_after;
 use crate::{Dial, Dialed, Link, MemLink};
 use af_limits::LONGEST_ADDRESS;
@@ -26,14 +27,14 @@ pub struct MemDial {
     kept: Option<MemLink>,
     kept_later: Option<MemLink>,
     keeps_all: bool,
-    faults: u64,
-    hurt: u64,
+    counts: DialCounts,
 }
 
 impl Model for MemDial {
     ghost use Rattle.std.specs.Prelude.{◌≡◌, map, IfSome, IfNone};
     ghost use Rattle.std.specs.declared.option.Option.TheVariants.{None};
-    ghost use Rattle.af_io.specs.MemDial.{both_of, told_if, MemDialState};
+    ghost use Rattle.af_io.specs.Observed.{told_if};
+    ghost use Rattle.af_io.specs.MemDial.{both_of, MemDialState};
 
     ghost Value = { MemDialState };
 
@@ -42,8 +43,8 @@ impl Model for MemDial {
       asked = told_if a.tells_asked (map (λ address. address.bytes) a.addresses.items);
       kept = both_of a.kept a.kept_later;
       keeps_all = a.keeps_all;
-      faults = a.faults;
-      hurt = a.hurt;
+      faults = a.counts.faults;
+      hurt = a.counts.hurt;
     } };
 
     ghost invariant = { λ a. IfSome a.first (λ link. link.faults ≡ 0) × IfSome a.second (λ link. link.faults ≡ 0)
@@ -64,8 +65,7 @@ impl MemDial {
             kept: None,
             kept_later: None,
             keeps_all: true,
-            faults: 0,
-            hurt: 0,
+            counts: DialCounts::new(),
         }
     }
 
@@ -112,7 +112,7 @@ impl Dial for MemDial {
         match take_next(&mut self.first, &mut self.second) {
             Some(link) => Dialed::Far(link),
             None => {
-                self.faults = faults_after(self.faults, true);
+                self.counts.faults = faults_after(self.counts.faults, true);
                 Dialed::Failed
             }
         }
@@ -124,10 +124,10 @@ impl Dial for MemDial {
         ensures asked { self.new.asked ≡ self.old.asked }
         ensures back { AppendedBack (back_of self.old) (Some far.sent) (back_of self.new) }
         ensures gives { Some (map told_link self.new.links) ≡ Some (map told_link self.old.links) }
-        ensures counts { self.new.hurt ≡ count_after far self.old.hurt }
+        ensures counts { self.new.hurt ≡ hurt_after far.faults self.old.hurt }
         ensures kept { length self.old.kept < 2 → (self.new.kept ≡ self.old.kept ++ far ∷ []) × (self.new.keeps_all ≡ self.old.keeps_all) }
     {
-        self.hurt = faults_after(self.hurt, far.faults() > 0);
+        self.counts.count_hurt(far.faults());
         if !keep(&mut self.kept, &mut self.kept_later, far) {
             self.keeps_all = false;
         }

@@ -133,11 +133,8 @@ impl Link for MemLink {
         ensures rest { self.new
             ≡ record self.old { sent = self.new.sent; calls = self.new.calls; faults = self.new.faults } }
     {
-        if self.calls.next_fails(self.fails.as_slice()) {
-            return Put::Failed;
-        }
-        if piece.len() > self.room - self.sent.len() {
-            self.calls.fail();
+        let is_refused = piece.len() > self.room - self.sent.len();
+        if self.calls.next_fails_or(self.fails.as_slice(), is_refused) {
             return Put::Failed;
         }
         append(&mut self.sent, piece);

@@ -153,11 +153,8 @@ impl<'a> Sink for MemSink<'a> {
         ensures rest { self.new
             ≡ record self.old { held = self.new.held; calls = self.new.calls; faults = self.new.faults } }
     {
-        if self.calls.next_fails(self.fails) {
-            return Put::Failed;
-        }
-        if piece.len() > self.room.len() - self.written {
-            self.calls.fail();
+        let is_refused = piece.len() > self.room.len() - self.written;
+        if self.calls.next_fails_or(self.fails, is_refused) {
             return Put::Failed;
         }
         let end = self.written + piece.len();

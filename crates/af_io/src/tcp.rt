@@ -7,6 +7,7 @@ ghost use Rattle.af_io.specs.Flow.{given_of, GotFits, Written};
 ghost use Rattle.af_io.specs.Real.{ReadsOn, WritesOn};
 ghost use Rattle.af_io.specs.Dial.{CountsHurt, GivesNext, AppendedBack, IsUnhurt};
 
+use crate::dial::DialCounts;
 use crate::faults::faults_after;
 use crate::keepalive::keep_alive;
 use crate::real::{read_some, write_whole};
@@ -73,17 +74,16 @@ impl<S: Read + Write + Drop> Link for TcpLink<S> {
 #[derive(Drop)]
 pub struct TcpDial<R: Net + Drop> {
     rt: R,
-    faults: u64,
-    hurt: u64,
+    counts: DialCounts,
     reason: Option<Reason>,
 }
 
 impl<R: Net + Drop> Model for TcpDial<R> {
-    ghost use Rattle.af_io.specs.Dial.{DialCounts};
+    ghost use Rattle.af_io.specs.declared.dial.DialCounts.{DialCounts};
 
     ghost Value = { DialCounts };
 
-    ghost view = { λ a. record { faults = a.faults; hurt = a.hurt } };
+    ghost view = { λ a. record { faults = a.counts.faults; hurt = a.counts.hurt } };
 }
 
 impl<R: Net + Drop> TcpDial<R> {
@@ -93,8 +93,7 @@ impl<R: Net + Drop> TcpDial<R> {
     {
         TcpDial {
             rt,
-            faults: 0,
-            hurt: 0,
+            counts: DialCounts::new(),
             reason: None,
         }
     }
@@ -138,7 +137,7 @@ impl<R: Net + Drop> Dial for TcpDial<R> {
             Err(e) if e.kind() == ErrorKind::OutOfMemory => Dialed::OutOfMemory,
             Err(e) => {
                 self.reason = Some(Reason::new(e));
-                self.faults = faults_after(self.faults, true);
+                self.counts.faults = faults_after(self.counts.faults, true);
                 Dialed::Failed
             }
         }
@@ -148,6 +147,6 @@ impl<R: Net + Drop> Dial for TcpDial<R> {
         ensures count { self.new.faults ≡ self.old.faults }
         ensures hurt { CountsHurt far.faults self.old.hurt self.new.hurt }
     {
-        self.hurt = faults_after(self.hurt, far.faults > 0);
+        self.counts.count_hurt(far.faults);
     }
 }

@@ -1,16 +1,12 @@
 -- The acts of child programs: which children they show to run, and the answers of a spawner in them.
-use Rattle.std.specs.Prelude.{◌≡◌, ⊤, ℕ, ℤ, ◌+◌, ◌==◌, ◌||◌, Bool, true, false, if◌then◌else◌, IsTrue, List, [], ◌∷◌, map}
+use Rattle.std.specs.Prelude.{◌≡◌, ⊤, ℕ, ℤ, ◌+◌, ◌==◌, ◌||◌, Bool, true, false, if◌then◌else◌, IsTrue, List, [], ◌∷◌, map, option_map}
 use Rattle.std.specs.List.{fold}
 use Rattle.std.specs.declared.option.Option.{Option}
 use Rattle.std.specs.declared.option.Option.TheVariants.{None, Some}
-use Rattle.std.specs.declared.result.Result.{Result}
-use Rattle.std.specs.declared.result.Result.TheVariants.{Ok, Err}
 use Rattle.arrayvec.specs.ArrayVec.{ArrayVec}
 use Rattle.arrayvec.specs.ArrayString.{ArrayString}
 use Rattle.af_io.specs.declared.flow.Put.{Put}
 use Rattle.af_io.specs.declared.flow.Put.TheVariants as put
-use Rattle.af_io.specs.Observed.{Appended}
-use Rattle.af_time.specs.declared.OutOfMemory.{OutOfMemory}
 use Rattle.af_process.specs.declared.act.Act.{Act}
 use Rattle.af_process.specs.declared.act.Act.TheVariants as act
 use Rattle.af_process.specs.declared.act.BeganGot.{BeganGot}
@@ -98,14 +94,6 @@ IsNextChild (Some acts) (started.Child child) = child ≡ children_in acts
 IsNextChild (Some acts) started.Failed = ⊤
 IsNextChild (Some acts) started.OutOfMemory = ⊤
 
--- Notes
-
--- acts that are observable, or not
-abbrev pub told_where : Bool → List Act → Option (List Told)
-told_where true acts = Some (map told_of acts)
-told_where false acts = None
-
--- an act is added; if memory ran out for it, the acts are no longer observable
-abbrev pub ActNoted : Option (List Told) → Result Act OutOfMemory → Option (List Told) → Type 0
-ActNoted before (Ok act) after = Appended before (told_of act ∷ []) after
-ActNoted before (Err e) after = after ≡ None
+-- acts that are observable, or not, as clauses see them
+abbrev pub told_acts : Option (List Act) → Option (List Told)
+told_acts acts = option_map (map told_of) acts

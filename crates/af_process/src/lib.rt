@@ -3,15 +3,16 @@
 #![tactic(auto)]
 
 mod act;
+mod acts;
 mod command_line;
 mod mem_spawner;
-mod notes;
 mod running;
 mod spawner;
 mod std_spawner;
 
 pub use act::{Act, BeganGot, Words, copied_words};
-pub use command_line::CommandLine;
+pub use command_line::{CommandLine, command_of};
 pub use mem_spawner::MemSpawner;
+pub use running::shell_status;
 pub use spawner::{Finished, Spawner, Started};
 pub use std_spawner::StdSpawner;

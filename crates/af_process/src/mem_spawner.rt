@@ -1,14 +1,13 @@
 // Child programs in memory, whose calls fail as listed.
-ghost use Rattle.std.specs.Prelude.{◌≡◌, ◌≢◌, ◌↔◌, ◌⊎◌, ◌≤◌, ◌^◌, ◌-◌, [], ◌∷◌, map, is_some, IsTrue, Contains, IfOk, IfSome};
+ghost use Rattle.std.specs.Prelude.{◌≡◌, ◌≢◌, ◌↔◌, ◌⊎◌, ◌≤◌, ◌^◌, ◌-◌, [], ◌∷◌, map, is_some, Contains, IfOk, IfSome};
 ghost use Rattle.std.specs.declared.option.Option.TheVariants.{None, Some};
 ghost use Rattle.arrayvec.specs.ArrayVec.{array_vec_len};
-ghost use Rattle.af_io.specs.Observed.{Appended, CountsOneFault, next_count, faults_after};
+ghost use Rattle.af_io.specs.Observed.{Appended, CountsOneFault, next_count};
 ghost use Rattle.af_process.specs.Acts.{told_of, noted, began, given, finished, began_got, status_of, is_given, words_of, started_after, IsNextChild, RunsWhereTold};
 ghost use Rattle.af_process.specs.Memory.{status_at, ended_after};
 
-use crate::notes::{self, Notes};
-use crate::{Act, BeganGot, Finished, Spawner, Started, Words};
-use af_io::{Put, faults_after};
+use crate::{Act, BeganGot, Finished, Spawner, Started, Words, acts};
+use af_io::{Calls, Notes, Put, Stated};
 use af_time::OutOfMemory;
 use std::alloc::Global;
 use std::marker::Model;
@@ -20,33 +19,31 @@ use std::marker::Model;
 /// The number of a call and the counts stand still at 2^64 - 1.
 #[derive(Drop)]
 pub struct MemSpawner {
-    notes: Notes,
+    notes: Notes<Act>,
     fails: Vec<u64>,
-    statuses: Vec<i32>,
-    calls: u64,
-    faults: u64,
+    calls: Calls,
+    statuses: Stated<i32>,
     started: u32,
-    ended: u64,
 }
 
 impl Model for MemSpawner {
     ghost use Rattle.std.specs.Prelude.{◌≡◌, IfSome};
-    ghost use Rattle.af_process.specs.Acts.{children_in};
+    ghost use Rattle.af_process.specs.Acts.{children_in, told_acts};
     ghost use Rattle.af_process.specs.Memory.{MemSpawnerState};
 
     ghost Value = { MemSpawnerState };
 
     ghost view = { λ a. record {
-      acts = a.notes;
+      acts = told_acts a.notes;
       fails = a.fails.items;
-      statuses = a.statuses.items;
-      calls = a.calls;
-      faults = a.faults;
+      statuses = a.statuses.answers.items;
+      calls = a.calls.number;
+      faults = a.calls.faults;
       started = a.started;
-      ended = a.ended;
+      ended = a.statuses.number;
     } };
 
-    ghost invariant = { λ a. IfSome a.notes (λ acts. a.started ≡ children_in acts) };
+    ghost invariant = { λ a. IfSome (told_acts a.notes) (λ acts. a.started ≡ children_in acts) };
 }
 
 impl MemSpawner {
@@ -58,11 +55,9 @@ impl MemSpawner {
         Ok(MemSpawner {
             notes: Notes::new(alloc),
             fails: Vec::from_slice(alloc, fails)?,
-            statuses: Vec::from_slice(alloc, statuses)?,
-            calls: 0,
-            faults: 0,
+            calls: Calls::new(),
+            statuses: Stated::new(alloc, statuses)?,
             started: 0,
-            ended: 0,
         })
     }
 
@@ -70,7 +65,7 @@ impl MemSpawner {
     pub fn acts(&self) -> &[Act]
         ensures { IfSome self.now.acts (λ acts. acts ≡ map told_of result.now) }
     {
-        self.notes.acts()
+        self.notes.entries()
     }
 
     /// Whether the acts are observed: always, but after memory ran out for one.
@@ -92,7 +87,7 @@ impl Spawner for MemSpawner {
         ensures acts { Appended self.old.acts (noted sound.now ∷ []) self.new.acts }
         ensures rest { self.new ≡ record self.old { acts = self.new.acts } }
     {
-        let act = notes::noted(self.notes.allocator(), sound);
+        let act = acts::noted(self.notes.allocator(), sound);
         self.notes.add(act);
     }
 
@@ -107,15 +102,14 @@ impl Spawner for MemSpawner {
         ensures rest { self.new ≡ record self.old { acts = self.new.acts; calls = self.new.calls; faults = self.new.faults; started = started_after self.old.started result } }
     {
         let number = self.started;
-        let fails = next_fails(self.fails.as_slice(), &mut self.calls) || number == u32::MAX;
-        self.faults = faults_after(self.faults, fails);
-        if fails {
-            self.notes.add(Ok(notes::began(words, BeganGot::Failed)));
+        let is_refused = number == u32::MAX;
+        if self.calls.next_fails_or(self.fails.as_slice(), is_refused) {
+            self.notes.add(Ok(acts::began(words, BeganGot::Failed)));
             return Started::Failed;
         }
         self.started = number + 1;
         self.notes
-            .add(Ok(notes::began(words, BeganGot::Child(number))));
+            .add(Ok(acts::began(words, BeganGot::Child(number))));
         Started::Child(number)
     }
 
@@ -127,9 +121,8 @@ impl Spawner for MemSpawner {
         ensures calls { self.new.calls ≡ next_count self.old.calls }
         ensures rest { self.new ≡ record self.old { acts = self.new.acts; calls = self.new.calls; faults = self.new.faults } }
     {
-        let fails = next_fails(self.fails.as_slice(), &mut self.calls);
-        self.faults = faults_after(self.faults, fails);
-        let act = notes::given(self.notes.allocator(), child, bytes, !fails);
+        let fails = self.calls.next_fails(self.fails.as_slice());
+        let act = acts::given(self.notes.allocator(), child, bytes, !fails);
         self.notes.add(act);
         if fails { Put::Failed } else { Put::Done }
     }
@@ -143,41 +136,18 @@ impl Spawner for MemSpawner {
         ensures calls { self.new.calls ≡ next_count self.old.calls }
         ensures rest { self.new ≡ record self.old { acts = self.new.acts; calls = self.new.calls; faults = self.new.faults; ended = ended_after self.old.ended result } }
     {
-        let fails = next_fails(self.fails.as_slice(), &mut self.calls);
-        self.faults = faults_after(self.faults, fails);
-        if fails {
+        if self.calls.next_fails(self.fails.as_slice()) {
             self.notes.add(Ok(Act::Finished {
                 child,
                 status: None,
             }));
             return Finished::Failed;
         }
-        let status = stated_status(self.statuses.as_slice(), self.ended);
-        self.ended = self.ended.saturating_add(1);
+        let status = self.statuses.next_answer().unwrap_or(0);
         self.notes.add(Ok(Act::Finished {
             child,
             status: Some(status),
         }));
         Finished::Ended(status)
-    }
-}
-
-// Counts a call. The answer is whether it fails, since its number is listed.
-fn next_fails(fails: &[u64], calls: &mut u64) -> bool
-    ensures fails { IsTrue result ↔ Contains fails.now calls.old }
-    ensures number { calls.new ≡ next_count calls.old }
-{
-    let fails = fails.contains(calls);
-    *calls = calls.saturating_add(1);
-    fails
-}
-
-// The status of the child that ends as this one, counted from 0.
-fn stated_status(statuses: &[i32], number: u64) -> i32
-    ensures { result ≡ status_at statuses.now number }
-{
-    match statuses.get(number as usize) {
-        Some(status) => *status,
-        None => 0,
     }
 }

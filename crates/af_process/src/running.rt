@@ -1,15 +1,13 @@
 // Child programs that run, each under its number.
-ghost use Rattle.std.specs.Prelude.{◌≡◌, ◌≤◌, ◌<◌, ◌∷◌, ◌^◌, ◌-◌, ℕ, length, IfOk, IfSome};
-ghost use Rattle.std.specs.Process.{command_args, command_program};
+ghost use Rattle.std.specs.Prelude.{◌≡◌, ◌≤◌, ◌<◌, ◌^◌, ◌-◌, ℕ, length, IfSome};
 ghost use Rattle.arrayvec.specs.ArrayVec.{array_vec_len};
-ghost use Rattle.af_process.specs.Acts.{words_of};
 
-use crate::{Finished, Started, Words};
+use crate::{Finished, Started, Words, command_of};
 use af_io::{Put, Sink, StdSink};
-use std::alloc::{AllocError, Global};
+use std::alloc::Global;
 use std::io::{self, ErrorKind};
 use std::os::unix::process::ExitStatusExt;
-use std::process::{Child, Command, ExitStatus, OpenProcess, Processes, Stdio};
+use std::process::{Child, ExitStatus, OpenProcess, Processes, Stdio};
 
 /// A child that runs: its number, what hands it bytes, and its program.
 #[derive(Drop)]
@@ -29,22 +27,6 @@ fn place_of<P: OpenProcess + Drop>(children: &[RunningChild<P>], number: u32) ->
         }
     }
     None
-}
-
-/// The command line of these words. What the program writes goes nowhere, except its errors, which go where ours go.
-fn command_of(alloc: Global, words: &Words) -> Result<Command, AllocError>
-    requires { 1 ≤ array_vec_len words.now }
-    ensures { IfOk result (λ command. command_program command ∷ command_args command ≡ words_of words.now) }
-{
-    let mut command = Command::new(alloc, words[0].as_str())?;
-    for word in &words[1..] {
-        command.arg(word.as_str())?;
-    }
-    command
-        .stdin(Stdio::piped())
-        .stdout(Stdio::null())
-        .stderr(Stdio::inherit());
-    Ok(command)
 }
 
 /// Starts the program of these words as the child with this number. No more than 2^32 - 1 are started.
@@ -75,7 +57,8 @@ pub(crate) fn start<R: Processes>(
     }
 }
 
-/// Starts the program of these words, and keeps it with the others.
+/// Starts the program of these words, and keeps it with the others. What it writes goes nowhere, except its errors, which go
+/// where ours go.
 fn keep_started<R: Processes>(
     rt: &R,
     alloc: Global,
@@ -87,7 +70,12 @@ fn keep_started<R: Processes>(
 {
     // no child is started that could not be kept
     children.reserve(1)?;
-    let mut program = command_of(alloc, words)?.spawn(rt)?;
+    let mut command = command_of(alloc, words)?;
+    command
+        .stdin(Stdio::piped())
+        .stdout(Stdio::null())
+        .stderr(Stdio::inherit());
+    let mut program = command.spawn(rt)?;
     let Some(input) = program.stdin.take() else {
         return Err(ErrorKind::BrokenPipe.into());
     };
@@ -146,7 +134,7 @@ pub(crate) fn finish<P: OpenProcess + Drop>(
 }
 
 /// The status of a program as a shell tells it: of one that a signal ended, 128 and the signal.
-fn shell_status(status: ExitStatus) -> i32 {
+pub fn shell_status(status: ExitStatus) -> i32 {
     match status.code() {
         Some(code) => code,
         None => 128 + status.signal().unwrap_or(0),

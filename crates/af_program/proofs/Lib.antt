@@ -1,3 +1,2 @@
-pub mod ActLemmas
 pub mod LedgerLemmas
 pub mod StartLemmas

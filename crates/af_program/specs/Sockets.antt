@@ -24,15 +24,13 @@ pub record SocketProgramState : Type 0 where
 
 -- whether a program that has these ways is given bytes
 abbrev pub is_given : Ways → Bool
-is_given way.Given = true
 is_given way.Gives = false
-is_given way.Both = true
+is_given _ = true
 
 -- whether a program that has these ways gives bytes
 abbrev pub is_giving : Ways → Bool
 is_giving way.Given = false
-is_giving way.Gives = true
-is_giving way.Both = true
+is_giving _ = true
 
 -- only a program that runs and gives bytes gives some
 abbrev pub GivesWhere : Option Ways → Gave → Type 0

@@ -2,8 +2,8 @@
 ghost use Rattle.std.specs.Prelude.{◌≡◌, ◌↔◌, ◌≤◌, ◌<◌, ◌+◌, IsTrue};
 ghost use Rattle.std.specs.Vec.{vec_len, vec_capacity};
 
-use std::os::unix::process::ExitStatusExt;
-use std::process::{Child, ExitStatus, OpenProcess};
+use af_process::shell_status;
+use std::process::{Child, OpenProcess};
 
 /// How many nanoseconds a program has to end by itself.
 const END_NANOS: u64 = 200_000_000;
@@ -69,12 +69,4 @@ fn is_late(since: u64, at: u64) -> bool
     ensures { IsTrue result ↔ (since + 200_000_000 ≤ at) }
 {
     at.saturating_sub(since) >= END_NANOS
-}
-
-/// The status of a program as a shell tells it: of one that a signal ended, 128 and the signal.
-fn shell_status(status: ExitStatus) -> i32 {
-    match status.code() {
-        Some(code) => code,
-        None => 128 + status.signal().unwrap_or(0),
-    }
 }

@@ -3,10 +3,10 @@
 #![tactic(auto)]
 
 mod act;
+mod acts;
 mod ending;
 mod handing;
 mod mem_program;
-mod notes;
 mod pieces;
 mod program;
 mod programs;

@@ -8,8 +8,8 @@ ghost use Rattle.af_program.specs.Acts.{launched, ended, captured, emitted, gave
 ghost use Rattle.af_program.specs.Memory.{gave_count, gave_of, took_of};
 ghost use Rattle.af_program.specs.Notes.{told_of};
 
-use crate::notes::{self, Notes};
-use crate::{Act, Gave, Launched, Program, ProgramSockets, Took};
+use crate::{Act, Gave, Launched, Program, ProgramSockets, Took, acts};
+use af_io::{Notes, Stated};
 use af_process::Words;
 use af_time::OutOfMemory;
 use std::alloc::Global;
@@ -32,39 +32,38 @@ pub struct Plan<'a> {
 /// all. Starts, takes and gives are counted from 0, over all starts. Their counts stand still at 2^64 - 1.
 #[derive(Drop)]
 pub struct MemProgram {
-    notes: Notes,
+    notes: Notes<Act>,
     runs: bool,
     fails: Vec<u64>,
+    starts: u64,
     output: Vec<u8>,
     // how many bytes of the output were given
     gone: usize,
-    gives: Vec<Option<u32>>,
-    takes: Vec<Option<u32>>,
-    starts: u64,
-    take_calls: u64,
-    give_calls: u64,
+    gives: Stated<Option<u32>>,
+    takes: Stated<Option<u32>>,
 }
 
 impl Model for MemProgram {
     ghost use Rattle.std.specs.Prelude.{◌≡◌, ◌≤◌, length, drop, IfSome};
     ghost use Rattle.af_program.specs.Acts.{runs_in};
     ghost use Rattle.af_program.specs.Memory.{MemProgramState};
+    ghost use Rattle.af_program.specs.Notes.{told_acts};
 
     ghost Value = { MemProgramState };
 
     ghost view = { λ a. record {
-      acts = a.notes;
+      acts = told_acts a.notes;
       runs = a.runs;
       fails = a.fails.items;
       left = drop a.gone a.output.items;
-      gives = a.gives.items;
-      takes = a.takes.items;
+      gives = a.gives.answers.items;
+      takes = a.takes.answers.items;
       starts = a.starts;
-      take_calls = a.take_calls;
-      give_calls = a.give_calls;
+      take_calls = a.gives.number;
+      give_calls = a.takes.number;
     } };
 
-    ghost invariant = { λ a. (a.gone ≤ length a.output.items) × IfSome a.notes (λ acts. a.runs ≡ runs_in acts) };
+    ghost invariant = { λ a. (a.gone ≤ length a.output.items) × IfSome (told_acts a.notes) (λ acts. a.runs ≡ runs_in acts) };
 }
 
 impl MemProgram {
@@ -76,13 +75,11 @@ impl MemProgram {
             notes: Notes::new(alloc),
             runs: false,
             fails: Vec::from_slice(alloc, plan.fails)?,
+            starts: 0,
             output: Vec::from_slice(alloc, plan.output)?,
             gone: 0,
-            gives: Vec::from_slice(alloc, plan.gives)?,
-            takes: Vec::from_slice(alloc, plan.takes)?,
-            starts: 0,
-            take_calls: 0,
-            give_calls: 0,
+            gives: Stated::new(alloc, plan.gives)?,
+            takes: Stated::new(alloc, plan.takes)?,
         })
     }
 
@@ -90,7 +87,7 @@ impl MemProgram {
     pub fn acts(&self) -> &[Act]
         ensures { IfSome self.now.acts (λ acts. acts ≡ map told_of result.now) }
     {
-        self.notes.acts()
+        self.notes.entries()
     }
 
     /// Whether the acts are observed: always, but after memory ran out for one.
@@ -121,7 +118,7 @@ impl Program for MemProgram {
         ensures acts { Appended self.old.acts (captured sound.now ∷ []) self.new.acts }
         ensures rest { self.new ≡ record self.old { acts = self.new.acts } }
     {
-        let act = notes::captured(self.notes.allocator(), sound);
+        let act = acts::captured(self.notes.allocator(), sound);
         self.notes.add(act);
     }
 
@@ -129,7 +126,7 @@ impl Program for MemProgram {
         ensures acts { Appended self.old.acts (emitted sound.now ∷ []) self.new.acts }
         ensures rest { self.new ≡ record self.old { acts = self.new.acts } }
     {
-        let act = notes::emitted(self.notes.allocator(), sound);
+        let act = acts::emitted(self.notes.allocator(), sound);
         self.notes.add(act);
     }
 
@@ -145,12 +142,12 @@ impl Program for MemProgram {
         self.starts = self.starts.saturating_add(1);
         if fails {
             self.notes
-                .add(Ok(notes::launched(at, words, Launched::Failed)));
+                .add(Ok(acts::launched(at, words, Launched::Failed)));
             return Launched::Failed;
         }
         self.runs = true;
         self.notes
-            .add(Ok(notes::launched(at, words, Launched::Runs)));
+            .add(Ok(acts::launched(at, words, Launched::Runs)));
         Launched::Runs
     }
 
@@ -164,7 +161,7 @@ impl Program for MemProgram {
         ensures left { self.new.left ≡ drop (gave_count result) self.old.left }
         ensures rest { self.new ≡ record self.old { acts = self.new.acts; left = self.new.left; take_calls = next_count self.old.take_calls } }
     {
-        let most = match next_stated(self.gives.as_slice(), &mut self.take_calls) {
+        let most = match self.gives.next_answer() {
             None => return Gave::NotYet,
             Some(None) => return Gave::Ended,
             Some(Some(most)) => most as usize,
@@ -176,7 +173,7 @@ impl Program for MemProgram {
         }
         into[..count].copy_from_slice(&left[..count]);
         self.gone += count;
-        let act = notes::gave(self.notes.allocator(), &into[..count]);
+        let act = acts::gave(self.notes.allocator(), &into[..count]);
         self.notes.add(act);
         Gave::Bytes(count)
     }
@@ -189,7 +186,7 @@ impl Program for MemProgram {
         ensures took { result ≡ took_of (slice_get self.old.takes self.old.give_calls) (length bytes.now) }
         ensures rest { self.new ≡ record self.old { acts = self.new.acts; give_calls = next_count self.old.give_calls } }
     {
-        let count = match next_stated(self.takes.as_slice(), &mut self.give_calls) {
+        let count = match self.takes.next_answer() {
             None => bytes.len(),
             Some(None) => return Took::Ended,
             Some(Some(most)) => (most as usize).min(bytes.len()),
@@ -197,7 +194,7 @@ impl Program for MemProgram {
         if count == 0 {
             return Took::NoRoom;
         }
-        let act = notes::took(self.notes.allocator(), &bytes[..count]);
+        let act = acts::took(self.notes.allocator(), &bytes[..count]);
         self.notes.add(act);
         Took::Bytes(count)
     }
@@ -214,14 +211,4 @@ impl Program for MemProgram {
     fn tend(&mut self, _at: u64)
         ensures same { self.new ≡ self.old }
     {}
-}
-
-// Counts a call, and gives what the plan states for its number.
-fn next_stated(stated: &[Option<u32>], calls: &mut u64) -> Option<Option<u32>>
-    ensures stated { result ≡ slice_get stated.now calls.old }
-    ensures number { calls.new ≡ next_count calls.old }
-{
-    let next = stated.get(*calls as usize).copied();
-    *calls = calls.saturating_add(1);
-    next
 }

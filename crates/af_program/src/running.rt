@@ -1,21 +1,19 @@
 // A program that runs.
-ghost use Rattle.std.specs.Prelude.{◌≡◌, ◌≤◌, ◌<◌, ◌∷◌, false, is_some, length, IfOk};
-ghost use Rattle.std.specs.Process.{command_args, command_program};
+ghost use Rattle.std.specs.Prelude.{◌≡◌, ◌≤◌, ◌<◌, false, is_some, length, IfOk};
 ghost use Rattle.arrayvec.specs.ArrayVec.{array_vec_len};
-ghost use Rattle.af_process.specs.Acts.{words_of};
 ghost use Rattle.af_program.specs.Acts.{GaveFits, TookFits};
 ghost use Rattle.af_program.specs.Sockets.{is_given, is_giving, GivesWhere, TakesWhere};
 
 use crate::pieces::{give_to, take_from};
 use crate::sockets::{way_in, way_out};
 use crate::{Gave, Took, Ways};
-use af_process::Words;
-use std::alloc::{AllocError, Global};
+use af_process::{Words, command_of};
+use std::alloc::Global;
 use std::io;
 use std::marker::Model;
 use std::net::Net;
 use std::os::unix::net::UnixStream;
-use std::process::{Child, Command, OpenProcess, Processes, Stdio};
+use std::process::{Child, OpenProcess, Processes, Stdio};
 
 /// A program that runs, with our ends of the sockets to its input and from its output. Contracts see which ways it has.
 #[derive(Drop)]
@@ -82,18 +80,6 @@ impl<P: OpenProcess + Drop> Running<P> {
     pub(crate) fn closed(self) -> Child<P> {
         self.child
     }
-}
-
-/// The command line of these words.
-fn command_of(alloc: Global, words: &Words) -> Result<Command, AllocError>
-    requires { 1 ≤ array_vec_len words.now }
-    ensures { IfOk result (λ command. command_program command ∷ command_args command ≡ words_of words.now) }
-{
-    let mut command = Command::new(alloc, words[0].as_str())?;
-    for word in &words[1..] {
-        command.arg(word.as_str())?;
-    }
-    Ok(command)
 }
 
 /// Starts the program of these words, with a buffer of about so many bytes before its input. Its standard error is ours.

@@ -1,0 +1,6 @@
+use Rattle.af_io.proofs.NotesLemmas.{noted_folds}
+use Rattle.af_process.specs.Acts.{told_of, children_after}
+use Rattle.af_process.proofs.mem_spawner.MemSpawnerSpawner.give.Goals as goal
+
+pub invariant_of-self : goal.invariant_of-self
+invariant_of-self c = noted_folds told_of children_after 0 c.self.inside.notes c.add.new.self c.given-act.result _ c.self.inside.started c.given-act.ensures c.add.ensures c.self.invariant

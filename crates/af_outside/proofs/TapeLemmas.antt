@@ -16,12 +16,13 @@ use Rattle.af_world.specs.declared.script.DeviceSpec.{DeviceSpec}
 use Rattle.af_world.specs.declared.script.Step.{Step}
 use Rattle.af_outside.specs.declared.scripted_device.KeptScriptedDevice.{KeptScriptedDevice}
 use Rattle.af_outside.specs.declared.lifecycle_faults.LifecycleFaults.{LifecycleFaults}
+use Rattle.af_io.specs.Notes.{Noted}
 use Rattle.af_io.specs.Observed.{faults_after}
 use Rattle.af_world.specs.Log.{Log}
 use Rattle.af_outside.specs.LifecycleState.{LifecycleState, lifecycle_start}
 use Rattle.af_world.specs.Outside.{Outside, outside_after_happening, scripted_of, outside_after_step, then_outside, wake_of}
 use Rattle.af_outside.specs.TapeState.{TapeState, TapeLeadsTo, TakesStep, Answered, new_tape}
-use Rattle.af_outside.specs.Tape.{KeptClient, HasRoomForSteps, Noted, kept_scripted_of, outside_of, clients_of, bytes_sent_by, devices_of}
+use Rattle.af_outside.specs.Tape.{KeptClient, HasRoomForSteps, kept_scripted_of, outside_of, clients_of, bytes_sent_by, devices_of}
 use Rattle.af_outside.proofs.ScriptedDeviceLemmas.{devices_of-start}
 
 -- a happening whose answer leads from one outside to another, if it is noted

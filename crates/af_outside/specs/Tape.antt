@@ -3,11 +3,7 @@
 use Rattle.std.specs.Prelude.{◌≡◌, ℕ, ◌≤◌, Bool, true, false, List, [], ◌∷◌, length, map, sum_by, if◌then◌else◌, ◌==◌, slice_get}
 use Rattle.std.specs.declared.option.Option.{Option}
 use Rattle.std.specs.declared.option.Option.TheVariants.{None, Some}
-use Rattle.std.specs.declared.result.Result.{Result}
-use Rattle.std.specs.declared.result.Result.TheVariants.{Ok, Err}
-use Rattle.af_time.specs.declared.OutOfMemory.{OutOfMemory}
 use Rattle.af_sample.specs.declared.sample_type.SampleType.{SampleType}
-use Rattle.af_world.specs.declared.happening.Happening.{Happening}
 use Rattle.af_world.specs.declared.world.LinkGot.{LinkGot}
 use Rattle.af_world.specs.declared.world.LinkGot.TheVariants as got
 use Rattle.af_world.specs.declared.world.LinkTook.{LinkTook}
@@ -17,8 +13,6 @@ use Rattle.af_world.specs.declared.script.Step.TheVariants as step
 use Rattle.af_outside.specs.declared.scripted_device.DeviceCall.{DeviceCall}
 use Rattle.af_outside.specs.declared.scripted_device.DeviceCall.TheVariants as call
 use Rattle.af_outside.specs.declared.scripted_device.KeptScriptedDevice.{KeptScriptedDevice}
-use Rattle.af_io.specs.Observed.{Appended}
-use Rattle.af_world.specs.Log.{Log}
 use Rattle.af_world.specs.Outside.{ScriptedClient, ScriptedDevice, Outside}
 
 -- a scripted link: its client, if the link is open, and for how many more bytes there is memory
@@ -127,13 +121,3 @@ sent_in step.Idle = []
 -- each scripted link has room for all that the steps send on its link
 pub record HasRoomForSteps (links : List KeptClient) (steps : List Step) : Type 0 where
   pub each : (k : ℕ) (scripted_link : KeptClient) → slice_get links k ≡ Some scripted_link → sum_by (bytes_sent_by k) steps ≤ scripted_link.room
-
--- the log, if it is observable
-abbrev pub log_where : Bool → Log → Option Log
-log_where true log = Some log
-log_where false log = None
-
--- a happening is added to the log; if memory ran out for it, the log is no longer observable
-abbrev pub Noted : Option Log → Result Happening OutOfMemory → Option Log → Type 0
-Noted before (Ok happening) after = Appended before (happening ∷ []) after
-Noted before (Err e) after = after ≡ None

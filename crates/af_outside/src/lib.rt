@@ -5,7 +5,6 @@ mod happenings;
 mod lifecycle_faults;
 mod lifecycle_log;
 mod links;
-mod logbook;
 mod scripted_device;
 mod scripted_link;
 mod tape;

@@ -7,9 +7,10 @@ ghost use Rattle.af_world.specs.Kinds.{told_kind};
 ghost use Rattle.af_io.specs.Observed.{next_count, faults_after};
 ghost use Rattle.af_outside.specs.LifecycleState.{EntryNoted, is_stated, lifecycle_start};
 
-use crate::logbook::Logbook;
-use crate::{Bytes, DeviceSpec, Kind, Lifecycle, LifecycleFaults, LineProgram, ToldKind, Wake};
-use af_io::faults_after;
+use crate::{
+    Bytes, DeviceSpec, Happening, Kind, Lifecycle, LifecycleFaults, LineProgram, ToldKind, Wake,
+};
+use af_io::{Notes, faults_after};
 use af_process::CommandLine;
 use af_time::OutOfMemory;
 use std::alloc::Global;
@@ -96,8 +97,8 @@ impl LifecycleLog {
     }
 
     /// Adds a call that was done, for which memory may have run out; then nothing is observed any longer.
-    pub(crate) fn note(&mut self, entry: Result<Lifecycle, OutOfMemory>, logbook: &mut Logbook)
-        ensures noted { EntryNoted logbook.old self.old.entries entry logbook.new self.new.entries }
+    pub(crate) fn note(&mut self, entry: Result<Lifecycle, OutOfMemory>, log: &mut Notes<Happening>)
+        ensures noted { EntryNoted log.old self.old.entries entry log.new self.new.entries }
         ensures rest { self.new ≡ record self.old { entries = self.new.entries } }
     {
         let kept = match entry {
@@ -105,7 +106,7 @@ impl LifecycleLog {
             Err(_) => false,
         };
         if !kept {
-            logbook.fall_silent();
+            log.fall_silent();
         }
     }
 }

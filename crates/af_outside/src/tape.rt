@@ -16,14 +16,13 @@ ghost use Rattle.af_outside.specs.Tape.{HasRoomForSteps, outside_of, devices_of,
 
 use crate::happenings::{capture_of, emit_of, hook_of, read_of, write_of};
 use crate::lifecycle_log::{LifecycleLog, attach_of, line_attach_of, listen_of, wait_of};
-use crate::logbook::Logbook;
 use crate::scripted_device::{self, DeviceCall, KeptScriptedDevice, new_devices};
 use crate::scripted_link::ScriptedLink;
 use crate::{
     Bytes, Config, DeviceSpec, Happening, Kind, Lifecycle, LifecycleFaults, LineProgram, LinkGot,
     LinkTook, Live, Put, Ready, Step, Waited, Wake, Why, World, links,
 };
-use af_io::faults_after;
+use af_io::{Notes, faults_after};
 use af_time::OutOfMemory;
 use af_world::has_line;
 use std::alloc::Global;
@@ -38,7 +37,7 @@ pub struct Tape {
     config: Config,
     steps: Vec<Step>,
     taken: usize,
-    logbook: Logbook,
+    log: Notes<Happening>,
     links: Vec<ScriptedLink>,
     devices: Vec<KeptScriptedDevice>,
     link_faults: u64,
@@ -60,7 +59,7 @@ impl Model for Tape {
     ghost view = { λ a. record {
       config = a.config.items;
       left = drop a.taken a.steps.items;
-      log = a.logbook;
+      log = a.log;
       outside = outside_of a.links.items (devices_of a.steps.items a.devices.items);
       link_faults = a.link_faults;
       device_faults = a.device_faults;
@@ -88,7 +87,7 @@ impl Tape {
             config: config.clone()?,
             steps: copied_steps(alloc, steps)?,
             taken: 0,
-            logbook: Logbook::new(alloc),
+            log: Notes::new(alloc),
             links,
             devices,
             link_faults: 0,
@@ -111,7 +110,7 @@ impl Tape {
     pub fn log(&self) -> &[Happening]
         ensures { IfSome self.now.log (λ log. log ≡ result.now) }
     {
-        self.logbook.happenings()
+        self.log.entries()
     }
 
     /// All listens, attaches and waits that were done so far, in order, if the log is observed.
@@ -126,7 +125,7 @@ impl Tape {
     pub fn tells(&self) -> bool
         ensures { result ≡ is_some self.now.log }
     {
-        self.logbook.tells()
+        self.log.tells()
     }
 }
 
@@ -232,7 +231,7 @@ impl World for Tape {
         ensures leads { TapeLeadsTo self.old self.new }
         ensures rest { self.new ≡ record self.old { log = self.new.log } }
     {
-        self.logbook.note(Ok(Happening::Woke(wake)));
+        self.log.add(Ok(Happening::Woke(wake)));
     }
 
     fn read(&mut self, link: u8, into: &mut [u8]) -> LinkGot
@@ -251,7 +250,7 @@ impl World for Tape {
     {
         let got = links::read(&mut self.links, link, into);
         self.link_faults = faults_after(self.link_faults, got == LinkGot::Failed);
-        self.logbook.note(read_of(self.alloc, link, got, into));
+        self.log.add(read_of(self.alloc, link, got, into));
         got
     }
 
@@ -272,7 +271,7 @@ impl World for Tape {
     {
         let took = links::write(&mut self.links, link, piece);
         self.link_faults = faults_after(self.link_faults, took == LinkTook::Failed);
-        self.logbook.note(write_of(self.alloc, link, took, piece));
+        self.log.add(write_of(self.alloc, link, took, piece));
         took
     }
 
@@ -286,7 +285,7 @@ impl World for Tape {
         } }
     {
         links::close(&mut self.links, link, why);
-        self.logbook.note(Ok(Happening::Closed { link, why }));
+        self.log.add(Ok(Happening::Closed { link, why }));
     }
 
     fn capture(&mut self, device: u8, frames: u32, into: &mut [u8]) -> Put
@@ -304,8 +303,8 @@ impl World for Tape {
     {
         let put = scripted_device::capture(&mut self.devices, &self.steps, device, into);
         self.device_faults = faults_after(self.device_faults, put == Put::Failed);
-        self.logbook
-            .note(capture_of(self.alloc, device, frames, put, into));
+        self.log
+            .add(capture_of(self.alloc, device, frames, put, into));
         put
     }
 
@@ -324,7 +323,7 @@ impl World for Tape {
     {
         let put = scripted_device::emit(&mut self.devices, device);
         self.device_faults = faults_after(self.device_faults, put == Put::Failed);
-        self.logbook.note(emit_of(self.alloc, device, sound, put));
+        self.log.add(emit_of(self.alloc, device, sound, put));
         put
     }
 
@@ -342,7 +341,7 @@ impl World for Tape {
     {
         let put = scripted_device::hook(&mut self.devices, device);
         self.device_faults = faults_after(self.device_faults, put == Put::Failed);
-        self.logbook.note(Ok(hook_of(device, off, put)));
+        self.log.add(Ok(hook_of(device, off, put)));
         put
     }
 }
@@ -399,7 +398,7 @@ impl Live for Tape {
             return Ready::Failed;
         }
         self.lifecycle
-            .note(listen_of(alloc, address), &mut self.logbook);
+            .note(listen_of(alloc, address), &mut self.log);
         Ready::Done
     }
 
@@ -422,7 +421,7 @@ impl Live for Tape {
             return Ready::Failed;
         }
         self.lifecycle
-            .note(attach_of(alloc, device, spec, kind), &mut self.logbook);
+            .note(attach_of(alloc, device, spec, kind), &mut self.log);
         Ready::Done
     }
 
@@ -446,7 +445,7 @@ impl Live for Tape {
             return Ready::Failed;
         }
         self.lifecycle
-            .note(Ok(line_attach_of(device, program)), &mut self.logbook);
+            .note(Ok(line_attach_of(device, program)), &mut self.log);
         Ready::Done
     }
 
@@ -474,8 +473,7 @@ impl Live for Tape {
             Some(wake) => wake,
             None => Wake::Stop,
         };
-        self.lifecycle
-            .note(Ok(wait_of(more, wake)), &mut self.logbook);
+        self.lifecycle.note(Ok(wait_of(more, wake)), &mut self.log);
         Waited::Woke(wake)
     }
 }

@@ -1,6 +1,6 @@
 use Rattle.std.proofs.Common.{length, ap, ◌∙◌, arith}
 use Rattle.std.proofs.lemmas.List.{length-drop}
-use Rattle.af_deadline.proofs.PieceLemmas.{Appends-part, rest_whole}
+use Rattle.af_io.proofs.KnownBytesLemmas.{Appends-part, rest_whole}
 use Rattle.af_deadline.proofs.handed.hand.Goals as goal
 
 pub loop-taken-preserved : goal.loop-taken-preserved

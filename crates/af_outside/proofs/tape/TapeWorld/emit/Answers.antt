@@ -10,13 +10,13 @@ use Rattle.af_outside.specs.Tape.{outside_of, devices_of}
 use Rattle.af_outside.proofs.TapeLemmas.{TapeLeadsTo-noted, faults_after-rises}
 use Rattle.af_outside.proofs.tape.TapeWorld.emit.Goals as goal
 
-abbrev old_outside : goal.After-note → Outside
+abbrev old_outside : goal.After-add → Outside
 old_outside c = outside_of c.self.inside.links.items (devices_of c.self.inside.steps.items c.self.inside.devices.items)
 
-abbrev new_outside : goal.After-note → Outside
+abbrev new_outside : goal.After-add → Outside
 new_outside c = outside_of c.self.inside.links.items (devices_of c.self.inside.steps.items (with_items c.self.inside.devices c.emit-put.new.devices).items)
 
-answered_here : (c : goal.After-note) → outside_after_happening (old_outside c) (Emitted c.args.device c.args.sound.now (is_done c.emit-put.result)) ≡ Some (new_outside c)
+answered_here : (c : goal.After-add) → outside_after_happening (old_outside c) (Emitted c.args.device c.args.sound.now (is_done c.emit-put.result)) ≡ Some (new_outside c)
 answered_here c =
     let tape = c.self.inside in
     let kept : (with_items tape.devices c.emit-put.new.devices).items ≡ c.emit-put.new.devices = with_items_is tape.devices c.emit-put.new.devices (search rules) in
@@ -27,7 +27,7 @@ pub returns-clause-leads : goal.returns-clause-leads
 returns-clause-leads c =
     let tape = c.self.inside in
     rw (← c.self.view_is)
-    (TapeLeadsTo-noted _ c.emit_of.result _ (Emitted c.args.device c.args.sound.now (is_done c.emit-put.result)) _ _ _ c.note.ensures c.emit_of.ensures (answered_here c)
+    (TapeLeadsTo-noted _ c.emit_of.result _ (Emitted c.args.device c.args.sound.now (is_done c.emit-put.result)) _ _ _ c.add.ensures c.emit_of.ensures (answered_here c)
     (le_refl tape.link_faults) (rw c.faults_after-self-inside.ensures (faults_after-rises tape.device_faults _ (search rules))))
 
 pub returns-clause-answered : goal.returns-clause-answered

@@ -10,13 +10,13 @@ use Rattle.af_outside.specs.Tape.{outside_of, devices_of}
 use Rattle.af_outside.proofs.TapeLemmas.{TapeLeadsTo-noted, faults_after-rises}
 use Rattle.af_outside.proofs.tape.TapeWorld.write.Goals as goal
 
-abbrev old_outside : goal.After-note → Outside
+abbrev old_outside : goal.After-add → Outside
 old_outside c = outside_of c.self.inside.links.items (devices_of c.self.inside.steps.items c.self.inside.devices.items)
 
-abbrev new_outside : goal.After-note → Outside
+abbrev new_outside : goal.After-add → Outside
 new_outside c = outside_of (with_items c.self.inside.links c.write-took.new.links).items (devices_of c.self.inside.steps.items c.self.inside.devices.items)
 
-answered_here : (c : goal.After-note) → outside_after_happening (old_outside c) (Wrote c.args.link (length c.args.piece.now) (took_of c.write-took.result c.args.piece.now)) ≡ Some (new_outside c)
+answered_here : (c : goal.After-add) → outside_after_happening (old_outside c) (Wrote c.args.link (length c.args.piece.now) (took_of c.write-took.result c.args.piece.now)) ≡ Some (new_outside c)
 answered_here c =
     let tape = c.self.inside in
     let kept : (with_items tape.links c.write-took.new.links).items ≡ c.write-took.new.links = with_items_is tape.links c.write-took.new.links (search rules) in
@@ -27,7 +27,7 @@ pub returns-clause-leads : goal.returns-clause-leads
 returns-clause-leads c =
     let tape = c.self.inside in
     rw (← c.self.view_is)
-    (TapeLeadsTo-noted _ c.write_of.result _ (Wrote c.args.link (length c.args.piece.now) (took_of c.write-took.result c.args.piece.now)) _ _ _ c.note.ensures c.write_of.ensures (answered_here c)
+    (TapeLeadsTo-noted _ c.write_of.result _ (Wrote c.args.link (length c.args.piece.now) (took_of c.write-took.result c.args.piece.now)) _ _ _ c.add.ensures c.write_of.ensures (answered_here c)
     (rw c.faults_after-self-inside.ensures (faults_after-rises tape.link_faults _ (search rules))) (le_refl tape.device_faults))
 
 pub returns-clause-answered : goal.returns-clause-answered

@@ -2,7 +2,7 @@
 use Rattle.std.proofs.Common.{◌≡◌, ◌≢◌, ℕ, Bool, true, false, not, List, [], ◌∷◌, ◌++◌, take, drop, refl, sym, ap, ◌∙◌, subst, arith, is_some}
 use Rattle.std.specs.declared.option.Option.{Option}
 use Rattle.std.specs.declared.option.Option.TheVariants.{None, Some}
-use Rattle.af_io.specs.Observed.{Appended}
+use Rattle.af_io.specs.Observed.{Appended, Unchanged}
 use Rattle.af_io.proofs.AppendedLemmas.{appended_none}
 use Rattle.af_phone.specs.declared.line.LineChange.{LineChange}
 use Rattle.af_program.specs.declared.program.Gave.{Gave}
@@ -19,12 +19,19 @@ use Rattle.af_program.proofs.LedgerLemmas.{no-act}
 use Rattle.af_exchange.specs.declared.running.Running.{Running}
 use Rattle.af_exchange.specs.Lines.{text_of, hook_text}
 use Rattle.af_exchange.specs.Fronts.{SaysMore}
-use Rattle.af_exchange.specs.Ledger.{Notes}
+use Rattle.af_exchange.specs.Ledger.{Run, Notes}
 use Rattle.af_exchange.specs.Told.{RunTold}
 use Rattle.af_exchange.specs.Dialogue.{DialogueState, Accounts, running_since, after_take, after_give, PassesOver, CanEnd}
 use Rattle.af_exchange.proofs.NoteLemmas.{notes, notes-same}
 use Rattle.af_exchange.proofs.RunLemmas.{told-closed, told-owed, told-missed}
 use Rattle.af_exchange.proofs.AccountLemmas.{Accounts-on, Account-gave, Account-took, Account-knows, Account-passed, Account-changed, Account-called, Account-begun, Account-failed, Account-ended}
+
+-- no byte goes, though more of the run may be known
+Accounts-known : (d : DialogueState) (r r' : Running) (acts acts' : Option (List ToldAct)) → d.running ≡ Some r → r'.began ≡ r.began →
+    ((run : Run) → RunTold run d.left d.owed (not r.is_closed) → RunTold run d.left d.owed (not r'.is_closed)) → Unchanged acts acts' → Accounts d acts →
+    Accounts (record d { running = Some r' }) acts'
+Accounts-known d r r' acts acts' is began on same fits =
+    Accounts-on d (record d { running = Some r' }) acts acts' [] fits (no-act acts acts' same) (Account-knows d r r' is began on) (ap is_some is)
 
 pub Accounts-taken : (d : DialogueState) (r : Running) (result : Gave) (left : List ℕ) (acts acts' : Option (List ToldAct)) → d.running ≡ Some r →
     TakesInto result d.left left acts acts' → Accounts d acts → Accounts (record d { running = Some (after_take result r); left = left }) acts'
@@ -34,11 +41,10 @@ Accounts-taken d r (gives.Bytes n) left acts acts' is into fits =
     (Account-gave d r r into.0 is refl refl) (ap is_some is))
 Accounts-taken d r gives.NotYet left acts acts' is into fits =
     subst (λ x. Accounts (record d { running = Some r; left = x }) acts') (sym into.0)
-    (Accounts-on d (record d { running = Some r }) acts acts' [] fits (no-act acts acts' into.1) (Account-knows d r r is refl (λ run told. told)) (ap is_some is))
+    (Accounts-known d r r acts acts' is refl (λ run told. told) into.1 fits)
 Accounts-taken d r gives.Ended left acts acts' is into fits =
     subst (λ x. Accounts (record d { running = Some (record r { is_ended = true }); left = x }) acts') (sym into.0)
-    (Accounts-on d (record d { running = Some (record r { is_ended = true }) }) acts acts' [] fits (no-act acts acts' into.1)
-    (Account-knows d r (record r { is_ended = true }) is refl (λ run told. told)) (ap is_some is))
+    (Accounts-known d r (record r { is_ended = true }) acts acts' is refl (λ run told. told) into.1 fits)
 
 pub notes-taken : (result : Gave) (before after : List ℕ) (acts acts' : Option (List ToldAct)) → TakesInto result before after acts acts' → Notes [] [] [] acts acts'
 notes-taken (gives.Bytes n) before after acts acts' into = notes acts acts' (gave into.0 ∷ []) into.2
@@ -53,11 +59,10 @@ Accounts-given d r (takes.Bytes n) owed acts acts' is given fits =
     (Account-took d r r n is refl refl) (ap is_some is))
 Accounts-given d r takes.NoRoom owed acts acts' is given fits =
     subst (λ x. Accounts (record d { running = Some r; owed = x }) acts') (sym given.0)
-    (Accounts-on d (record d { running = Some r }) acts acts' [] fits (no-act acts acts' given.1) (Account-knows d r r is refl (λ run told. told)) (ap is_some is))
+    (Accounts-known d r r acts acts' is refl (λ run told. told) given.1 fits)
 Accounts-given d r takes.Ended owed acts acts' is given fits =
     subst (λ x. Accounts (record d { running = Some (record r { is_closed = true }); owed = x }) acts') (sym given.0)
-    (Accounts-on d (record d { running = Some (record r { is_closed = true }) }) acts acts' [] fits (no-act acts acts' given.1)
-    (Account-knows d r (record r { is_closed = true }) is refl (λ run told. told-closed run d.left d.owed (not r.is_closed) told)) (ap is_some is))
+    (Accounts-known d r (record r { is_closed = true }) acts acts' is refl (λ run told. told-closed run d.left d.owed (not r.is_closed) told) given.1 fits)
 
 pub notes-given : (result : Took) (before after : List ℕ) (acts acts' : Option (List ToldAct)) → GivesFrom result before after acts acts' → Notes [] [] [] acts acts'
 notes-given (takes.Bytes n) before after acts acts' given = notes acts acts' (took (take n before) ∷ []) given.3

@@ -1,17 +1,16 @@
 -- Taking messages off the bytes of a link.
-use Rattle.std.proofs.Common.{◌≡◌, ℕ, suc, ◌-◌, ◌<◌, ◌≤◌, List, [], ◌++◌, length, take, drop, sym, ap, ap₂, ◌∙◌, arith, refl, Result, Ok, Err, Option, None, Some}
-use Rattle.std.proofs.lemmas.List.{take_at, drop_at, take-take, length-take-le}
+use Rattle.std.proofs.Common.{◌≡◌, ℕ, suc, ◌-◌, ◌<◌, ◌≤◌, List, length, take, sym, ap, ap₂, ◌∙◌, arith, refl, Result, Ok, Err, Option, None, Some}
+use Rattle.std.proofs.lemmas.List.{take-take, length-take-le}
 use Rattle.af_wire.specs.declared.order.Order.{Order}
-use Rattle.af_wire.specs.declared.message_front.MessageFront.{MessageFront}
-use Rattle.af_wire.specs.declared.message_front.MessageFront.TheVariants.{BadMessage, Message, NeedMore}
-use Rattle.af_wire.specs.MessageFront.{message_front}
 use Rattle.af_lib.specs.declared.fault.ConnFault.{ConnFault}
 use Rattle.af_lib.specs.declared.fault.ConnFault.TheVariants as fault
 use Rattle.af_lib.specs.declared.receive.Taken.{Taken}
 use Rattle.af_lib.specs.declared.receive.Taken.TheVariants as taken
 use Rattle.af_lib.specs.Ring.{RingState}
-use Rattle.af_lib.specs.Incoming.{Incoming, other, awaited_message, awaited_by, bad_reply, incoming, incoming_at, message_in, rest_at, after_message}
-use Rattle.af_lib.specs.Receive.{IsWhole, IsCut, IsTakenWithin, taken_as}
+use Rattle.af_lib.specs.Answers.{and_then}
+use Rattle.af_lib.specs.Incoming.{Awaited, Incoming, other, awaited_message, awaited_by, first_message, incoming, message_in, after_message}
+use Rattle.af_lib.specs.Calls.{TakesFirst}
+use Rattle.af_lib.specs.Receive.{IsTakenWithin, taken_as}
 use Rattle.af_lib.specs.Observed.{BothTold}
 use Rattle.af_lib.proofs.LinkByteLemmas.{BothTold-map}
 
@@ -33,42 +32,18 @@ BothTold-trans None (Some y) (Some z) P Q R first second f = absurd first
 BothTold-trans (Some x) (Some y) (Some z) P Q R first second f = f x y z first second
 
 module _ (order : Order) where
-  -- the first message of an input, and what is after it, by its front
-  incoming_by : (front : MessageFront) (b : List ℕ) → message_front order b ≡ front → (incoming order b ≡ incoming_at order front b) × (after_message order b ≡ rest_at front b)
-  unfolding incoming after_message
-  incoming_by front b is = (ap (λ f. incoming_at order f b) is, ap (λ f. rest_at f b) is)
-
-  -- the first bytes of an input, which stand in a buffer, and those after them
-  parted : (n : ℕ) (into b a : List ℕ) → n ≤ length into → b ≡ take n into ++ a → (take n b ≡ take n into) × (drop n b ≡ a)
-  parted n into b a fits is =
-      let len = length-take-le n into fits in
-      (ap (take n) is ∙ take_at (take n into) a n len, ap (drop n) is ∙ drop_at (take n into) a n len)
-
   -- a whole message is taken as what it is
   pub taken_whole : (before after : Option (List ℕ)) (result : Result Taken ConnFault) (into : List ℕ) (n : ℕ) → n ≤ length into →
-      BothTold before after (λ b a. IsWhole order b n × (b ≡ take n into ++ a)) → taken_as result (take n into) ≡ message_in order (take n into) → IsTakenWithin result (length (take n into)) →
-      BothTold before after (λ b a. (taken_as result into ≡ incoming order b) × (a ≡ after_message order b))
-  taken_whole before after result into n fits told is within = BothTold-map before after _ _ told (λ b a t.
-      let w = t.0 in
-      let by = incoming_by (Message w.kind w.detail w.sequence n) b w.front in
-      let parts = parted n into b a fits t.1 in
-      (sym (taken_in result into n fits within) ∙ is ∙ ap (message_in order) (sym parts.0) ∙ sym by.0, sym parts.1 ∙ sym by.1))
+      TakesFirst (Ok (take n into)) (first_message order) order before after → taken_as result (take n into) ≡ message_in order (take n into) → IsTakenWithin result (length (take n into)) →
+      TakesFirst (taken_as result into) (incoming order) order before after
+  unfolding incoming
+  taken_whole before after result into n fits takes is within _ = BothTold-map before after _ _ (takes (λ e. cc))
+      (λ b a t. (sym (taken_in result into n fits within) ∙ is ∙ ap (and_then (message_in order)) t.0, t.1))
 
-  -- a bad header is taken alone
-  pub taken_bad : (before after : Option (List ℕ)) (fault : ConnFault) (into : List ℕ) → 8 ≤ length into →
-      BothTold before after (λ b a. (message_front order b ≡ BadMessage) × (b ≡ take 8 into ++ a)) → fault ≡ bad_reply (take 8 into) →
-      BothTold before after (λ b a. (Err fault ≡ incoming order b) × (a ≡ after_message order b))
-  taken_bad before after fault into fits told is = BothTold-map before after _ _ told (λ b a t.
-      let by = incoming_by BadMessage b t.0 in
-      let parts = parted 8 into b a fits t.1 in
-      (ap (λ (f : ConnFault). Err f) (is ∙ ap bad_reply (sym parts.0)) ∙ sym by.0, sym parts.1 ∙ sym by.1))
-
-  -- all of a message that is cut off is taken
-  pub taken_cut : (before after : Option (List ℕ)) → BothTold before after (λ b a. IsCut order b × (a ≡ [])) →
-      BothTold before after (λ b a. (Err fault.LinkEnded ≡ incoming order b) × (a ≡ after_message order b))
-  taken_cut before after told = BothTold-map before after _ _ told (λ b a t.
-      let by = incoming_by (NeedMore (t.0).length) b (t.0).front in
-      (sym by.0, t.1 ∙ sym by.1))
+  -- there is none
+  pub taken_none : (before after : Option (List ℕ)) (f : ConnFault) → TakesFirst (Err f) (first_message order) order before after → TakesFirst (Err f) (incoming order) order before after
+  unfolding incoming
+  taken_none before after f takes sound = BothTold-map before after _ _ (takes (λ e. sound (cc))) (λ b a t. (ap (and_then (message_in order)) t.0, t.1))
 
   -- one more message is looked at
   awaited_by_one : (n : ℕ) (ring : RingState) (now next : List ℕ) (i : Result Incoming ConnFault) → 0 < n → i ≡ incoming order now → next ≡ after_message order now →
@@ -90,3 +65,9 @@ module _ (order : Order) where
       BothTold before now (λ b m. awaited_message order most ring0 b ≡ record { found = Err fault.EventFlood; ring = ring; rest = m })
   unfolding awaited_message
   await_flood before now most n ring0 ring told none = BothTold-map before now _ _ told (λ b m p. p ∙ ap (λ (k : ℕ). awaited_message order k ring m) none)
+
+  -- a message was found, or none
+  pub await_end : (before after : Option (List ℕ)) (most : ℕ) (ring0 ring : RingState) (found : Result (List ℕ) ConnFault) → BothTold before after (λ b a. awaited_message order most ring0 b ≡ record { found = found; ring = ring; rest = a }) →
+      BothTold before after (λ b a. (found ≡ (awaited_message order most ring0 b).found) × (ring ≡ (awaited_message order most ring0 b).ring) × (a ≡ (awaited_message order most ring0 b).rest))
+  await_end before after most ring0 ring found told = BothTold-map before after _ _ told
+      (λ b a e. (sym (ap (λ (w : Awaited). w.found) e), sym (ap (λ (w : Awaited). w.ring) e), sym (ap (λ (w : Awaited). w.rest) e)))

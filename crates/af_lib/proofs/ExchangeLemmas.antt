@@ -7,9 +7,10 @@ use Rattle.af_request.specs.Answer.{Answer, setup, plain, time, played, recorded
 use Rattle.af_request.specs.Replies.{answer_in, IsReplyTo}
 use Rattle.af_request.proofs.SetupReplyLemmas.{setup_stated}
 use Rattle.af_lib.specs.declared.fault.ConnFault.{ConnFault}
+use Rattle.af_lib.specs.declared.fault.ConnFault.TheVariants as fault
 use Rattle.af_lib.specs.Ring.{RingState}
 use Rattle.af_lib.specs.Answers.{and_then, answer_to, value_or_bad}
-use Rattle.af_lib.specs.Calls.{answer_of, as_devices, device_list, value_in, Answers, Sends}
+use Rattle.af_lib.specs.Calls.{answer_of, as_devices, device_list, value_in, Exchanged, IsFresh, Sends}
 use Rattle.af_request.specs.declared.reply.DeviceInfo.{DeviceInfo}
 use Rattle.af_request.specs.Opcodes as opcodes
 use Rattle.arrayvec.specs.ArrayVec.{ArrayVec}
@@ -26,6 +27,15 @@ pub seen_or_bad : {X Y : Type 0} (view : X → Y) (bytes : List ℕ) (value : Op
 seen_or_bad view bytes (Some x) = refl
 seen_or_bad view bytes None = refl
 
+-- a value that is seen as another one has the same faults
+pub seen_fresh : {X Y : Type 0} (view : X → Y) (result : Result X ConnFault) → IsFresh result → IsFresh (and_then (λ x. Ok (view x)) result)
+seen_fresh view (Ok x) fresh = tt
+seen_fresh view (Err f) fresh = fresh
+
+pub seen_fault : {X Y : Type 0} (view : X → Y) (result : Result X ConnFault) (f : ConnFault) → and_then (λ x. Ok (view x)) result ≡ Err f → result ≡ Err f
+seen_fault view (Ok x) f e = absurd cc
+seen_fault view (Err g) f e = cc
+
 only_setup : (bytes : List ℕ) (answer : Option Answer) (devices : List DeviceInfo) → value_or_bad bytes (option_and_then as_devices answer) ≡ Ok devices → answer ≡ Some (setup devices)
 only_setup bytes (Some (setup ds)) devices is = let same : ds ≡ devices = cc in ap (λ (l : List DeviceInfo). Some (setup l)) same
 only_setup bytes (Some plain) devices is = cc
@@ -37,13 +47,22 @@ only_setup bytes (Some (phone p)) devices is = cc
 only_setup bytes None devices is = cc
 
 module _ (order : Order) where
-  -- the value of the reply that was found
-  pub answers_value : {X : Type 0} (value_of : Answer → Option X) (opcode opcode' sequence n : ℕ) (into : List ℕ) (ring ring' : RingState) (before after : Option (List ℕ)) (result : Result X ConnFault) →
-      Answers order (and_then (answer_to order opcode sequence)) (Ok (take n into)) ring ring' before after →
-      opcode' ≡ opcode → result ≡ value_in order value_of opcode' (take n into) → Answers order (answer_of order value_of opcode sequence) result ring ring' before after
-  answers_value value_of opcode opcode' sequence n into ring ring' before after result finds same is _ =
-      BothTold-map before after _ _ (finds (λ e. cc))
-      (λ b a t. (is ∙ ap (λ (o : ℕ). value_in order value_of o (take n into)) same ∙ ap (and_then (value_in order value_of opcode)) t.0, t.1, t.2))
+  -- the value of the reply that was found, or the same fault
+  pub exchanged_as : {L X : Type 0} {left sent : L → Option (List ℕ)} {faults : L → ℕ} {bytes : List ℕ} {old new : L} {ring ring' : RingState} (value_of : Answer → Option X) (opcode sequence : ℕ)
+      (found : Result (List ℕ) ConnFault) (result : Result X ConnFault) → Exchanged left sent faults order bytes (and_then (answer_to order opcode sequence)) found old new ring ring' →
+      result ≡ and_then (value_in order value_of opcode) found → IsFresh result → (result ≡ Err fault.LinkFault → found ≡ Err fault.LinkFault) →
+      Exchanged left sent faults order bytes (answer_of order value_of opcode sequence) result old new ring ring'
+  exchanged_as {left = left} {old = old} {new = new} value_of opcode sequence found result e is fresh same =
+      let value = and_then (value_in order value_of opcode) in
+      record {
+        sends = record { whole = λ sound. e.sends.whole (λ f. sound (is ∙ ap value f)); part = e.sends.part };
+        answers = λ sound. BothTold-map (left old) (left new) _ _ (e.answers (λ f. sound (is ∙ ap value f))) (λ b a t. (is ∙ ap value t.0, t.1, t.2));
+        gained = e.gained;
+        fresh = fresh;
+        tells = e.tells;
+        failed = λ f. e.failed (same f);
+        count = e.count;
+      }
 
   -- what was read of a body is what it states
   pub value_read : {X : Type 0} (value_of : Answer → Option X) (opcode : ℕ) (bytes : List ℕ) (answer : Option Answer) → answer ≡ answer_in order opcode (take (length bytes - 8) (drop 8 bytes)) →

@@ -6,7 +6,18 @@ use Rattle.af_wire.specs.declared.message_front.MessageFront.{MessageFront}
 use Rattle.af_wire.specs.declared.message_front.MessageFront.TheVariants.{NeedMore, Message, BadMessage}
 use Rattle.af_wire.specs.MessageFront.{is_head, message_front}
 use Rattle.af_wire.specs.Order.{u16_of, u32_of}
-use Rattle.af_lib.specs.Receive.{IsWhole, IsCut}
+
+-- the front of an input states a complete message of n bytes
+pub record IsWhole (order : Order) (input : List ℕ) (n : ℕ) : Type 0 where
+  pub kind : ℕ
+  pub detail : ℕ
+  pub sequence : ℕ
+  pub front : message_front order input ≡ Message kind detail sequence n
+
+-- an input that is too short for its first message
+pub record IsCut (order : Order) (input : List ℕ) : Type 0 where
+  pub length : ℕ
+  pub front : message_front order input ≡ NeedMore length
 
 -- the front that a header has, by whether it is good and how many bytes are there
 abbrev front_by : (good : Bool) (k d s n there : ℕ) → MessageFront

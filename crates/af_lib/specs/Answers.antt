@@ -1,12 +1,19 @@
 -- What a message answers to a request of a client.
-use Rattle.std.specs.Prelude.{ℕ, ◌==◌, ◌&&◌, if◌then◌else◌, List, [], ◌∷◌, drop, Option, Some, None, Result, Ok, Err, ok_or}
-use Rattle.std.specs.Prelude.{option_map, unwrap_or}
+use Rattle.std.specs.Prelude.{ℕ, ◌-◌, ◌==◌, ◌&&◌, if◌then◌else◌, List, [], ◌∷◌, ◌++◌, length, take, drop, replicate}
+use Rattle.std.specs.Prelude.{Option, Some, None, Result, Ok, Err, ok_or, option_map, unwrap_or}
 use Rattle.af_wire.specs.declared.order.Order.{Order}
 use Rattle.af_wire.specs.Order.{u32_of}
 use Rattle.af_request.specs.Fields.{u8_at, u16_at}
 use Rattle.af_lib.specs.declared.fault.ConnFault.{ConnFault}
 use Rattle.af_lib.specs.declared.fault.ConnFault.TheVariants as fault
-use Rattle.af_lib.specs.Incoming.{bad_reply}
+
+-- the first 8 bytes of a body, filled with zeros
+abbrev pub first_bytes : List ℕ → List ℕ
+first_bytes body = take 8 body ++ replicate (8 - length body) 0
+
+-- a message that does not answer, or a bad header: it is shown by its first 8 bytes and those after them
+abbrev pub bad_reply : List ℕ → ConnFault
+bad_reply bytes = fault.BadReply (take 8 bytes) (first_bytes (drop 8 bytes))
 
 -- the value that an error refuses, if its body is that of an error to a request of this opcode: the value, the opcode, and three
 -- zeros

@@ -4,7 +4,7 @@ use Rattle.std.specs.Prelude.{length, take, drop, slice_get, is_some, option_and
 use Rattle.std.specs.Prelude.{IsOk, IsSome, Option, None, Some}
 use Rattle.af_limits.specs.Limits.{most_events}
 use Rattle.af_time.specs.declared.DevTime.{DevTime}
-use Rattle.af_io.specs.Observed.{Appended, CountsFault, FaultCounted}
+use Rattle.af_io.specs.Observed.{Appended, FaultCounted}
 use Rattle.af_io.specs.Flow.{AppendedPrefix}
 use Rattle.af_request.specs.declared.reply.Controls.{Controls}
 use Rattle.af_request.specs.declared.reply.DeviceInfo.{DeviceInfo}
@@ -25,8 +25,8 @@ use Rattle.af_lib.specs.declared.fault.Cause.TheVariants as cause
 use Rattle.af_lib.specs.declared.fault.ConnFault.{ConnFault}
 use Rattle.af_lib.specs.declared.fault.ConnFault.TheVariants as fault
 use Rattle.af_lib.specs.Ring.{Gained, RingState}
-use Rattle.af_lib.specs.Incoming.{Incoming, event, other, awaited_message, bad_reply, incoming, after_message}
-use Rattle.af_lib.specs.Answers.{and_then, answer_to, value_or_bad}
+use Rattle.af_lib.specs.Incoming.{Incoming, event, other, awaited_message, incoming, after_message}
+use Rattle.af_lib.specs.Answers.{and_then, answer_to, bad_reply, value_or_bad}
 use Rattle.af_lib.specs.Observed.{BothTold}
 
 -- a connection: its link, its byte order, the devices of the reply to its setup, the number of the last request that it sent, its
@@ -123,18 +123,6 @@ pub record Sends {X : Type 0} (result : Result X ConnFault) (before : Option (Li
   pub whole : result ≢ Err fault.LinkFault → Appended before bytes after
   pub part : AppendedPrefix before bytes after
 
--- Bytes were sent over a link and an answer was awaited, with this result.
-pub record Exchanged {L X : Type 0} (left sent : L → Option (List ℕ)) (faults : L → ℕ) (bytes : List ℕ)
-    (result : Result X ConnFault) (old new : L) : Type 0 where
-  -- exactly these bytes were sent
-  pub sends : Sends result (sent old) bytes (sent new)
-  -- the result is neither Spent nor OutOfMemory
-  pub fresh : IsFresh result
-  -- bytes that are observable stay so
-  pub tells : IsSome (left old) → IsSome (left new)
-  -- LinkFault only if the link's count of faults rose
-  pub counts : CountsFault (result ≡ Err fault.LinkFault) (faults old) (faults new)
-
 -- if the link did not fail and its bytes are observable, exactly the messages up to the first that is no event were taken, the
 -- events went into the ring, and the result is what comes of that message
 abbrev pub Answers : {X : Type 0} → Order → (Result (List ℕ) ConnFault → Result X ConnFault) → Result X ConnFault →
@@ -143,9 +131,29 @@ Answers order answer result ring ring' before after = result ≢ Err fault.LinkF
     (result ≡ answer (awaited_message order most_events ring b).found)
     × (ring' ≡ (awaited_message order most_events ring b).ring) × (a ≡ (awaited_message order most_events ring b).rest))
 
--- the same for the message itself, which is in a buffer then
-abbrev pub held_in : {X : Type 0} → Result X ConnFault → List ℕ → Result (List ℕ) ConnFault
-held_in result bytes = and_then (λ _. Ok bytes) result
+-- the same for a link that was only read, of which the first message is what was awaited
+abbrev pub TakesFirst : {X : Type 0} → Result X ConnFault → (List ℕ → Result X ConnFault) → Order → Option (List ℕ) →
+    Option (List ℕ) → Type 0
+TakesFirst result first order before after =
+    result ≢ Err fault.LinkFault → BothTold before after (λ b a. (result ≡ first b) × (a ≡ after_message order b))
+
+-- Bytes were sent over a link, and an answer was taken, with this result.
+pub record Exchanged {L X : Type 0} (left sent : L → Option (List ℕ)) (faults : L → ℕ) (order : Order) (bytes : List ℕ)
+    (answer : Result (List ℕ) ConnFault → Result X ConnFault) (result : Result X ConnFault) (old new : L)
+    (ring ring' : RingState) : Type 0 where
+  -- exactly these bytes were sent
+  pub sends : Sends result (sent old) bytes (sent new)
+  -- exactly their answer was taken
+  pub answers : Answers order answer result ring ring' (left old) (left new)
+  -- the ring gained events and nothing else, also if the link failed
+  pub gained : Gained ring ring'
+  -- the result is neither Spent nor OutOfMemory
+  pub fresh : IsFresh result
+  -- bytes that are observable stay so
+  pub tells : IsSome (left old) → IsSome (left new)
+  -- LinkFault only if the link's count of faults rose
+  pub failed : result ≡ Err fault.LinkFault → FaultCounted (faults old) (faults new)
+  pub count : faults old ≤ faults new
 
 -- recorded samples, which are in a buffer
 abbrev pub recorded_as : List ℕ → (DevTime × ℕ) → Recorded
@@ -155,14 +163,9 @@ abbrev pub recorded_in : Result (DevTime × ℕ) ConnFault → List ℕ → Resu
 recorded_in result into = and_then (λ r. Ok (recorded_as into r)) result
 
 -- the buffer past what was recorded stays as it was, and all of it if nothing was recorded
-abbrev pub KeepsTail : Result (DevTime × ℕ) ConnFault → List ℕ → List ℕ → Type 0
-KeepsTail (Ok r) old new = drop r.1 new ≡ drop r.1 old
-KeepsTail (Err fault) old new = new ≡ old
-
--- the same where there are no such samples
-abbrev pub IsStoredIn : Option (DevTime × ℕ) → List ℕ → List ℕ → Type 0
-IsStoredIn (Some r) old new = drop r.1 new ≡ drop r.1 old
-IsStoredIn None old new = new ≡ old
+abbrev pub KeepsTail : Option (DevTime × ℕ) → List ℕ → List ℕ → Type 0
+KeepsTail (Some r) old new = drop r.1 new ≡ drop r.1 old
+KeepsTail None old new = new ≡ old
 
 -- devices, as the list of them
 abbrev pub device_list : Result (ArrayVec DeviceInfo) ConnFault → Result (List DeviceInfo) ConnFault
@@ -247,8 +250,8 @@ pub record EventAwaited {L : Type 0} (left sent : L → Option (List ℕ)) (faul
   pub oldest : old.cause ≡ None → (e : Event) → slice_get old.ring.events 0 ≡ Some e →
       (result ≡ Ok e) × (new ≡ record old { ring = record old.ring { events = drop 1 old.ring.events } })
   -- exactly one message was taken
-  pub next : old.cause ≡ None → slice_get old.ring.events 0 ≡ None → result ≢ Err fault.LinkFault →
-      BothTold (left old.link) (left new.link) (λ b a. (result ≡ event_of old.order b) × (a ≡ after_message old.order b))
+  pub next : old.cause ≡ None → slice_get old.ring.events 0 ≡ None →
+      TakesFirst result (event_of old.order) old.order (left old.link) (left new.link)
   -- except for Spent, the answer is an event, LinkFault, LinkEnded or BadReply
   pub answer : old.cause ≡ None → IsOfMessage result
   -- bytes that are observable stay so
@@ -262,21 +265,12 @@ pub record EventAwaited {L : Type 0} (left sent : L → Option (List ℕ)) (faul
   pub failed : result ≡ Err fault.LinkFault → FaultCounted (faults old.link) (faults new.link)
   pub count : faults old.link ≤ faults new.link
 
--- A setup was sent in a byte order, with this answer.
-pub record IsSetUp {L : Type 0} (order : Order) (left sent : L → Option (List ℕ)) (faults : L → ℕ) (old new : L)
-    (ring : RingState) (result : Result (List DeviceInfo) ConnFault) : Type 0 where
-  -- exactly the setup was sent
-  pub sends : Sends result (sent old) (setup_bytes order) (sent new)
-  -- exactly its answer was taken
-  pub answers :
-      Answers order (answer_of order as_devices opcodes.setup 0) result (record { events = []; lost = 0 }) ring (left old) (left new)
-  -- it is neither Spent nor out of memory
-  pub fresh : IsFresh result
-  -- bytes that are observable stay so
-  pub tells : IsSome (left old) → IsSome (left new)
-  -- LinkFault only if the link's count of faults rose
-  pub failed : result ≡ Err fault.LinkFault → FaultCounted (faults old) (faults new)
-  pub count : faults old ≤ faults new
+-- a setup was sent in a byte order, with this answer
+abbrev pub IsSetUp : {L : Type 0} → Order → (left sent : L → Option (List ℕ)) → (faults : L → ℕ) → (old new : L) → RingState →
+    Result (List DeviceInfo) ConnFault → Type 0
+IsSetUp order left sent faults old new ring result =
+    Exchanged left sent faults order (setup_bytes order) (answer_of order as_devices opcodes.setup 0) result old new
+    (record { events = []; lost = 0 }) ring
 
 -- a connection that was set up; or a fault, with the link, which is as it was if memory ran out
 abbrev pub Connects : {L : Type 0} → Order → (L → Option (List ℕ)) → (L → Option (List ℕ)) → (L → ℕ) → L →

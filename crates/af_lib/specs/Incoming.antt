@@ -1,6 +1,5 @@
 -- What a client takes off the bytes that a server sends, message by message.
-use Rattle.std.specs.Prelude.{ℕ, zero, suc, ◌-◌, ◌==◌, if◌then◌else◌, List, [], ◌++◌, length, take, drop, replicate}
-use Rattle.std.specs.Prelude.{Result, Ok, Err, ok_or, option_map}
+use Rattle.std.specs.Prelude.{ℕ, zero, suc, ◌==◌, if◌then◌else◌, List, [], take, drop, Result, Ok, Err, ok_or, option_map}
 use Rattle.af_wire.specs.declared.order.Order.{Order}
 use Rattle.af_wire.specs.declared.event.Event.{Event}
 use Rattle.af_wire.specs.declared.message_front.MessageFront.{MessageFront}
@@ -10,15 +9,8 @@ use Rattle.af_wire.specs.MessageFront.{message_front}
 use Rattle.af_request.specs.Fields.{u8_at}
 use Rattle.af_lib.specs.declared.fault.ConnFault.{ConnFault}
 use Rattle.af_lib.specs.declared.fault.ConnFault.TheVariants as fault
+use Rattle.af_lib.specs.Answers.{and_then, bad_reply}
 use Rattle.af_lib.specs.Ring.{RingState, with_event}
-
--- the first 8 bytes of a body, filled with zeros
-abbrev pub first_bytes : List ℕ → List ℕ
-first_bytes body = take 8 body ++ replicate (8 - length body) 0
-
--- a message that does not answer, or a bad header: it is shown by its first 8 bytes and those after them
-abbrev pub bad_reply : List ℕ → ConnFault
-bad_reply bytes = fault.BadReply (take 8 bytes) (first_bytes (drop 8 bytes))
 
 -- a message: an event, or another one with all its bytes
 pub data Incoming : Type 0 where
@@ -33,10 +25,10 @@ message_in order bytes =
     else Ok (other bytes)
 
 -- the message at such a front of the input; if the input is too short for it, the link has ended
-abbrev pub incoming_at : Order → MessageFront → List ℕ → Result Incoming ConnFault
-incoming_at order (NeedMore n) input = Err fault.LinkEnded
-incoming_at order (Message kind detail sequence n) input = message_in order (take n input)
-incoming_at order BadMessage input = Err (bad_reply (take 8 input))
+abbrev pub message_at : MessageFront → List ℕ → Result (List ℕ) ConnFault
+message_at (NeedMore n) input = Err fault.LinkEnded
+message_at (Message kind detail sequence n) input = Ok (take n input)
+message_at BadMessage input = Err (bad_reply (take 8 input))
 
 -- the input after that message: a bad header is taken alone; of a message that is cut off, all is taken
 abbrev pub rest_at : MessageFront → List ℕ → List ℕ
@@ -45,8 +37,12 @@ rest_at (Message kind detail sequence n) input = drop n input
 rest_at BadMessage input = drop 8 input
 
 -- the first message of an input, to its end
+unfoldable pub first_message : Order → List ℕ → Result (List ℕ) ConnFault
+first_message order input = message_at (message_front order input) input
+
+-- what it is
 unfoldable pub incoming : Order → List ℕ → Result Incoming ConnFault
-incoming order input = incoming_at order (message_front order input) input
+incoming order input = and_then (message_in order) (first_message order input)
 
 -- the input after its first message
 unfoldable pub after_message : Order → List ℕ → List ℕ

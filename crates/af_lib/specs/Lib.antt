@@ -1,6 +1,6 @@
 pub mod Ring
-pub mod Incoming
 pub mod Answers
+pub mod Incoming
 pub mod Observed
 pub mod Receive
 pub mod Calls

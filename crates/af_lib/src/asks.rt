@@ -1,5 +1,6 @@
 // Replies as the values that they state, one impl for each kind of request.
 ghost use Rattle.std.specs.Prelude.{◌≡◌, ◌≢◌, ◌≤◌, length, option_map, Err, IfOk, IfSome, IsTrue};
+ghost use Rattle.std.specs.Result.{result_ok};
 ghost use Rattle.std.specs.declared.option.Option.{Option};
 ghost use Rattle.af_limits.specs.Limits.{longest_message};
 ghost use Rattle.af_wire.specs.Front.{setup_bytes};
@@ -10,8 +11,7 @@ ghost use Rattle.af_request.specs.Requests.{request_bytes, FitsFrame};
 ghost use Rattle.af_request.specs.Opcodes as opcodes;
 ghost use Rattle.af_lib.specs.Answers.{value_or_bad};
 ghost use Rattle.af_lib.specs.Receive.{HasBuffers};
-ghost use Rattle.af_lib.specs.Ring.{Gained};
-ghost use Rattle.af_lib.specs.Calls.{answer_of, as_controls, as_devices, as_done, as_phone, as_recorded, as_time, device_list, opcode_of, recorded_as, recorded_in, value_in, Answers, Exchanged, IsFresh, KeepsTail, IsStoredIn};
+ghost use Rattle.af_lib.specs.Calls.{answer_of, as_controls, as_devices, as_done, as_phone, as_recorded, as_time, device_list, opcode_of, recorded_as, recorded_in, value_in, Exchanged, IsFresh, KeepsTail};
 
 use crate::exchange::{Exchange, ask, await_setup, opcode_of};
 use crate::fault::ConnFault;
@@ -112,11 +112,9 @@ pub fn ask_value<T: FromReply, L: Link + Drop>(
 ) -> Result<T, ConnFault>
     requires samples { FitsFrame (request_meaning request.now) }
     requires room { HasBuffers exchange.old.input.items exchange.old.output.items }
-    ensures answers { Answers order (answer_of order T.value_of (opcode_of (request_meaning request.now)) sequence) result
-        exchange.old.ring exchange.new.ring (L.left exchange.old.link) (L.left exchange.new.link) }
-    ensures gained { Gained exchange.old.ring exchange.new.ring }
-    ensures exchanged { Exchanged L.left L.sent L.faults (request_bytes order (request_meaning request.now)) result
-        exchange.old.link exchange.new.link }
+    ensures exchanged { Exchanged L.left L.sent L.faults order (request_bytes order (request_meaning request.now))
+        (answer_of order T.value_of (opcode_of (request_meaning request.now)) sequence) result
+        exchange.old.link exchange.new.link exchange.old.ring exchange.new.ring }
     ensures room { HasBuffers exchange.new.input.items exchange.new.output.items }
 {
     match ask(order, exchange, request, sequence) {
@@ -128,7 +126,7 @@ pub fn ask_value<T: FromReply, L: Link + Drop>(
 // Stores the recorded samples of a reply, if they are as many as were asked for. A request that does not block may get fewer.
 fn recorded_of(reply: &Reply<'_>, blocking: bool, into: &mut [u8]) -> Option<(DevTime, usize)>
     ensures value { option_map (recorded_as into.new) result ≡ as_recorded blocking (length into.old) (answered_by reply.now) }
-    ensures kept { IsStoredIn result into.old into.new }
+    ensures kept { KeepsTail result into.old into.new }
     ensures within { IfSome result (λ r. r.1 ≤ length into.old) }
     ensures all { IfSome result (λ r. IsTrue blocking → r.1 ≡ length into.old) }
 {
@@ -152,7 +150,7 @@ fn recorded_in(
 ) -> Result<(DevTime, usize), ConnFault>
     requires { 8 ≤ length bytes.now }
     ensures value { recorded_in result into.new ≡ value_in order (as_recorded blocking (length into.old)) opcode bytes.now }
-    ensures kept { KeepsTail result into.old into.new }
+    ensures kept { KeepsTail (result_ok result) into.old into.new }
     ensures within { IfOk result (λ r. r.1 ≤ length into.old) }
     ensures all { IfOk result (λ r. IsTrue blocking → r.1 ≡ length into.old) }
     ensures fresh { IsFresh result }
@@ -175,15 +173,12 @@ pub fn ask_recorded<L: Link + Drop>(
 ) -> Result<(DevTime, usize), ConnFault>
     requires samples { FitsFrame (request_meaning request.now) }
     requires room { HasBuffers exchange.old.input.items exchange.old.output.items }
-    ensures answers { Answers order
+    ensures exchanged { Exchanged L.left L.sent L.faults order (request_bytes order (request_meaning request.now))
         (answer_of order (as_recorded blocking (length into.old)) (opcode_of (request_meaning request.now)) sequence)
-        (recorded_in result into.new) exchange.old.ring exchange.new.ring (L.left exchange.old.link) (L.left exchange.new.link) }
-    ensures gained { Gained exchange.old.ring exchange.new.ring }
-    ensures kept { KeepsTail result into.old into.new }
+        (recorded_in result into.new) exchange.old.link exchange.new.link exchange.old.ring exchange.new.ring }
+    ensures kept { KeepsTail (result_ok result) into.old into.new }
     ensures within { IfOk result (λ r. r.1 ≤ length into.old) }
     ensures all { IfOk result (λ r. IsTrue blocking → r.1 ≡ length into.old) }
-    ensures exchanged { Exchanged L.left L.sent L.faults (request_bytes order (request_meaning request.now))
-        (recorded_in result into.new) exchange.old.link exchange.new.link }
     ensures room { HasBuffers exchange.new.input.items exchange.new.output.items }
 {
     match ask(order, exchange, request, sequence) {
@@ -228,10 +223,9 @@ pub fn set_up<L: Link>(
     input: &mut [u8],
 ) -> Result<Devices, ConnFault>
     requires { longest_message ≤ length input.old }
-    ensures answers { Answers order (answer_of order as_devices opcodes.setup 0) (device_list result) ring.old ring.new
-        (L.left link.old) (L.left link.new) }
+    ensures exchanged { Exchanged L.left L.sent L.faults order (setup_bytes order) (answer_of order as_devices opcodes.setup 0)
+        (device_list result) link.old link.new ring.old ring.new }
     ensures stated { IfOk result (λ devices. IsReplyTo opcodes.setup (setup devices.items)) }
-    ensures exchanged { Exchanged L.left L.sent L.faults (setup_bytes order) (device_list result) link.old link.new }
 {
     match await_setup(order, link, ring, input) {
         Ok(length) => devices_in(order, &input[..length]),

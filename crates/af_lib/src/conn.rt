@@ -1,5 +1,6 @@
 // A connection to a server.
 ghost use Rattle.std.specs.Prelude.{◌≡◌, ◌≤◌, false, [], drop, length, slice_get, All, IfOk, IsTrue};
+ghost use Rattle.std.specs.Result.{result_ok};
 ghost use Rattle.af_limits.specs.Limits.{most_devices, longest_frame, longest_play, longest_record, longest_message};
 ghost use Rattle.af_sample.specs.SampleTypes.{code_of};
 ghost use Rattle.af_request.specs.Fields.{flag_byte};
@@ -226,7 +227,7 @@ impl<L: Link + Drop> Conn<L> {
         requires { length into.old ≤ longest_record }
         ensures called { Called L.left L.sent L.faults (record_run blocking ac time.0 (length into.old))
             (as_recorded blocking (length into.old)) self.old self.new (recorded_in result into.new) }
-        ensures kept { KeepsTail result into.old into.new }
+        ensures kept { KeepsTail (result_ok result) into.old into.new }
         ensures within { IfOk result (λ r. r.1 ≤ length into.old) }
         ensures all { IfOk result (λ r. IsTrue blocking → r.1 ≡ length into.old) }
     {

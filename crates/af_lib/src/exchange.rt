@@ -8,7 +8,7 @@ ghost use Rattle.af_request.specs.Asked.{request_meaning};
 ghost use Rattle.af_request.specs.Requests.{request_bytes, FitsFrame};
 ghost use Rattle.af_request.specs.Opcodes as opcodes;
 ghost use Rattle.af_lib.specs.Answers.{and_then, answer_to, refused_in};
-ghost use Rattle.af_lib.specs.Calls.{cause_of, held_in, opcode_of, Answers, Exchanged, IsFresh};
+ghost use Rattle.af_lib.specs.Calls.{cause_of, opcode_of, Answers, Exchanged, IsFresh};
 ghost use Rattle.af_lib.specs.Receive.{found_as, HasBuffers};
 ghost use Rattle.af_lib.specs.Ring.{Gained};
 ghost use Rattle.af_lib.specs.Observed.{OnlyRead};
@@ -80,7 +80,7 @@ fn refused_in(order: Order, opcode: u8, body: &[u8]) -> Option<u32>
 // Whether a message that is no event is the reply to a request with this opcode and number, or else what it is.
 fn answer_to(order: Order, opcode: u8, sequence: u16, bytes: &[u8]) -> Result<(), ConnFault>
     requires { 8 ≤ length bytes.now }
-    ensures value { held_in result bytes.now ≡ answer_to order opcode sequence bytes.now }
+    ensures value { and_then (λ _. Ok bytes.now) result ≡ answer_to order opcode sequence bytes.now }
     ensures fresh { IsFresh result }
     ensures sound { result ≢ Err ConnFault.LinkFault }
 {
@@ -148,13 +148,10 @@ pub fn ask<L: Link + Drop>(
 ) -> Result<usize, ConnFault>
     requires samples { FitsFrame (request_meaning request.now) }
     requires room { HasBuffers exchange.old.input.items exchange.old.output.items }
-    ensures finds { Answers order (and_then (answer_to order (opcode_of (request_meaning request.now)) sequence))
-        (found_as result exchange.new.input.items) exchange.old.ring exchange.new.ring
-        (L.left exchange.old.link) (L.left exchange.new.link) }
-    ensures gained { Gained exchange.old.ring exchange.new.ring }
+    ensures exchanged { Exchanged L.left L.sent L.faults order (request_bytes order (request_meaning request.now))
+        (and_then (answer_to order (opcode_of (request_meaning request.now)) sequence))
+        (found_as result exchange.new.input.items) exchange.old.link exchange.new.link exchange.old.ring exchange.new.ring }
     ensures within { IfOk result (λ n. (8 ≤ n) × (n ≤ longest_message)) }
-    ensures exchanged { Exchanged L.left L.sent L.faults (request_bytes order (request_meaning request.now)) result
-        exchange.old.link exchange.new.link }
     ensures room { HasBuffers exchange.new.input.items exchange.new.output.items }
 {
     match send(order, &mut exchange.link, &mut exchange.output, request) {
@@ -178,10 +175,9 @@ pub fn await_setup<L: Link>(
     input: &mut [u8],
 ) -> Result<usize, ConnFault>
     requires { longest_message ≤ length input.old }
-    ensures finds { Answers order (and_then (answer_to order opcodes.setup 0)) (found_as result input.new)
-        ring.old ring.new (L.left link.old) (L.left link.new) }
+    ensures exchanged { Exchanged L.left L.sent L.faults order (setup_bytes order) (and_then (answer_to order opcodes.setup 0))
+        (found_as result input.new) link.old link.new ring.old ring.new }
     ensures within { IfOk result (λ n. (8 ≤ n) × (n ≤ longest_message)) }
-    ensures exchanged { Exchanged L.left L.sent L.faults (setup_bytes order) result link.old link.new }
 {
     match link.write(&order.setup()) {
         Put::Done => await_answer(order, link, ring, input, opcode::SETUP, 0),

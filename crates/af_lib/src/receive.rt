@@ -1,34 +1,18 @@
 // Receiving messages: bytes, one message, and the first message that is no event.
 ghost use Rattle.std.specs.Prelude.{◌≡◌, ◌≢◌, ◌≤◌, ◌<◌, length, IfOk, Ok, Err};
 ghost use Rattle.af_limits.specs.Limits.{longest_message};
-ghost use Rattle.af_lib.specs.Incoming.{bad_reply, first_bytes, message_in, after_message};
-ghost use Rattle.af_lib.specs.Calls.{event_of, event_only, IsFresh, IsOfMessage};
-ghost use Rattle.af_lib.specs.Observed.{BothTold, OnlyRead};
+ghost use Rattle.af_lib.specs.Answers.{bad_reply, first_bytes};
+ghost use Rattle.af_lib.specs.Incoming.{first_message, incoming, message_in};
+ghost use Rattle.af_lib.specs.Calls.{event_of, event_only, Answers, IsFresh, IsOfMessage, TakesFirst};
+ghost use Rattle.af_lib.specs.Observed.{OnlyRead};
 ghost use Rattle.af_lib.specs.Ring.{Gained};
-ghost use Rattle.af_lib.specs.Receive.{Fills, Frames, Takes, Awaits, taken_as, taken_of, IsFramedWithin, IsTakenWithin};
+ghost use Rattle.af_lib.specs.Receive.{found_as, taken_as, taken_of, Fills, IsTakenWithin};
 
 use crate::fault::ConnFault;
 use crate::ring::Ring;
 use af_io::{Got, Link};
 use af_limits::MOST_EVENTS;
 use af_wire::{Event, MessageFront, Order, message_at, read_event};
-
-/// How reading into a whole slice went.
-#[derive(Clone, Copy, Debug, PartialEq, Eq)]
-pub enum Filled {
-    Whole,
-    Ended,
-    Failed,
-}
-
-/// How reading one message went: it has n bytes, or its header is none.
-#[derive(Clone, Copy, Debug, PartialEq, Eq)]
-pub enum Framed {
-    Message(usize),
-    BadHead,
-    Ended,
-    Failed,
-}
 
 /// A message: an event, or another one of n bytes.
 #[derive(Clone, Copy, Debug, PartialEq, Eq)]
@@ -38,40 +22,40 @@ pub enum Taken {
 }
 
 /// Reads until the slice is full.
-pub fn fill<L: Link>(link: &mut L, into: &mut [u8]) -> Filled
+pub fn fill<L: Link>(link: &mut L, into: &mut [u8]) -> Result<(), ConnFault>
     ensures fills { Fills result into.new (L.left link.old) (L.left link.new) }
-    ensures reads { OnlyRead L.left L.sent L.faults (result ≡ Filled.Failed) link.old link.new }
+    ensures message { IsOfMessage result }
+    ensures reads { OnlyRead L.left L.sent L.faults (result ≡ Err ConnFault.LinkFault) link.old link.new }
 {
     let mut filled = 0;
     while filled < into.len() {
         match link.read(&mut into[filled..]) {
             Got::Bytes(count) => filled += count,
-            Got::Ended => return Filled::Ended,
-            Got::Failed => return Filled::Failed,
+            Got::Ended => return Err(ConnFault::LinkEnded),
+            Got::Failed => return Err(ConnFault::LinkFault),
         }
     }
-    Filled::Whole
+    Ok(())
 }
 
-/// Reads one message: a header, and if that is good the rest of its message.
-pub fn frame<L: Link>(order: Order, link: &mut L, input: &mut [u8]) -> Framed
+/// Reads one message: a header, and if that is good the rest of its message. It answers the length of the message.
+pub fn frame<L: Link>(order: Order, link: &mut L, input: &mut [u8]) -> Result<usize, ConnFault>
     requires { longest_message ≤ length input.old }
-    ensures frames { Frames order result input.new (L.left link.old) (L.left link.new) }
-    ensures within { IsFramedWithin result }
-    ensures reads { OnlyRead L.left L.sent L.faults (result ≡ Framed.Failed) link.old link.new }
+    ensures frames { TakesFirst (found_as result input.new) (first_message order) order (L.left link.old) (L.left link.new) }
+    ensures within { IfOk result (λ n. (8 ≤ n) × (n ≤ longest_message)) }
+    ensures message { IsOfMessage result }
+    ensures reads { OnlyRead L.left L.sent L.faults (result ≡ Err ConnFault.LinkFault) link.old link.new }
 {
     match fill(link, &mut input[..8]) {
-        Filled::Whole => {}
-        Filled::Ended => return Framed::Ended,
-        Filled::Failed => return Framed::Failed,
+        Ok(()) => {}
+        Err(fault) => return Err(fault),
     }
     match message_at(order, &input[..8]) {
-        MessageFront::BadMessage => Framed::BadHead,
-        MessageFront::Message { length, .. } => Framed::Message(length),
+        MessageFront::BadMessage => Err(bad_reply(&input[..8])),
+        MessageFront::Message { length, .. } => Ok(length),
         MessageFront::NeedMore(length) => match fill(link, &mut input[8..length]) {
-            Filled::Whole => Framed::Message(length),
-            Filled::Ended => Framed::Ended,
-            Filled::Failed => Framed::Failed,
+            Ok(()) => Ok(length),
+            Err(fault) => Err(fault),
         },
     }
 }
@@ -120,16 +104,14 @@ pub fn take_message<L: Link>(
     input: &mut [u8],
 ) -> Result<Taken, ConnFault>
     requires { longest_message ≤ length input.old }
-    ensures takes { result ≢ Err ConnFault.LinkFault → Takes order result input.new (L.left link.old) (L.left link.new) }
+    ensures takes { TakesFirst (taken_as result input.new) (incoming order) order (L.left link.old) (L.left link.new) }
     ensures within { IsTakenWithin result longest_message }
     ensures message { IsOfMessage result }
     ensures reads { OnlyRead L.left L.sent L.faults (result ≡ Err ConnFault.LinkFault) link.old link.new }
 {
     match frame(order, link, input) {
-        Framed::Message(length) => message_in(order, &input[..length]),
-        Framed::BadHead => Err(bad_reply(&input[..8])),
-        Framed::Ended => Err(ConnFault::LinkEnded),
-        Framed::Failed => Err(ConnFault::LinkFault),
+        Ok(length) => message_in(order, &input[..length]),
+        Err(fault) => Err(fault),
     }
 }
 
@@ -142,8 +124,8 @@ pub fn await_message<L: Link>(
     ring: &mut Ring,
 ) -> Result<usize, ConnFault>
     requires { longest_message ≤ length input.old }
-    ensures awaits { result ≢ Err ConnFault.LinkFault →
-        Awaits order result input.new ring.old ring.new (L.left link.old) (L.left link.new) }
+    ensures awaits { Answers order (λ found. found) (found_as result input.new) ring.old ring.new
+        (L.left link.old) (L.left link.new) }
     ensures gained { Gained ring.old ring.new }
     ensures within { IfOk result (λ n. (8 ≤ n) × (n ≤ longest_message)) }
     ensures fresh { IsFresh result }
@@ -163,8 +145,7 @@ pub fn await_message<L: Link>(
 /// Takes one message, which is to be an event.
 pub fn take_event<L: Link>(order: Order, link: &mut L, input: &mut [u8]) -> Result<Event, ConnFault>
     requires { longest_message ≤ length input.old }
-    ensures takes { result ≢ Err ConnFault.LinkFault →
-        BothTold (L.left link.old) (L.left link.new) (λ b a. (result ≡ event_of order b) × (a ≡ after_message order b)) }
+    ensures takes { TakesFirst result (event_of order) order (L.left link.old) (L.left link.new) }
     ensures message { IsOfMessage result }
     ensures reads { OnlyRead L.left L.sent L.faults (result ≡ Err ConnFault.LinkFault) link.old link.new }
 {

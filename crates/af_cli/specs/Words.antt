@@ -1,6 +1,6 @@
 -- The arguments of the tools: each tool is one simple command of clap, and its job is what its matches, which clap defines,
 -- state.
-use Rattle.std.specs.Prelude.{ℕ, ℤ, ◌-◌, pos, ◌&&◌, Bool, true, false, nat_le, List, [], ◌∷◌, length, Option}
+use Rattle.std.specs.Prelude.{ℕ, ℤ, ◌-◌, pos, ◌&&◌, Bool, true, false, nat_le, List, [], ◌∷◌, ◌++◌, length, Option}
 use Rattle.std.specs.Prelude.{Some, None, codes, is_some, map, option_and_then, option_map, if◌then◌else◌}
 use Rattle.std.specs.Str.{bytes_eq}
 use Rattle.std.specs.Option.{option_map_or}
@@ -49,6 +49,10 @@ with_rules a (r ∷ rs) = with_rules (with_rule a r) rs
 abbrev pub command_app : Text → List Argument → App
 command_app name words = with_rules (new_app name) (map rule_for words)
 
+-- arguments of one kind
+abbrev pub rules_of : ArgumentKind → List Text → List Rule
+rules_of kind ids = map (λ id. rule_at id kind) ids
+
 -- the arguments of a tool with one server: the server, the byte order, and these
 abbrev pub with_server : List Rule → List Rule
 with_server rules = rule_at (codes "SERVER") Place ∷ rule_at (codes "order") FreeOption ∷ rules
@@ -56,52 +60,30 @@ with_server rules = rule_at (codes "SERVER") Place ∷ rule_at (codes "order") F
 -- the arguments of aplay or arecord: those that both have, and these
 abbrev pub with_sound : List Rule → List Rule
 with_sound rules =
-    with_server (
-    rule_at (codes "device") FreeOption ∷
-    rule_at (codes "file") FreeOption ∷
-    rule_at (codes "type") FreeOption ∷
-    rule_at (codes "gain") FreeOption ∷
-    rule_at (codes "block") FreeOption ∷ rules)
+    with_server (rules_of FreeOption (codes "device" ∷ codes "file" ∷ codes "type" ∷ codes "gain" ∷ codes "block" ∷ []) ++ rules)
 
 -- the command of aplay
 unfoldable pub aplay_app : App
-aplay_app = with_rules (new_app (codes "aplay")) (with_sound (
-    rule_at (codes "lead") FreeOption ∷
-    rule_at (codes "time") FreeOption ∷
-    rule_at (codes "preempt") Flag ∷ []))
+aplay_app = with_rules (new_app (codes "aplay")) (
+    with_sound (rules_of FreeOption (codes "lead" ∷ codes "time" ∷ []) ++ rule_at (codes "preempt") Flag ∷ []))
 
 -- the command of arecord
 unfoldable pub arecord_app : App
-arecord_app = with_rules (new_app (codes "arecord")) (with_sound (
-    rule_at (codes "time") FreeOption ∷
-    rule_at (codes "frames") NeededOption ∷
-    rule_at (codes "stop-peak") FreeOption ∷
-    rule_at (codes "stop-blocks") FreeOption ∷ []))
+arecord_app = with_rules (new_app (codes "arecord")) (
+    with_sound (rule_at (codes "time") FreeOption ∷ rule_at (codes "frames") NeededOption ∷
+    rules_of FreeOption (codes "stop-peak" ∷ codes "stop-blocks" ∷ [])))
 
 -- the command of aset
 unfoldable pub aset_app : App
-aset_app = with_rules (new_app (codes "aset")) (with_server (
-    rule_at (codes "device") FreeOption ∷
-    rule_at (codes "input-gain") FreeOption ∷
-    rule_at (codes "output-gain") FreeOption ∷
-    rule_at (codes "input") FreeOption ∷
-    rule_at (codes "output") FreeOption ∷
-    rule_at (codes "hook") FreeOption ∷ []))
+aset_app = with_rules (new_app (codes "aset")) (with_server (rules_of FreeOption (
+    codes "device" ∷ codes "input-gain" ∷ codes "output-gain" ∷ codes "input" ∷ codes "output" ∷ codes "hook" ∷ [])))
 
 -- the command of apass
 unfoldable pub apass_app : App
 apass_app = with_rules (new_app (codes "apass")) (
-    rule_at (codes "FROM") Place ∷
-    rule_at (codes "TO") Place ∷
-    rule_at (codes "order") FreeOption ∷
-    rule_at (codes "from-device") FreeOption ∷
-    rule_at (codes "to-device") FreeOption ∷
-    rule_at (codes "type") FreeOption ∷
-    rule_at (codes "gain") FreeOption ∷
-    rule_at (codes "blocks") NeededOption ∷
-    rule_at (codes "block") FreeOption ∷
-    rule_at (codes "delay") FreeOption ∷
-    rule_at (codes "slack") FreeOption ∷ [])
+    rules_of Place (codes "FROM" ∷ codes "TO" ∷ []) ++
+    rules_of FreeOption (codes "order" ∷ codes "from-device" ∷ codes "to-device" ∷ codes "type" ∷ codes "gain" ∷ []) ++
+    rule_at (codes "blocks") NeededOption ∷ rules_of FreeOption (codes "block" ∷ codes "delay" ∷ codes "slack" ∷ []))
 
 -- the command of list
 unfoldable pub list_app : App
@@ -111,12 +93,19 @@ list_app = with_rules (new_app (codes "list")) (with_server [])
 abbrev pub number_at : Text → (default low high : ℕ) → List Row → Option ℕ
 number_at id default low high rows = or_default default (number_in low high) (first_of id rows)
 
--- the address of a server: 1 to 64 bytes
-abbrev pub address_in : Text → Option Text
-address_in text = if nat_le 1 (length text) && nat_le (length text) longest_address then Some text else None
+-- a number between these two, which has to be stated
+abbrev pub stated_number_at : Text → (low high : ℕ) → List Row → Option ℕ
+stated_number_at id low high rows = first_of id rows >>= number_in low high
 
+-- a text of 1 to so many bytes
+abbrev pub text_at : Text → ℕ → List Row → Option Text
+text_at id most rows = do
+  text ← first_of id rows
+  if nat_le 1 (length text) && nat_le (length text) most then Some text else None
+
+-- the address of a server: 1 to 64 bytes
 abbrev pub address_at : Text → List Row → Option Text
-address_at id rows = option_and_then address_in (first_of id rows)
+address_at id rows = text_at id longest_address rows
 
 -- the byte order of a connection, Big by default
 abbrev pub order_at : List Row → Option Order
@@ -183,8 +172,7 @@ abbrev pub record_job : List Row → Option RecordJob
 record_job rows = do
   (basics : CommonOptions) ← basics_of rows
   form ← form_at rows
-  frames_text ← first_of (codes "frames") rows
-  frames ← number_in 1 2147483647 frames_text
+  frames ← stated_number_at (codes "frames") 1 2147483647 rows
   stop_peak ← number_at (codes "stop-peak") 0 0 32768 rows
   stop_blocks ← number_at (codes "stop-blocks") 1 1 1000000 rows
   Some (record {
@@ -224,8 +212,7 @@ pass_job rows = do
   to_device ← device_at (codes "to-device") rows
   ty ← type_at rows
   gain ← gain_at rows
-  blocks_text ← first_of (codes "blocks") rows
-  blocks ← number_in 1 1000000 blocks_text
+  blocks ← stated_number_at (codes "blocks") 1 1000000 rows
   block ← block_at rows
   delay ← number_at (codes "delay") 200 0 3000 rows
   slack ← number_at (codes "slack") 100 0 3000 rows

@@ -3,7 +3,7 @@ ghost use Rattle.std.specs.Prelude.{◌≡◌, ◌≤◌, codes, length, option_
 ghost use Rattle.af_limits.specs.Limits.{longest_address};
 ghost use Rattle.clap.specs.Words.{first_of, found_of, rows_of};
 ghost use Rattle.af_cli.specs.Numbers.{gain_in, if_there, number_in, switch_in};
-ghost use Rattle.af_cli.specs.Words.{address_at, basics_of, block_at, device_at, form_at, gain_at, is_set, number_at, order_at, pass_job, play_job, record_job, set_job, type_at};
+ghost use Rattle.af_cli.specs.Words.{address_at, basics_of, block_at, device_at, form_at, gain_at, is_set, number_at, order_at, pass_job, play_job, record_job, set_job, stated_number_at, text_at, type_at};
 ghost use Rattle.af_cli.specs.Ranges.{IsPaced};
 
 use crate::command::text_of;
@@ -50,12 +50,32 @@ fn block_at(matches: &ArgMatches<'_>) -> Option<u32>
     number_at(matches, "block", 1000, 1, 4000)
 }
 
-// The number of a device.
-fn device_at(matches: &ArgMatches<'_>, name: &str) -> Option<u8>
+/// The number of a device.
+pub fn device_at(matches: &ArgMatches<'_>, name: &str) -> Option<u8>
     ensures { result ≡ device_at name.now (rows_of (found_of matches.now)) }
 {
     let number = number_at(matches, name, 0, 0, MOST_DEVICES as u32 - 1)?;
     Some(number as u8)
+}
+
+/// A number between these two, which has to be stated.
+pub fn stated_number_at(matches: &ArgMatches<'_>, name: &str, low: u32, high: u32) -> Option<u32>
+    ensures { result ≡ stated_number_at name.now low high (rows_of (found_of matches.now)) }
+{
+    number_in(low, high, text_of(matches, name)?.as_bytes())
+}
+
+/// A text of 1 to so many bytes.
+pub fn text_at<'a>(matches: &ArgMatches<'a>, name: &str, most: usize) -> Option<&'a str>
+    ensures text { option_map (λ s. s.now) result ≡ text_at name.now most (rows_of (found_of matches.now)) }
+    ensures size { IfSome result (λ s. (1 ≤ length s.now) × (length s.now ≤ most)) }
+{
+    let text = text_of(matches, name)?;
+    if 1 <= text.len() && text.len() <= most {
+        Some(text)
+    } else {
+        None
+    }
 }
 
 /// The address of a server.
@@ -63,12 +83,7 @@ pub fn address_at<'a>(matches: &ArgMatches<'a>, name: &str) -> Option<&'a str>
     ensures address { option_map (λ s. s.now) result ≡ address_at name.now (rows_of (found_of matches.now)) }
     ensures size { IfSome result (λ s. (1 ≤ length s.now) × (length s.now ≤ longest_address)) }
 {
-    let address = text_of(matches, name)?;
-    if 1 <= address.len() && address.len() <= LONGEST_ADDRESS {
-        Some(address)
-    } else {
-        None
-    }
+    text_at(matches, name, LONGEST_ADDRESS)
 }
 
 /// The order of the bytes of a connection, Big by default.
@@ -180,7 +195,7 @@ pub fn record_job(matches: &ArgMatches<'_>) -> Option<RecordJob>
 {
     let basics = basics_of(matches)?;
     let form = form_at(matches)?;
-    let frames = number_in(1, 2147483647, text_of(matches, "frames")?.as_bytes())?;
+    let frames = stated_number_at(matches, "frames", 1, 2147483647)?;
     let stop_peak = number_at(matches, "stop-peak", 0, 0, 32768)?;
     let stop_blocks = number_at(matches, "stop-blocks", 1, 1, 1000000)?;
     Some(RecordJob {
@@ -250,7 +265,7 @@ pub fn pass_job(matches: &ArgMatches<'_>) -> Option<PassJob>
     let to_device = device_at(matches, "to-device")?;
     let ty = type_at(matches)?;
     let gain = gain_at(matches)?;
-    let blocks = number_in(1, 1000000, text_of(matches, "blocks")?.as_bytes())?;
+    let blocks = stated_number_at(matches, "blocks", 1, 1000000)?;
     let block = block_at(matches)?;
     let delay = number_at(matches, "delay", 200, 0, 3000)?;
     let slack = number_at(matches, "slack", 100, 0, 3000)?;

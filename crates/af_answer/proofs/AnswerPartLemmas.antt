@@ -1,15 +1,15 @@
 -- Parts of an answering machine, one after the other.
-use Rattle.std.proofs.Common.{◌≡◌, true, false, List, sym, ap, ◌∙◌, append_assoc, append-nil, refl, inl, inr, subst}
+use Rattle.std.proofs.Common.{◌≡◌, ◌≤◌, ℕ, IsSome, Option, None, true, false, List, sym, ap, ◌∙◌, append_assoc, append-nil, refl, inl, inr, subst}
 use Rattle.std.specs.Prelude.{Result, Ok, Err}
-use Rattle.af_dialogue.specs.Parts.{IsProgramKind, Stopped, followed, goes_on, has_value}
+use Rattle.af_dialogue.specs.Parts.{IsProgramKind, Stopped, after_deeds, followed, goes_on, has_value}
 use Rattle.af_dialogue.proofs.PartLemmas.{Reached, front_followed, goes_stop, goes_value, reached_goes, reached_here, reached_on}
 use Rattle.af_io.proofs.AppendedLemmas.{appended_none, appended_on}
+use Rattle.af_lib.specs.Calls.{ConnState}
 use Rattle.af_answer.specs.declared.end.AnswerEnd.{AnswerEnd}
 use Rattle.af_answer.specs.declared.end.AnswerEnd.TheVariants as end
-use Rattle.af_answer.specs.AnswerTrace.{AnswerFinish, AnswerTrace, MachineDeeds, MachineOutcome, MachinePart, ToCome, Work, both_works, doing, no_work, stops, trace_of}
-use Rattle.af_answer.specs.AnswerParts.{Added, MatchesAnswer, Seen, Stand, Went, answering, is_from_outside}
+use Rattle.af_answer.specs.AnswerTrace.{MachineTrace, AnswerFinish, MachineDeeds, MachineOutcome, MachinePart, ToCome, Work, both_works, doing, no_work, stops}
+use Rattle.af_answer.specs.AnswerParts.{Added, MatchesAnswer, Seen, Stand, Went, answering, is_from_outside, is_of_calls}
 use Rattle.af_answer.specs.Children.{ChildRun}
-use Rattle.af_answer.specs.Outcomes.{is_of_calls}
 
 -- work and deeds, one after the other
 pub works_on : (a b c : Work) → both_works (both_works a b) c ≡ both_works a (both_works b c)
@@ -42,6 +42,13 @@ is_answering = record {
   shows_nothing = λ p. added_none p.seen;
   shows_joined = λ p q r d e shows more. added_on shows more;
 }
+
+-- a connection stays usable, and this is what is kept of it
+pub record StaysUsable {L : Type 0} (left : L → Option (List ℕ)) (faults : L → ℕ) (old new : ConnState L) : Type 0 where
+  pub usable : new.cause ≡ None
+  pub devices : new.devices ≡ old.devices
+  pub tells : IsSome (left old.link) → IsSome (left new.link)
+  pub count : faults old.link ≤ faults new.link
 
 -- a machine has come to another part, which is what is left of the first
 pub record GotTo {X : Type 0} (part now : MachinePart X) (old new : List ChildRun → Stand) : Type 0 where
@@ -79,7 +86,7 @@ outer_of_calls end.SinkFault way outer = cc way
 outer_of_calls how way outer = cc outer
 
 -- a machine that ended within the first of its parts
-pub stopped_matches : {X : Type 0} (o : MachineOutcome X) (next : X × ToCome → MachineOutcome (Unit {0})) (how : AnswerEnd) (did : MachineDeeds) → is_of_calls how ≡ true → Stopped answering o how did → MatchesAnswer (trace_of (followed doing o.did o.end next)) how did
+pub stopped_matches : {X : Type 0} (o : MachineOutcome X) (next : X × ToCome → MachineOutcome (Unit {0})) (how : AnswerEnd) (did : MachineDeeds) → is_of_calls how ≡ true → Stopped answering o how did → MatchesAnswer (followed doing o.did o.end next) how did
 stopped_matches o next how did way (inl within) =
     let front = front_followed is_answering did o.did o.end next within.1 in
     let failed = outer_of_calls how way within.0 in
@@ -92,7 +99,7 @@ stopped_matches o next how did way (inl within) =
       reported = λ e. (let bad : end.LinkFault ≡ end.SinkFault = sym failed ∙ e in cc bad);
     }
 stopped_matches {X} o next how did way (inr ended) =
-    subst (λ (x : MachineOutcome X). MatchesAnswer (trace_of (followed doing x.did x.end next)) how did) (sym ended.2) (record {
+    subst (λ (x : MachineOutcome X). MatchesAnswer (followed doing x.did x.end next) how did) (sym ended.2) (record {
       undone = doing.nothing;
       all = sym (deeds_end did);
       whole = λ inner. (ended.1.0, refl);
@@ -102,11 +109,8 @@ stopped_matches {X} o next how did way (inr ended) =
     })
 
 -- a machine that ends after what was done
-abbrev pub after_done : MachineDeeds → AnswerTrace → AnswerTrace
-after_done d t = record { deeds = doing.joined d t.deeds; finish = t.finish }
-
-pub matches_after : (d : MachineDeeds) {done : MachineDeeds} {c t : AnswerTrace} {how : AnswerEnd} → t ≡ after_done d c → MatchesAnswer c how done → MatchesAnswer t how (doing.joined d done)
-matches_after d {done} {t} {how} is m = subst (λ (x : AnswerTrace). MatchesAnswer x how (doing.joined d done)) (sym is) (record {
+pub matches_after : (d : MachineDeeds) {done : MachineDeeds} {c t : MachineTrace} {how : AnswerEnd} → t ≡ after_deeds doing d c → MatchesAnswer c how done → MatchesAnswer t how (doing.joined d done)
+matches_after d {done} {t} {how} is m = subst (λ (x : MachineTrace). MatchesAnswer x how (doing.joined d done)) (sym is) (record {
   undone = m.undone;
   all = ap (λ (e : MachineDeeds). doing.joined d e) m.all ∙ sym (deeds_on d done m.undone);
   whole = m.whole;

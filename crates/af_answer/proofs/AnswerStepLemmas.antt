@@ -17,13 +17,11 @@ use Rattle.af_toolkit.specs.Trace.{ClientState, after_reply, answer_on}
 use Rattle.af_toolkit.specs.Ends.{client_of}
 use Rattle.af_toolkit.proofs.TracePartLemmas.{Known, asked_known}
 use Rattle.af_answer.specs.declared.child.ChildEnd.{ChildEnd}
-use Rattle.af_answer.specs.declared.child.ChildEnd.TheVariants as ended
 use Rattle.af_answer.specs.declared.end.AnswerEnd.{AnswerEnd}
-use Rattle.af_answer.specs.declared.job.AnswerJob.{AnswerJob}
-use Rattle.af_answer.specs.AnswerTrace.{AnswerFinish, MachineOutcome, ToCome, after_event, awaits_event, by_answer, connection_end, deeds_of_work, exchanges, hears, leaves_message, machine_end, met_fault, next_event, refusal, requests, running, runs_child, sending}
-use Rattle.af_answer.specs.AnswerParts.{Added, GoesBy, Stand, Went, answering, seen_as, stand, stand_on}
-use Rattle.af_answer.specs.Children.{ChildRun, LeavesMessage, RunsChild, shell_words, told_of_run}
-use Rattle.af_answer.proofs.AnswerPartLemmas.{added_none, went_stop, went_through, went_value}
+use Rattle.af_answer.specs.AnswerTrace.{AnswerFinish, MachineOutcome, ToCome, after_event, awaits_event, by_answer, connection_end, deeds_of_work, exchanges, hears, machine_end, met_fault, next_event, refusal, requests, running, runs_child, sending}
+use Rattle.af_answer.specs.AnswerParts.{Added, GoesBy, RunsBy, Stand, Went, answering, seen_as, stand, stand_on}
+use Rattle.af_answer.specs.Children.{ChildRun, run_end, shell_words, told_of_run}
+use Rattle.af_answer.proofs.AnswerPartLemmas.{added_none, went_stop, went_through}
 
 -- an answer of a connection, as that of a part
 abbrev pub part_of : {X : Type 0} → Result X ConnFault → Result X AnswerEnd
@@ -111,24 +109,18 @@ module _ {L : Type 0} {left sent : L → Option (List ℕ)} {faults : L → ℕ}
   awaited_went (Ok e) awaited usable = went_through hears (handed (Ok e) awaited usable) (heard e)
   awaited_went (Err f) awaited usable = went_stop hears refl (handed (Err f) awaited usable)
 
--- a child is a part of a machine, and so is the message
-module _ {left : Option (List ℕ)} {client : List ℕ → ClientState} {sent : Option (List ℕ)} {acts acts' : Option (List Told)} {held : Option (List ℕ)} where
-  pub child_went : (text : List ℕ) {how : ChildEnd} → RunsChild (shell_words text) how acts acts' → Went (runs_child text) (Ok how) (stand left client sent acts held) (stand left client sent acts' held)
-  unfolding runs_child
-  child_went text {how} r = record {
-    runs = λ later. r.run ∷ later;
-    goes = λ later. record {
-      came = λ a stands. rw stands.2 (
-          let there : ToCome = record { wire = client stands.0; runs = later } in
-          let did = deeds_of_work (running (told_of_run (shell_words text) r.run)) in
-          let o = λ (e : ChildEnd). (let o : MachineOutcome ChildEnd = called did (Ok e) there in o) in
-          (there, (stands.0, stands.1, refl), did, ap o r.ended, record { link = appended_none sent; children = r.told; sink = appended_none held }));
-    };
-  }
-
-  pub message_went : (job : AnswerJob) (greeting : ChildEnd) {how : ChildEnd} → LeavesMessage job greeting how acts acts' → Went (leaves_message job greeting) (Ok how) (stand left client sent acts held) (stand left client sent acts' held)
-  message_went job ended.Good m = child_went job.message.bytes m
-  message_went job greeting m = rw (m.0, m.1) (went_value greeting)
+-- a child that ran so is a part of a machine
+pub child_went : (text : List ℕ) (run : ChildRun) {acts acts' : Option (List Told)} {how : ChildEnd} → how ≡ run_end run → Appended acts (told_of_run (shell_words text) run) acts' → RunsBy acts acts' (runs_child text) how
+unfolding runs_child
+child_went text run {how} ended told left sent held client = record {
+  runs = λ later. run ∷ later;
+  goes = λ later. record {
+    came = λ a stands. rw stands.2 (
+        let there : ToCome = record { wire = client stands.0; runs = later } in
+        let o = λ (e : ChildEnd). (let o : MachineOutcome ChildEnd = called (deeds_of_work (running (told_of_run (shell_words text) run))) (Ok e) there in o) in
+        (there, (stands.0, stands.1, refl), deeds_of_work (running (told_of_run (shell_words text) run)), ap o (sym ended), record { link = appended_none sent; children = told; sink = appended_none held }));
+  };
+}
 
 -- a connection that handed out an event can still be used
 event_stays_at : {L : Type 0} {left sent : L → Option (List ℕ)} {faults : L → ℕ} {old new : ConnState L} {e : Event} (first : Option Event) → slice_get old.ring.events 0 ≡ first →

@@ -6,7 +6,7 @@ use Rattle.af_wire.specs.declared.order.Order.{Order}
 use Rattle.af_wire.specs.declared.event.Event.{Event}
 use Rattle.af_request.specs.Asked.{hook_switch, select_events}
 use Rattle.af_request.specs.Requests.{request_bytes}
-use Rattle.af_dialogue.specs.Parts.{called, followed, goes_on}
+use Rattle.af_dialogue.specs.Parts.{called, followed, goes_on, outcome}
 use Rattle.af_dialogue.proofs.PartLemmas.{goes_on_twice, value_first}
 use Rattle.af_lib.specs.declared.fault.ConnFault.{ConnFault}
 use Rattle.af_lib.specs.Calls.{as_done}
@@ -15,11 +15,15 @@ use Rattle.af_answer.specs.declared.child.ChildEnd.{ChildEnd}
 use Rattle.af_answer.specs.declared.child.ChildEnd.TheVariants as ended
 use Rattle.af_answer.specs.declared.job.AnswerJob.{AnswerJob}
 use Rattle.af_answer.specs.declared.tally.Tally.{Tally}
-use Rattle.af_answer.specs.Acts.{MachineAct, acts_after, acts_after_greeting, acts_from, acts_of_call, greet, leaves_off, no_calls, off_after, off_hook, on_hook, record_message, rings_after, tally_after, write_tally}
-use Rattle.af_answer.specs.AnswerTrace.{ToCome, AnswerTrace, AnswerFinish, MachineOutcome, MachinePart, Work, after_event, attends, attends_all, awaits_call, awaits_event, both_works, by_answer, child_starved, deeds_of_work, doing, exchanges, first_run, hears, leaves_message, met_fault, most_for_a_call, next_event, no_work, off_hook_fault, refusal, rang_too_little, requests, runs_child, sending, stops, takes_call, trace_of, writes_tally}
+use Rattle.af_answer.specs.Acts.{MachineAct, acts_after, acts_after_greeting, acts_from, greet, leaves_off, no_calls, off_after, off_hook, on_hook, record_message, rings_after, tally_after, write_tally}
+use Rattle.af_answer.specs.AnswerTrace.{MachineTrace, ToCome, AnswerFinish, MachineOutcome, MachinePart, Work, after_event, attends, attends_all, awaits_call, awaits_event, both_works, by_answer, child_starved, deeds_of_work, doing, exchanges, finish_of, first_run, hears, leaves_message, met_fault, most_for_a_call, next_event, no_work, off_hook_fault, refusal, rang_too_little, requests, runs_child, sending, stops, takes_call, writes_tally}
 use Rattle.af_answer.specs.Answered.{StopsAtOffHook, SwitchesHook, acts_asked, later_runs, work_of, work_of_act, work_of_job}
 use Rattle.af_answer.specs.Children.{ChildRun, is_starved, run_end, start_failed}
 use Rattle.af_answer.proofs.AnswerPartLemmas.{is_answering, works_end, works_on}
+
+-- the acts of a call, by the ends of the children to come
+abbrev pub acts_of_call : List ChildEnd → (ChildEnd → List ChildEnd → List MachineAct) → List MachineAct
+acts_of_call ends next = off_hook ∷ greet ∷ acts_after_greeting (get_or ends 0 ended.Bad) (drop 1 ends) next
 
 -- The work of a trace that finishes so is the first of what is to be done, and all of it unless a HookSwitch was answered with a
 -- fault. Where an OffHook was, it stops at that.
@@ -50,8 +54,8 @@ pub record StopsOff (order : Order) (off : Bool) (job : AnswerJob) (acts : List 
   pub sent : sends ≡ (work_of order job (before ++ off_hook ∷ []) runs).sends
   pub on : fold off_after off before ≡ false
 
-abbrev pub KeepsTo : Order → (off : Bool) → AnswerJob → List MachineAct → List ChildRun → AnswerTrace → Type 0
-KeepsTo order off job acts runs t = Keeps (work_of order job acts runs) (StopsOff order off job acts runs) t.deeds.work t.finish
+abbrev pub KeepsTo : Order → (off : Bool) → AnswerJob → List MachineAct → List ChildRun → MachineTrace → Type 0
+KeepsTo order off job acts runs t = Keeps (work_of order job acts runs) (StopsOff order off job acts runs) t.did.work (finish_of t)
 
 module _ (order : Order) (off : Bool) (job : AnswerJob) (act : MachineAct) (acts : List MachineAct) (runs : List ChildRun) where
   -- an act was done
@@ -82,28 +86,28 @@ stop_first finish next = refl
 
 -- a machine keeps to its acts, by the events to come and the ends of the children to come
 abbrev KeepsBy : (off : Bool) → AnswerJob → (List Event → List ChildEnd → List MachineAct) → MachinePart (Unit {0}) → ClientState → List ChildRun → Type 0
-KeepsBy off job acts part w runs = (let t = trace_of (part (record { wire = w; runs = runs })) in KeepsTo w.order off job (acts t.deeds.heard (map run_end runs)) runs t)
+KeepsBy off job acts part w runs = (let t = part (record { wire = w; runs = runs }) in KeepsTo w.order off job (acts t.did.heard (map run_end runs)) runs t)
 
 -- what follows a part, as a trace
-abbrev trace_by : {X : Type 0} → MachineOutcome X → (X → MachinePart (Unit {0})) → AnswerTrace
-trace_by o next = trace_of (followed doing o.did o.end (λ y. next y.0 y.1))
+abbrev trace_by : {X : Type 0} → MachineOutcome X → (X → MachinePart (Unit {0})) → MachineTrace
+trace_by o next = followed doing o.did o.end (λ y. next y.0 y.1)
 
 -- what follows the answer to a HookSwitch: the hook is taken off, or put on
 module _ (w : ClientState) (job : AnswerJob) (acts : List Event → List MachineAct) (runs : List ChildRun) (next : Unit {0} → MachinePart (Unit {0})) where
   abbrev here : ToCome
   here = record { wire = after_reply w; runs = runs }
 
-  abbrev later : AnswerTrace
-  later = trace_of (next tt here)
+  abbrev later : MachineTrace
+  later = next tt here
 
-  abbrev switched_by : ℕ → Result (Unit {0}) ConnFault → AnswerTrace
+  abbrev switched_by : ℕ → Result (Unit {0}) ConnFault → MachineTrace
   switched_by off r = trace_by (called (deeds_of_work (sending (request_bytes w.order (hook_switch job.device off)))) (by_answer (refusal (hook_switch job.device off)) r) here) next
 
-  taken_off : (r : Result (Unit {0}) ConnFault) → KeepsTo w.order true job (acts later.deeds.heard) runs later → (let t = switched_by 1 r in KeepsTo w.order false job (off_hook ∷ acts t.deeds.heard) runs t)
+  taken_off : (r : Result (Unit {0}) ConnFault) → KeepsTo w.order true job (acts later.did.heard) runs later → (let t = switched_by 1 r in KeepsTo w.order false job (off_hook ∷ acts t.did.heard) runs t)
   taken_off (Ok u) k = did w.order false job off_hook _ runs k
   taken_off (Err f) k = refused w.order false job off_hook (acts []) runs (λ switched. switched.1 f refl) (λ f met. record { before = []; later = acts []; are = refl; sent = refl; on = refl })
 
-  put_on : (r : Result (Unit {0}) ConnFault) → KeepsTo w.order false job (acts later.deeds.heard) runs later → (let t = switched_by 0 r in KeepsTo w.order true job (on_hook ∷ acts t.deeds.heard) runs t)
+  put_on : (r : Result (Unit {0}) ConnFault) → KeepsTo w.order false job (acts later.did.heard) runs later → (let t = switched_by 0 r in KeepsTo w.order true job (on_hook ∷ acts t.did.heard) runs t)
   put_on (Ok u) k = did w.order true job on_hook _ runs k
   put_on (Err f) k = refused w.order true job on_hook (acts []) runs (λ switched. switched.0 f refl) (λ f met. cc met)
 
@@ -156,8 +160,8 @@ later_acts job t events how ends = acts_after how job.calls (tally_after how t) 
 module _ (job : AnswerJob) (t : Tally) (runs : List ChildRun) (taken : MachinePart (Unit {0}))
     (keeps : (w : ClientState) → KeepsBy false job (λ events ends. acts_of_call ends (later_acts job t events)) taken w runs) where
   -- a trace keeps to the acts from so many rings on; and so does waiting on for n events
-  abbrev KeepsFrom : Order → ℕ → AnswerTrace → Type 0
-  KeepsFrom order rings x = KeepsTo order false job (acts_from job rings t x.deeds.heard (map run_end runs)) runs x
+  abbrev KeepsFrom : Order → ℕ → MachineTrace → Type 0
+  KeepsFrom order rings x = KeepsTo order false job (acts_from job rings t x.did.heard (map run_end runs)) runs x
 
   abbrev KeepsWaiting : ℕ → ClientState → Type 0
   KeepsWaiting n w = (rings : ℕ) → KeepsBy false job (acts_from job rings t) (goes_on doing (awaits_call n job rings) (λ _. taken)) w runs
@@ -166,7 +170,7 @@ module _ (job : AnswerJob) (t : Tally) (runs : List ChildRun) (taken : MachinePa
   abbrev rung : ℕ → ℕ → Event → MachinePart (Unit {0})
   rung n rings e = if rings_after job rings e == job.rings then taken else goes_on doing (awaits_call n job (rings_after job rings e)) (λ _. taken)
 
-  none_left : (order : Order) (rings : ℕ) {finish : AnswerFinish} → ((f : ConnFault) → finish ≢ off_hook_fault f) → KeepsFrom order rings (record { deeds = doing.nothing; finish = finish })
+  none_left : (order : Order) (rings : ℕ) {finish : AnswerFinish} → ((f : ConnFault) → finish ≢ off_hook_fault f) → KeepsFrom order rings (outcome doing.nothing (Err finish))
   unfolding acts_from
   none_left order rings other = keeps_all other
 
@@ -174,8 +178,8 @@ module _ (job : AnswerJob) (t : Tally) (runs : List ChildRun) (taken : MachinePa
   unfolding acts_from goes_on
   handed_keeps n rings (Ok e) w more =
       let ends = map run_end runs in
-      let x : Bool → AnswerTrace = λ y. trace_of ((if y then taken else goes_on doing (awaits_call n job (rings_after job rings e)) (λ _. taken)) (record { wire = w; runs = runs })) in
-      elim (rings_after job rings e == job.rings) as (λ y. KeepsTo w.order false job (if y then acts_of_call ends (later_acts job t (x y).deeds.heard) else acts_from job (rings_after job rings e) t (x y).deeds.heard ends) runs (x y)) [
+      let x : Bool → MachineTrace = λ y. (if y then taken else goes_on doing (awaits_call n job (rings_after job rings e)) (λ _. taken)) (record { wire = w; runs = runs }) in
+      elim (rings_after job rings e == job.rings) as (λ y. KeepsTo w.order false job (if y then acts_of_call ends (later_acts job t (x y).did.heard) else acts_from job (rings_after job rings e) t (x y).did.heard ends) runs (x y)) [
         | true ↦ keeps w
         | false ↦ more (rings_after job rings e)
       ]
@@ -232,8 +236,8 @@ attends_keeps job (suc n) t all w runs =
     (λ v. call_keeps job (after_call job n t) (later_acts job t) v runs (later_keeps job n t (after_reply (after_reply v)) (λ how. attends_keeps job n (tally_after how t) (counts_one how t n job.calls all)))) most_for_a_call w 0)
 
 -- Rings and hooks are asked for first: a trace keeps to all that a machine is to do.
-abbrev pub KeepsAll : Order → AnswerJob → AnswerTrace → List ChildRun → Type 0
-KeepsAll order job t runs = Keeps (work_of_job order job (acts_asked job t runs) runs) (StopsAtOffHook order job (acts_asked job t runs) runs) t.deeds.work t.finish
+abbrev pub KeepsAll : Order → AnswerJob → MachineTrace → List ChildRun → Type 0
+KeepsAll order job t runs = Keeps (work_of_job order job (acts_asked job t runs) runs) (StopsAtOffHook order job (acts_asked job t runs) runs) t.did.work (finish_of t)
 
 module _ (job : AnswerJob) (w : ClientState) (runs : List ChildRun) (some : (0 == job.calls) ≡ false) where
   abbrev calls : Unit {0} → MachinePart (Unit {0})
@@ -248,7 +252,7 @@ module _ (job : AnswerJob) (w : ClientState) (runs : List ChildRun) (some : (0 =
       (rw some at (attends_keeps job job.calls no_calls (omega arith) (after_reply w) runs))
   asked_keeps (Err f) = keeps_all (λ x e. cc e)
 
-  first_keeps : KeepsAll w.order job (trace_of (goes_on doing (requests (select_events job.device 3)) calls (record { wire = w; runs = runs }))) runs
+  first_keeps : KeepsAll w.order job (goes_on doing (requests (select_events job.device 3)) calls (record { wire = w; runs = runs })) runs
   unfolding requests goes_on
   first_keeps = asked_keeps (answer_on (select_events job.device 3) as_done w)
 
@@ -256,7 +260,7 @@ module _ (job : AnswerJob) (w : ClientState) (runs : List ChildRun) (some : (0 =
   unfolding attends_all
   all_first = goes_on_twice is_answering _ _ _
 
-  pub line_keeps : KeepsAll w.order job (trace_of (goes_on doing (attends_all job) writes_tally (record { wire = w; runs = runs }))) runs
+  pub line_keeps : KeepsAll w.order job (goes_on doing (attends_all job) writes_tally (record { wire = w; runs = runs })) runs
   line_keeps = rw all_first first_keeps
 
 -- Whatever a machine hears, its acts leave the hook on.

@@ -2,8 +2,11 @@
 use Rattle.std.proofs.Common.{◌≡◌, ◌≢◌, ◌≤◌, ◌⊎◌, ◌↔◌, inl, inr, ℕ, Bool, true, false, List, [], ◌++◌, map, length, arith, refl, sym, ap, ap₂, ◌∙◌, subst, append-nil, Ok, Err, Option, None, Some}
 use Rattle.std.proofs.lemmas.Bool.{ne_eqb}
 use Rattle.std.specs.Prelude.{option_map}
+use Rattle.std.specs.Option.{option_map_or}
 use Rattle.std.proofs.lemmas.Option.{slice_get_cases, slice_get_past}
-use Rattle.af_io.specs.Flow.{AppendedPrefix}
+use Rattle.af_io.specs.declared.flow.Put.{Put}
+use Rattle.af_io.specs.declared.flow.Put.TheVariants as puts
+use Rattle.af_io.specs.Flow.{AppendedPrefix, Written as Wrote}
 use Rattle.af_io.proofs.AppendedLemmas.{appended_none}
 use Rattle.af_dialogue.specs.Parts.{followed, goes_on}
 use Rattle.af_wire.specs.declared.order.Order.{Order}
@@ -17,13 +20,18 @@ use Rattle.af_answer.specs.declared.end.AnswerEnd.TheVariants as end
 use Rattle.af_answer.specs.declared.job.AnswerJob.{AnswerJob}
 use Rattle.af_answer.specs.declared.tally.Tally.{Tally}
 use Rattle.af_answer.specs.Acts.{MachineAct, no_calls}
-use Rattle.af_answer.specs.AnswerTrace.{ToCome, AnswerTrace, AnswerFinish, MachineDeeds, MachineOutcome, Work, all_answered, attends_all, both_works, child_starved, connection_end, deeds_of_work, device_missing, doing, if_line, line_at, line_missing, machine_end, met_fault, off_hook_fault, on_hook_fault, rang_too_little, stops, tally_text, trace_of, writes_tally, writing}
-use Rattle.af_answer.specs.AnswerParts.{Added, MatchesAnswer, Seen, Went, WritesTo, is_from_outside, seen_as, stand}
-use Rattle.af_answer.specs.Answered.{AnswerRan, HangsUp, HasLine, IsReplied, KeepsToActs, LacksItsDevice, LeavesHook, PutsOn, RanAs, StopsAtOffHook, SwitchesHook, acts_asked, line_or_end, work_of_job}
+use Rattle.af_answer.specs.AnswerTrace.{MachineTrace, ToCome, AnswerFinish, MachineDeeds, MachineOutcome, MachinePart, Work, all_answered, attends_all, both_works, child_starved, connection_end, deeds_of_work, device_missing, doing, finish_of, line_at, line_missing, missing, machine_end, met_fault, off_hook_fault, on_hook_fault, rang_too_little, stops, tally_text, writes_tally, writing}
+use Rattle.af_answer.specs.AnswerParts.{Added, MatchesAnswer, Seen, Went, is_from_outside, is_of_calls, seen_as, stand}
+use Rattle.af_answer.specs.Answered.{AnswerRan, HangsUp, HasLine, IsReplied, KeepsToActs, LeavesHook, PutsOn, RanAs, StopsAtOffHook, SwitchesHook, acts_asked, work_of_job}
 use Rattle.af_answer.specs.Children.{ChildRun, run_end}
-use Rattle.af_answer.specs.Outcomes.{is_of_calls, is_of_line}
 use Rattle.af_answer.proofs.AnswerPartLemmas.{added_none, added_on, matches_after, stopped_matches, works_end, works_on}
 use Rattle.af_answer.proofs.KeptActLemmas.{KeepsAll, acts_leave_on, line_keeps}
+
+-- the ends of a machine that has a line: it takes its calls, and writes
+abbrev pub is_of_line : AnswerEnd → Bool
+is_of_line end.Done = true
+is_of_line end.SinkFault = true
+is_of_line how = is_of_calls how
 
 pub line_of_calls : (how : AnswerEnd) → is_of_calls how ≡ true → is_of_line how ≡ true
 line_of_calls end.Done way = refl
@@ -60,28 +68,28 @@ refused_by (on_hook_fault x) puts_on = absurd (puts_on x refl)
 refused_by finish puts_on = inl (λ f e. cc e, λ f e. cc e)
 
 -- a machine on a line, by what of its trace was done
-module _ (order : Order) (job : AnswerJob) (t : AnswerTrace) (runs : List ChildRun) (k : KeepsAll order job t runs) (done : MachineDeeds) where
+module _ (order : Order) (job : AnswerJob) (t : MachineTrace) (runs : List ChildRun) (k : KeepsAll order job t runs) (done : MachineDeeds) where
   abbrev acts : List MachineAct
   acts = acts_asked job t runs
 
-  all_acted : {how : AnswerEnd} → MatchesAnswer t how done → how ≢ end.LinkFault → (t.deeds.work.sends ≡ done.work.sends) × (t.deeds.work.told ≡ done.work.told)
+  all_acted : {how : AnswerEnd} → MatchesAnswer t how done → how ≢ end.LinkFault → (t.did.work.sends ≡ done.work.sends) × (t.did.work.told ≡ done.work.told)
   all_acted m acting =
       let undone = m.acted acting in (
         ap (λ (d : MachineDeeds). d.work.sends) m.all ∙ ap (λ l. done.work.sends ++ l) undone.0 ∙ append-nil done.work.sends,
         ap (λ (d : MachineDeeds). d.work.told) m.all ∙ ap (λ l. done.work.told ++ l) undone.1 ∙ append-nil done.work.told,
       )
 
-  hangs : {how : AnswerEnd} → MatchesAnswer t how done → how ≢ end.LinkFault → SwitchesHook t.finish → HangsUp order job acts runs done.work
+  hangs : {how : AnswerEnd} → MatchesAnswer t how done → how ≢ end.LinkFault → SwitchesHook (finish_of t) → HangsUp order job acts runs done.work
   hangs m acting switched =
-      let same : work_of_job order job acts runs ≡ t.deeds.work = k.all ∙ ap (λ (w : Work). both_works t.deeds.work w) (k.whole switched) ∙ works_end t.deeds.work in
+      let same : work_of_job order job acts runs ≡ t.did.work = k.all ∙ ap (λ (w : Work). both_works t.did.work w) (k.whole switched) ∙ works_end t.did.work in
       record {
         sent = sym (ap (λ (w : Work). w.sends) same ∙ (all_acted m acting).0);
         children = sym (ap (λ (w : Work). w.told) same ∙ (all_acted m acting).1);
-        on = acts_leave_on job 0 no_calls t.deeds.heard (map run_end runs);
+        on = acts_leave_on job 0 no_calls t.did.heard (map run_end runs);
       }
 
-  hook_left : (how : AnswerEnd) → is_of_line how ≡ true → MatchesAnswer t how done → LeavesHook how t.finish (HangsUp order job acts runs done.work) (StopsAtOffHook order job acts runs done.work.sends) done.work.sends
-  hook_left end.Done way m = hangs m (λ e. cc e) (switched_where_done t.finish (m.whole refl).0)
+  hook_left : (how : AnswerEnd) → is_of_line how ≡ true → MatchesAnswer t how done → LeavesHook how (finish_of t) (HangsUp order job acts runs done.work) (StopsAtOffHook order job acts runs done.work.sends) done.work.sends
+  hook_left end.Done way m = hangs m (λ e. cc e) (switched_where_done (finish_of t) (m.whole refl).0)
   hook_left end.SinkFault way m = hangs m (λ e. cc e) (rw (m.reported refl) (λ f e. cc e, λ f e. cc e))
   hook_left end.OutOfMemory way m = hangs m (λ e. cc e) (rw (m.starved refl) (λ f e. cc e, λ f e. cc e))
   hook_left end.LinkFault way m = tt
@@ -89,7 +97,7 @@ module _ (order : Order) (job : AnswerJob) (t : AnswerTrace) (runs : List ChildR
   hook_left (end.BadReply header first) way m = hangs m (λ e. cc e)
   hook_left end.EventFlood way m = hangs m (λ e. cc e)
   hook_left (end.Refused code value) way m = λ puts_on.
-      elim (refused_by t.finish puts_on) [
+      elim (refused_by (finish_of t) puts_on) [
         | inl switched ↦ inl (hangs m (λ e. cc e) switched)
         | inr off ↦ inr (subst (λ l. StopsAtOffHook order job acts runs l) (all_acted m (λ e. cc e)).0 (k.stops off.0 off.1))
       ]
@@ -102,17 +110,26 @@ module _ (order : Order) (job : AnswerJob) (t : AnswerTrace) (runs : List ChildR
       all = k.all ∙ ap (λ (d : MachineDeeds). both_works d.work k.undone) m.all ∙ works_on done.work m.undone.work k.undone;
       whole = λ is.
           let w = m.whole (ap is_from_outside is) in
-          ap₂ both_works (ap (λ (d : MachineDeeds). d.work) w.1) (k.whole (switched_where_done t.finish (sym is ∙ w.0)));
+          ap₂ both_works (ap (λ (d : MachineDeeds). d.work) w.1) (k.whole (switched_where_done (finish_of t) (sym is ∙ w.0)));
     }
 
     -- it ended as its trace does, unless something from outside ended it
-    by_cause : {A : Type 0} → (is_from_outside how ≡ true → A) → (how ≡ machine_end t.finish → A) → A
+    by_cause : {A : Type 0} → (is_from_outside how ≡ true → A) → (how ≡ machine_end (finish_of t) → A) → A
     by_cause {A} outside inside = elim (is_from_outside how) as (λ b. is_from_outside how ≡ b → A) [ true ↦ λ outer. outside outer | false ↦ λ inner. inside (m.whole inner).0 ] refl
+
+-- how the machine ends by what came of writing the line
+abbrev pub put_end : Put → AnswerEnd
+put_end puts.Done = end.Done
+put_end puts.Failed = end.SinkFault
+
+line_of_put : (put : Put) → is_of_line (put_end put) ≡ true
+line_of_put puts.Done = refl
+line_of_put puts.Failed = refl
 
 -- the line was written, or a part of it
 module _ (tally : Tally) (a : ToCome) (s : Seen) (held : Option (List ℕ)) where
   abbrev Written : AnswerEnd → Type 0
-  Written how = (front : List ℕ) × MatchesAnswer (trace_of (writes_tally tally a)) how (deeds_of_work (writing front)) × Added s (writing front) (record s { held = held })
+  Written how = (front : List ℕ) × MatchesAnswer (writes_tally tally a) how (deeds_of_work (writing front)) × Added s (writing front) (record s { held = held })
 
   writes : (how : AnswerEnd) (p : AppendedPrefix s.held (tally_text tally) held) → (is_from_outside how ≡ false → (how ≡ end.Done) × (p.rest ≡ [])) → how ≢ end.OutOfMemory → Written how
   writes how p only other = (
@@ -128,15 +145,18 @@ module _ (tally : Tally) (a : ToCome) (s : Seen) (held : Option (List ℕ)) wher
     record { link = appended_none s.sent; children = appended_none s.acts; sink = p.appended },
   )
 
-  written : (how : AnswerEnd) → WritesTo (tally_text tally) how s.held held → Written how
-  written end.Done wrote = writes end.Done (record { front = tally_text tally; rest = []; whole = sym (append-nil (tally_text tally)); appended = wrote }) (λ inner. (refl, refl)) (λ e. cc e)
-  written end.SinkFault wrote = writes end.SinkFault wrote (λ inner. cc inner) (λ e. cc e)
-  written how wrote = absurd wrote
+  written : (put : Put) → Wrote put s.held (tally_text tally) held → Written (put_end put)
+  written puts.Done wrote = writes end.Done (record { front = tally_text tally; rest = []; whole = sym (append-nil (tally_text tally)); appended = wrote }) (λ inner. (refl, refl)) (λ e. cc e)
+  written puts.Failed wrote = writes end.SinkFault wrote (λ inner. cc inner) (λ e. cc e)
+
+-- a machine by whether its device exists, and has a line
+abbrev answers_on : AnswerJob → Option Bool → List DeviceInfo → MachinePart (Unit {0})
+answers_on job line devices = option_map_or (λ finish. stops finish) (missing job line (length devices)) (goes_on doing (attends_all job) writes_tally)
 
 -- a machine on a line, by how it came through its calls
 module _ (job : AnswerJob) (devices : List DeviceInfo) (some : 1 ≤ job.calls) (line : HasLine job devices) where
-  abbrev line_trace : ToCome → AnswerTrace
-  line_trace a = trace_of (goes_on doing (attends_all job) writes_tally a)
+  abbrev line_trace : ToCome → MachineTrace
+  line_trace a = goes_on doing (attends_all job) writes_tally a
 
   -- it ran as its trace
   ended_ran : (w : ClientState) (runs : List ChildRun) {how : AnswerEnd} {s s' : Seen} (done : MachineDeeds) → is_of_line how ≡ true → MatchesAnswer (line_trace (record { wire = w; runs = runs })) how done → Added s done.work s' → AnswerRan job devices w how s s'
@@ -150,56 +170,54 @@ module _ (job : AnswerJob) (devices : List DeviceInfo) (some : 1 ≤ job.calls) 
         followed = m;
         answered = λ _. kept_acts w.order job t runs k done how m;
         hung_up = hook_left w.order job t runs k done how way m;
-        starves = λ is. by_cause w.order job t runs k done how m (λ outer. inr outer) (λ ends. inl (ends ∙ ap machine_end is));
-        complete = λ _ served enough. by_cause w.order job t runs k done how m (λ outer. inr (inr outer)) (λ ends. by_finish t.finish how ends way served enough);
+        complete = λ _ served enough. by_cause w.order job t runs k done how m (λ outer. inr (inr outer)) (λ ends. by_finish (finish_of t) how ends way served enough);
       } in
-      record { runs = runs; ran = subst (λ (x : AnswerTrace). RanAs w.order job devices x runs how s s') (sym (ap (λ (x : Option Bool). trace_of (if_line job x (length devices) a)) line)) ran }
+      record { runs = runs; ran = subst (λ (x : MachineTrace). RanAs w.order job devices x runs how s s') (sym (ap (λ (x : Option Bool). answers_on job x devices a) line)) ran }
 
-  module _ {left left' : Option (List ℕ)} {client client' : List ℕ → ClientState} {sent sent' : Option (List ℕ)} {acts acts' : Option (List Told)} {held : Option (List ℕ)} {input : List ℕ} (told : left ≡ Some input) {how : AnswerEnd} where
+  module _ {left left' : Option (List ℕ)} {client client' : List ℕ → ClientState} {sent sent' : Option (List ℕ)} {acts acts' : Option (List Told)} {held : Option (List ℕ)} {input : List ℕ} (told : left ≡ Some input) where
     -- it ended within them
-    pub stopped_ran : is_of_calls how ≡ true → Went {X = Tally} (attends_all job) (Err how) (stand left client sent acts held) (stand left' client' sent' acts' held) → AnswerRan job devices (client input) how (seen_as sent acts held) (seen_as sent' acts' held)
+    pub stopped_ran : {how : AnswerEnd} → is_of_calls how ≡ true → Went {X = Tally} (attends_all job) (Err how) (stand left client sent acts held) (stand left' client' sent' acts' held) → AnswerRan job devices (client input) how (seen_as sent acts held) (seen_as sent' acts' held)
     unfolding goes_on
-    stopped_ran way w =
+    stopped_ran {how} way w =
         let a : ToCome = record { wire = client input; runs = w.runs [] } in
         let c = (w.goes []).came a (input, told, refl) in
         ended_ran (client input) (w.runs []) c.0 (line_of_calls how way) (stopped_matches (attends_all job a) (λ y. writes_tally y.0 y.1) how c.0 way c.1) c.2
 
     -- it took them all, and wrote the line, or a part of it
-    pub reported_ran : {tally : Tally} {held' : Option (List ℕ)} → Went (attends_all job) (Ok tally) (stand left client sent acts held) (stand left' client' sent' acts' held) → is_of_line how ≡ true → WritesTo (tally_text tally) how held held' →
-        AnswerRan job devices (client input) how (seen_as sent acts held) (seen_as sent' acts' held')
+    pub reported_ran : {tally : Tally} {held' : Option (List ℕ)} (put : Put) → Went (attends_all job) (Ok tally) (stand left client sent acts held) (stand left' client' sent' acts' held) → Wrote put held (tally_text tally) held' →
+        AnswerRan job devices (client input) (put_end put) (seen_as sent acts held) (seen_as sent' acts' held')
     unfolding goes_on
-    reported_ran {tally} {held'} w way wrote =
+    reported_ran {tally} {held'} put w wrote =
         let a : ToCome = record { wire = client input; runs = w.runs [] } in
         let c = (w.goes []).came a (input, told, refl) in
-        let t = written tally c.0 (seen_as sent' acts' held) held' how wrote in
-        let whole = λ (o : MachineOutcome Tally). trace_of (followed doing o.did o.end (λ y. writes_tally y.0 y.1)) in
-        ended_ran (client input) (w.runs []) (doing.joined c.2 (deeds_of_work (writing t.0))) way (matches_after c.2 (ap whole c.3) t.1) (added_on c.4 t.2)
+        let t = written tally c.0 (seen_as sent' acts' held) held' put wrote in
+        let whole = λ (o : MachineOutcome Tally). followed doing o.did o.end (λ y. writes_tally y.0 y.1) in
+        ended_ran (client input) (w.runs []) (doing.joined c.2 (deeds_of_work (writing t.0))) (line_of_put put) (matches_after c.2 (ap whole c.3) t.1) (added_on c.4 t.2)
 
 -- a machine whose device is missing, or has no line
 module _ (job : AnswerJob) (devices : List DeviceInfo) (w : ClientState) (s : Seen) (none : HasLine job devices → ⊥) where
-  lacking_by : (finish : AnswerFinish) → machine_end finish ≢ end.OutOfMemory → machine_end finish ≢ end.SinkFault → finish ≢ child_starved → ((hung_up refused_off : Type 0) → LeavesHook (machine_end finish) finish hung_up refused_off []) →
-      RanAs w.order job devices (trace_of (stops finish (record { wire = w; runs = [] }))) [] (machine_end finish) s s
-  lacking_by finish fed wrote starved untouched = record {
+  lacking_by : (finish : AnswerFinish) → machine_end finish ≢ end.OutOfMemory → machine_end finish ≢ end.SinkFault → ((hung_up refused_off : Type 0) → LeavesHook (machine_end finish) finish hung_up refused_off []) →
+      RanAs w.order job devices (stops finish (record { wire = w; runs = [] })) [] (machine_end finish) s s
+  lacking_by finish fed wrote untouched = record {
     done = doing.nothing;
     added = added_none s;
     followed = record { undone = doing.nothing; all = refl; whole = λ inner. (refl, refl); acted = λ other. (refl, refl); starved = λ e. absurd (fed e); reported = λ e. absurd (wrote e) };
     answered = λ l. absurd (none l);
     hung_up = untouched _ _;
-    starves = λ e. absurd (starved e);
     complete = λ l. absurd (none l);
   }
 
-lacking_at : (job : AnswerJob) (devices : List DeviceInfo) (w : ClientState) {how : AnswerEnd} (s : Seen) (line : Option Bool) → line_at job devices ≡ line → line_or_end job line (length devices) ≡ Err how →
-    RanAs w.order job devices (trace_of (if_line job line (length devices) (record { wire = w; runs = [] }))) [] how s s
+lacking_at : (job : AnswerJob) (devices : List DeviceInfo) (w : ClientState) {how : AnswerEnd} (s : Seen) (line : Option Bool) → line_at job devices ≡ line → option_map machine_end (missing job line (length devices)) ≡ Some how →
+    RanAs w.order job devices (answers_on job line devices (record { wire = w; runs = [] })) [] how s s
 lacking_at job devices w s (Some true) at is = cc is
 lacking_at job devices w {how} s (Some false) at is =
     let same : how ≡ end.NoLine job.device = cc in
-    rw same (lacking_by job devices w s (λ l. (let bad : Some false ≡ Some true = sym at ∙ l in cc bad)) (line_missing job.device) (λ e. cc e) (λ e. cc e) (λ e. cc e) (λ _ _. refl))
+    rw same (lacking_by job devices w s (λ l. (let bad : Some false ≡ Some true = sym at ∙ l in cc bad)) (line_missing job.device) (λ e. cc e) (λ e. cc e) (λ _ _. refl))
 lacking_at job devices w {how} s None at is =
     let same : how ≡ end.NoDevice (length devices) = cc in
-    rw same (lacking_by job devices w s (λ l. (let bad : None ≡ Some true = sym at ∙ l in cc bad)) (device_missing (length devices)) (λ e. cc e) (λ e. cc e) (λ e. cc e) (λ _ _. refl))
+    rw same (lacking_by job devices w s (λ l. (let bad : None ≡ Some true = sym at ∙ l in cc bad)) (device_missing (length devices)) (λ e. cc e) (λ e. cc e) (λ _ _. refl))
 
-pub lacking_ran : (job : AnswerJob) (devices : List DeviceInfo) (w : ClientState) {how : AnswerEnd} {s : Seen} → line_or_end job (line_at job devices) (length devices) ≡ Err how → AnswerRan job devices w how s s
+pub lacking_ran : (job : AnswerJob) (devices : List DeviceInfo) (w : ClientState) {how : AnswerEnd} {s : Seen} → option_map machine_end (missing job (line_at job devices) (length devices)) ≡ Some how → AnswerRan job devices w how s s
 lacking_ran job devices w {s} is = record { runs = []; ran = lacking_at job devices w s (line_at job devices) refl is }
 
 -- a device with a number past the last does not exist
@@ -212,13 +230,17 @@ past_last job devices = (
   λ past. ap (option_map (λ (device : DeviceInfo). device.line)) (slice_get_past devices job.device past),
 )
 
-missing_at : (job : AnswerJob) (line : Option Bool) (devices n : ℕ) (how : AnswerEnd) → line_or_end job line devices ≡ Err how → (how ≡ end.NoDevice n) ↔ ((n ≡ devices) × (line ≡ None))
+missing_at : (job : AnswerJob) (line : Option Bool) (devices n : ℕ) (how : AnswerEnd) → option_map machine_end (missing job line devices) ≡ Some how → (how ≡ end.NoDevice n) ↔ ((n ≡ devices) × (line ≡ None))
 missing_at job (Some true) devices n how is = cc is
 missing_at job (Some false) devices n how is = (λ e. cc, λ r. cc)
 missing_at job None devices n how is = (λ e. (cc, refl), λ r. cc)
 
+-- a machine ends with NoDevice exactly if its device number is not below the number of devices, which the end carries
+abbrev pub LacksItsDevice : AnswerJob → List DeviceInfo → AnswerEnd → Type 0
+LacksItsDevice job devices how = (n : ℕ) → (how ≡ end.NoDevice n) ↔ ((n ≡ length devices) × (length devices ≤ job.device))
+
 module _ (job : AnswerJob) (devices : List DeviceInfo) (how : AnswerEnd) where
-  pub lacks_device : line_or_end job (line_at job devices) (length devices) ≡ Err how → LacksItsDevice job devices how
+  pub lacks_device : option_map machine_end (missing job (line_at job devices) (length devices)) ≡ Some how → LacksItsDevice job devices how
   lacks_device is n =
       let missing = missing_at job (line_at job devices) (length devices) n how is in
       let past = past_last job devices in
@@ -227,7 +249,7 @@ module _ (job : AnswerJob) (devices : List DeviceInfo) (how : AnswerEnd) where
   pub has_device : HasLine job devices → is_of_line how ≡ true → LacksItsDevice job devices how
   has_device line way n = (λ e. absurd (is_other is_of_line way refl e), λ r. (let bad : Some true ≡ None = sym line ∙ (past_last job devices).1 r.1 in cc bad))
 
-pub line_there : (job : AnswerJob) (line : Option Bool) (devices : ℕ) → line_or_end job line devices ≡ Ok tt → line ≡ Some true
+pub line_there : (job : AnswerJob) (line : Option Bool) (devices : ℕ) → option_map machine_end (missing job line devices) ≡ None → line ≡ Some true
 line_there job (Some true) devices is = refl
 line_there job (Some false) devices is = cc is
 line_there job None devices is = cc is

@@ -20,12 +20,11 @@ use Rattle.af_toolkit.proofs.TracePartLemmas.{client_begun, setup_known}
 use Rattle.af_answer.specs.declared.end.AnswerEnd.{AnswerEnd}
 use Rattle.af_answer.specs.declared.end.AnswerEnd.TheVariants as end
 use Rattle.af_answer.specs.declared.job.AnswerJob.{AnswerJob}
-use Rattle.af_answer.specs.AnswerTrace.{MachineOutcome, ToCome, answer_trace, answers, connection_end, deeds_of_work, doing, by_answer, met_fault, sending, trace_of}
-use Rattle.af_answer.specs.AnswerParts.{Went, seen_as, stand}
+use Rattle.af_answer.specs.AnswerTrace.{MachineOutcome, ToCome, answers, connection_end, deeds_of_work, doing, by_answer, met_fault, sending}
+use Rattle.af_answer.specs.AnswerParts.{Went, is_of_calls, seen_as, stand}
 use Rattle.af_answer.specs.Answered.{AnswerRan, RanAs}
 use Rattle.af_answer.specs.AnswerWords.{AnswerWords, answer_words, words_of_job}
 use Rattle.af_answer.specs.AnswerRun.{Attended, LinkRan, RanAsked, RanOver, Surroundings, sets_up, whole_trace}
-use Rattle.af_answer.specs.Outcomes.{is_of_calls}
 use Rattle.af_answer.proofs.AnswerPartLemmas.{added_on, matches_after, stopped_matches}
 use Rattle.af_answer.proofs.AnswerStepLemmas.{exchange_went}
 
@@ -67,12 +66,12 @@ set_up_ran {left} {sent} {faults} job {input} {far} conn {how} {s'} {a} {a'} {h}
     let k = setup_known Big left sent faults far conn.link conn.ring input (Ok conn.devices) is told (λ e. cc e) in
     let r = answered k.0 k.1 in
     let place : client_of conn k.0 ≡ client_after_setup Big input = client_begun Big conn k.0 same_order first ∙ k.3 in
-    let ran = subst (λ (v : ClientState). RanAs v.order job conn.devices (answer_trace job conn.devices (record { wire = v; runs = r.runs })) r.runs how (seen_as (sent conn.link) a h) (seen_as s' a' h')) place r.ran in
+    let ran = subst (λ (v : ClientState). RanAs v.order job conn.devices (answers job conn.devices (record { wire = v; runs = r.runs })) r.runs how (seen_as (sent conn.link) a h) (seen_as s' a' h')) place r.ran in
     let set : Appended (sent far) (setup_bytes Big) (sent conn.link) = is.sends.whole (λ e. cc e) in
     let setup = deeds_of_work (sending (setup_bytes Big)) in
     let whole = λ (x : Result (List DeviceInfo) ConnFault).
     let o : MachineOutcome (List DeviceInfo) = called setup (by_answer met_fault x) (record { wire = client_after_setup Big input; runs = r.runs }) in
-    trace_of (followed doing o.did o.end (λ y. answers job y.0 y.1)) in
+    followed doing o.did o.end (λ y. answers job y.0 y.1) in
     record {
       runs = r.runs;
       done = doing.joined setup ran.done;

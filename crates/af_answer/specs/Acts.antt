@@ -1,5 +1,5 @@
 -- What an answering machine does, by the events that it gets and the ends of its children.
-use Rattle.std.specs.Prelude.{ℕ, ◌+◌, ◌==◌, if◌then◌else◌, Bool, true, false, List, [], ◌∷◌, drop, get_or}
+use Rattle.std.specs.Prelude.{ℕ, ◌+◌, ◌==◌, ◌&&◌, if◌then◌else◌, Bool, true, false, List, [], ◌∷◌, drop, get_or}
 use Rattle.std.specs.List.{fold}
 use Rattle.af_wire.specs.declared.event.Event.{Event}
 use Rattle.af_wire.specs.declared.event.EventKind.{EventKind}
@@ -18,16 +18,15 @@ pub data MachineAct : Type 0 where
   on_hook : MachineAct
   write_tally : Tally → MachineAct
 
--- how often it has rung after an event of the device: a ring that begins counts, and a hook that is taken off ends the row
-abbrev pub ring_count_after : EventKind → (value rings : ℕ) → ℕ
-ring_count_after kind.Ring value rings = if value == 1 then rings + 1 else rings
-ring_count_after kind.Hook value rings = if value == 1 then 0 else rings
-ring_count_after kind.Current value rings = rings
-ring_count_after kind.Digit value rings = rings
+-- how often it has rung after an event of value 1: a ring that begins counts, and a hook that is taken off ends the row
+abbrev pub ring_count_after : EventKind → ℕ → ℕ
+ring_count_after kind.Ring rings = rings + 1
+ring_count_after kind.Hook rings = 0
+ring_count_after _ rings = rings
 
--- an event of another device does nothing
+-- any other event, or one of another device, does nothing
 abbrev pub rings_after : AnswerJob → ℕ → Event → ℕ
-rings_after job rings e = if e.device == job.device then ring_count_after e.kind e.value rings else rings
+rings_after job rings e = if e.device == job.device && e.value == 1 then ring_count_after e.kind rings else rings
 
 -- The acts after a greeting, by its end: after a good one the message is recorded, and then the hook is put on. What follows goes
 -- by how the call ended, which is as its last child did, and by the ends of the children to come. A child whose end is not stated
@@ -35,10 +34,6 @@ rings_after job rings e = if e.device == job.device then ring_count_after e.kind
 abbrev pub acts_after_greeting : ChildEnd → List ChildEnd → (ChildEnd → List ChildEnd → List MachineAct) → List MachineAct
 acts_after_greeting end.Good ends next = record_message ∷ on_hook ∷ next (get_or ends 0 end.Bad) (drop 1 ends)
 acts_after_greeting greeting ends next = on_hook ∷ next greeting ends
-
--- the acts of a call, by the ends of the children to come
-abbrev pub acts_of_call : List ChildEnd → (ChildEnd → List ChildEnd → List MachineAct) → List MachineAct
-acts_of_call ends next = off_hook ∷ greet ∷ acts_after_greeting (get_or ends 0 end.Bad) (drop 1 ends) next
 
 -- no call was answered yet
 abbrev pub no_calls : Tally
@@ -60,7 +55,7 @@ unfoldable pub acts_from : AnswerJob → (rings : ℕ) → Tally → List Event 
 acts_from job rings t [] ends = []
 acts_from job rings t (e ∷ events) ends =
     if rings_after job rings e == job.rings
-    then acts_of_call ends (λ how later.
+    then off_hook ∷ greet ∷ acts_after_greeting (get_or ends 0 end.Bad) (drop 1 ends) (λ how later.
     acts_after how job.calls (tally_after how t) (acts_from job 0 (tally_after how t) events later))
     else acts_from job (rings_after job rings e) t events ends
 

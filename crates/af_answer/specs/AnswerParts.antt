@@ -1,16 +1,15 @@
 -- How far a part of an answering machine came in its trace.
-use Rattle.std.specs.Prelude.{◌≡◌, ◌≢◌, ℕ, Bool, true, false, List, [], Result, Option, Some}
+use Rattle.std.specs.Prelude.{◌≡◌, ◌≢◌, ℕ, Bool, true, false, List, [], Result, Ok, Option, Some}
 use Rattle.af_dialogue.specs.Parts.{Goes, ProgramKind}
 use Rattle.af_io.specs.Observed.{Appended}
-use Rattle.af_io.specs.Flow.{AppendedPrefix}
 use Rattle.af_process.specs.Acts.{Told}
 use Rattle.af_lib.specs.Calls.{ConnState}
 use Rattle.af_toolkit.specs.Trace.{ClientState}
 use Rattle.af_toolkit.specs.Ends.{client_of}
 use Rattle.af_answer.specs.declared.end.AnswerEnd.{AnswerEnd}
 use Rattle.af_answer.specs.declared.end.AnswerEnd.TheVariants as end
-use Rattle.af_answer.specs.AnswerTrace.{AnswerFinish, AnswerTrace, MachineDeeds, MachinePart, ToCome, Work, all_answered}
-use Rattle.af_answer.specs.AnswerTrace.{child_starved, doing, machine_end}
+use Rattle.af_answer.specs.AnswerTrace.{AnswerFinish, MachineDeeds, MachinePart, MachineTrace, ToCome, Work, all_answered}
+use Rattle.af_answer.specs.AnswerTrace.{child_starved, doing, finish_of, machine_end}
 use Rattle.af_answer.specs.Children.{ChildRun}
 
 -- the ends that come from outside: neither the bytes of the link nor the children decide them
@@ -20,17 +19,36 @@ is_from_outside end.LinkFault = true
 is_from_outside end.SinkFault = true
 is_from_outside _ = false
 
+-- the ends of a machine within its calls: it sends requests, waits for events, and runs children
+abbrev pub is_of_calls : AnswerEnd → Bool
+is_of_calls end.LinkFault = true
+is_of_calls end.LinkEnded = true
+is_of_calls (end.Refused code value) = true
+is_of_calls (end.BadReply header first) = true
+is_of_calls end.EventFlood = true
+is_of_calls end.OutOfMemory = true
+is_of_calls _ = false
+
+-- all ends but those for bad arguments; on a connection, nothing is dialled either
+abbrev pub is_of_dial : AnswerEnd → Bool
+is_of_dial end.Usage = false
+is_of_dial _ = true
+
+abbrev pub is_of_answer : AnswerEnd → Bool
+is_of_answer end.DialFault = false
+is_of_answer how = is_of_dial how
+
 -- A machine ended and has done this: the first of what its trace has. If nothing from outside ended it, this is all of that, and
 -- the end is that of the trace.
-pub record MatchesAnswer (trace : AnswerTrace) (how : AnswerEnd) (done : MachineDeeds) : Type 0 where
+pub record MatchesAnswer (trace : MachineTrace) (how : AnswerEnd) (done : MachineDeeds) : Type 0 where
   pub undone : MachineDeeds
-  pub all : trace.deeds ≡ doing.joined done undone
-  pub whole : is_from_outside how ≡ false → (how ≡ machine_end trace.finish) × (undone ≡ doing.nothing)
+  pub all : trace.did ≡ doing.joined done undone
+  pub whole : is_from_outside how ≡ false → (how ≡ machine_end (finish_of trace)) × (undone ≡ doing.nothing)
   -- all was sent and all children were run, unless the link failed
   pub acted : how ≢ end.LinkFault → (undone.work.sends ≡ []) × (undone.work.told ≡ [])
   -- memory runs out only for a child, and the sink fails only where all calls were taken
-  pub starved : how ≡ end.OutOfMemory → trace.finish ≡ child_starved
-  pub reported : how ≡ end.SinkFault → trace.finish ≡ all_answered
+  pub starved : how ≡ end.OutOfMemory → finish_of trace ≡ child_starved
+  pub reported : how ≡ end.SinkFault → finish_of trace ≡ all_answered
 
 -- what is observable of a machine's work: what its link was sent, the acts of its children, and what its sink holds
 pub record Seen : Type 0 where
@@ -74,6 +92,11 @@ pub record Went {X : Type 0} (part : MachinePart X) (result : Result X AnswerEnd
   pub runs : (later : List ChildRun) → List ChildRun
   pub goes : (later : List ChildRun) → Goes answering part result (old (runs later)) (new later)
 
+-- A part that only runs children went so, and this is its value.
+abbrev pub RunsBy : {X : Type 0} → (acts acts' : Option (List Told)) → MachinePart X → X → Type 0
+RunsBy acts acts' part x = (left sent held : Option (List ℕ)) (client : List ℕ → ClientState) →
+    Went part (Ok x) (stand left client sent acts held) (stand left client sent acts' held)
+
 -- where a machine stands on a connection
 abbrev pub stand_on : {L : Type 0} → (left sent : L → Option (List ℕ)) → ConnState L → (acts : Option (List Told)) →
     (held : Option (List ℕ)) → List ChildRun → Stand
@@ -84,9 +107,3 @@ abbrev pub GoesBy : {L X : Type 0} → (left sent : L → Option (List ℕ)) →
     (acts acts' : Option (List Told)) → MachinePart X → Result X AnswerEnd → Type 0
 GoesBy left sent old new acts acts' part result = (held : Option (List ℕ)) →
     Went part result (stand_on left sent old acts held) (stand_on left sent new acts' held)
-
--- a text was written whole, or a prefix of it where the sink failed
-abbrev pub WritesTo : List ℕ → AnswerEnd → (held held' : Option (List ℕ)) → Type 0
-WritesTo text end.Done held held' = Appended held text held'
-WritesTo text end.SinkFault held held' = AppendedPrefix held text held'
-WritesTo text _ held held' = ⊥

@@ -1,6 +1,5 @@
 -- An answering machine by its words: its server is dialled, the link set up in Big order, and its job done.
-use Rattle.std.specs.Prelude.{◌≡◌, ◌⊎◌, ℕ, List, [], ◌∷◌, Ok, Option, Some}
-use Rattle.clap.specs.Words.{Text}
+use Rattle.std.specs.Prelude.{◌≡◌, ◌⊎◌, ℕ, List, ◌∷◌, Ok, Option, Some}
 use Rattle.af_dialogue.specs.Parts.{goes_on}
 use Rattle.af_io.specs.Observed.{Appended}
 use Rattle.af_io.specs.Flow.{AppendedPrefix}
@@ -14,8 +13,7 @@ use Rattle.af_answer.specs.declared.end.AnswerEnd.{AnswerEnd}
 use Rattle.af_answer.specs.declared.end.AnswerEnd.TheVariants as end
 use Rattle.af_answer.specs.declared.job.AnswerJob.{AnswerJob}
 use Rattle.af_answer.specs.Children.{ChildRun}
-use Rattle.af_answer.specs.AnswerTrace.{AnswerTrace, MachineDeeds, MachinePart, answer_trace, answers, doing, exchanges}
-use Rattle.af_answer.specs.AnswerTrace.{met_fault, trace_of}
+use Rattle.af_answer.specs.AnswerTrace.{MachineDeeds, MachinePart, MachineTrace, answers, doing, exchanges, met_fault}
 use Rattle.af_answer.specs.AnswerParts.{Added, MatchesAnswer, Seen, seen_as}
 use Rattle.af_answer.specs.Answered.{RanAs}
 use Rattle.af_answer.specs.AnswerWords.{AnswerWords, words_of_job}
@@ -25,16 +23,16 @@ abbrev pub sets_up : MachinePart (List DeviceInfo)
 sets_up = exchanges met_fault (λ w. setup_bytes Big) (λ w. setup_answer Big w.input) (λ w. client_after_setup Big w.input)
 
 -- the trace of a machine on a link that is set up first, by all bytes that the link gives and by how the children run
-unfoldable pub whole_trace : AnswerJob → List ℕ → List ChildRun → AnswerTrace
+unfoldable pub whole_trace : AnswerJob → List ℕ → List ChildRun → MachineTrace
 whole_trace job input runs =
-    trace_of (goes_on doing sets_up (answers job) (record { wire = client_before_setup Big input; runs = runs }))
+    goes_on doing sets_up (answers job) (record { wire = client_before_setup Big input; runs = runs })
 
 -- a link was set up, and then the machine ran on it
 pub record Attended (job : AnswerJob) (devices : List DeviceInfo) (input : List ℕ) (runs : List ChildRun) (how : AnswerEnd)
     (before after : Seen) : Type 0 where
   pub between : Option (List ℕ)
   pub set : Appended before.sent (setup_bytes Big) between
-  pub ran : RanAs Big job devices (answer_trace job devices (record { wire = client_after_setup Big input; runs = runs })) runs
+  pub ran : RanAs Big job devices (answers job devices (record { wire = client_after_setup Big input; runs = runs })) runs
       how (record before { sent = between }) after
 
 -- What came of a link that gives these bytes. What was done is that of the trace, and so is the end, unless something from
@@ -68,10 +66,6 @@ pub record Surroundings : Type 0 where
 abbrev pub surroundings : Option (List ToldLink) → Option (List (List ℕ)) → Option (List Told) → Option (List ℕ) → Surroundings
 surroundings links back acts held = record { links = links; back = back; acts = acts; held = held }
 
--- the server could not be dialled, or there was no memory for that
-abbrev pub NotDialled : AnswerEnd → (before after : Surroundings) → Type 0
-NotDialled how before after = ((how ≡ end.DialFault) ⊎ (how ≡ end.OutOfMemory)) × (after ≡ before)
-
 -- The first link was dialled, a machine with a job of these arguments ran over it, and it was given back, with all that it had
 -- been sent.
 pub record RanAsked (asked : AnswerWords) (how : AnswerEnd) (before after : Surroundings) : Type 0 where
@@ -85,16 +79,7 @@ pub record RanAsked (asked : AnswerWords) (how : AnswerEnd) (before after : Surr
   pub given_back : AppendedBack before.back sent after.back
   pub ran : RanOver job first.gives how (seen_as (Some first.sent) before.acts before.held) (seen_as sent after.acts after.held)
 
--- This came of it, if a dial, a spawner and a sink are observable.
-abbrev pub RunsAsked : {D S K : Type 0} → (links : D → Option (List ToldLink)) → (back : D → Option (List (List ℕ))) →
-    (acts : S → Option (List Told)) → (held : K → Option (List ℕ)) →
-    AnswerWords → AnswerEnd → (dial dial' : D) → (spawner spawner' : S) → (sink sink' : K) → Type 0
-RunsAsked links back acts held asked how dial dial' spawner spawner' sink sink' =
-    (told : List ToldLink) → links dial ≡ Some told →
-    let before = surroundings (links dial) (back dial) (acts spawner) (held sink) in
-    let after = surroundings (links dial') (back dial') (acts spawner') (held sink') in
-    NotDialled how before after ⊎ RanAsked asked how before after
-
--- the server was dialled, if the machine came to that: only out of memory ends it before
-abbrev pub AskedForServer : Text → AnswerEnd → (asked asked' : Option (List Text)) → Type 0
-AskedForServer server how asked asked' = IsIdle how asked asked' ⊎ Appended asked (server ∷ []) asked'
+-- This came of it, if a dial is observable: nothing, if the server could not be dialled, or there was no memory for that.
+abbrev pub RunsAsked : AnswerWords → AnswerEnd → (before after : Surroundings) → Type 0
+RunsAsked asked how before after = (told : List ToldLink) → before.links ≡ Some told →
+    (((how ≡ end.DialFault) ⊎ (how ≡ end.OutOfMemory)) × (after ≡ before)) ⊎ RanAsked asked how before after

@@ -2,6 +2,7 @@
 -- writes, and why it ends. It goes by what the link gives and by how the children run.
 use Rattle.std.specs.Prelude.{ℕ, zero, suc, ◌==◌, if◌then◌else◌, Bool, true, false, List, [], ◌∷◌, ◌++◌, codes, decimal, drop}
 use Rattle.std.specs.Prelude.{get_or, length, option_map, slice_get, Result, Ok, Err, Option, None, Some, is_some, unwrap_or}
+use Rattle.std.specs.Option.{option_map_or}
 use Rattle.af_wire.specs.declared.event.Event.{Event}
 use Rattle.af_request.specs.declared.reply.DeviceInfo.{DeviceInfo}
 use Rattle.af_request.specs.Asked.{Asked, hook_switch, select_events}
@@ -85,6 +86,10 @@ MachinePart X = Part ToCome MachineDeeds AnswerFinish X
 
 abbrev pub MachineOutcome : Type 0 → Type 0
 MachineOutcome X = Outcome MachineDeeds (X × ToCome) AnswerFinish
+
+-- the trace of a machine: what it does, and how it ends
+abbrev pub MachineTrace : Type 0
+MachineTrace = MachineOutcome (Unit {0})
 
 -- nothing more is done
 abbrev pub stops : {X : Type 0} → AnswerFinish → MachinePart X
@@ -189,32 +194,21 @@ writes_tally t a = called (deeds_of_work (writing (tally_text t))) (Ok tt) a
 abbrev pub line_at : AnswerJob → List DeviceInfo → Option Bool
 line_at job devices = option_map (λ (device : DeviceInfo). device.line) (slice_get devices job.device)
 
--- the calls of a line are taken, and their numbers written
-abbrev pub if_line : AnswerJob → Option Bool → ℕ → MachinePart (Unit {0})
-if_line job (Some true) devices = goes_on doing (attends_all job) writes_tally
-if_line job (Some false) devices = stops (line_missing job.device)
-if_line job None devices = stops (device_missing devices)
+-- what is missing for a machine: the line of its device, or the device, of so many
+abbrev pub missing : AnswerJob → Option Bool → (devices : ℕ) → Option AnswerFinish
+missing job (Some true) devices = None
+missing job (Some false) devices = Some (line_missing job.device)
+missing job None devices = Some (device_missing devices)
 
--- a machine on a link that is set up, by the devices of the server
+-- a machine on a link that is set up, by the devices of the server: if nothing is missing, it takes its calls and writes their
+-- numbers
 abbrev pub answers : AnswerJob → List DeviceInfo → MachinePart (Unit {0})
-answers job devices = if_line job (line_at job devices) (length devices)
+answers job devices = option_map_or (λ finish. stops finish) (missing job (line_at job devices) (length devices))
+    (goes_on doing (attends_all job) writes_tally)
 
--- what a machine does, and why it ends
-pub record AnswerTrace : Type 0 where
-  pub deeds : MachineDeeds
-  pub finish : AnswerFinish
-
--- a machine that came to the end of its parts has answered all calls
-abbrev pub finish_of : Result (Unit {0} × ToCome) AnswerFinish → AnswerFinish
-finish_of (Ok y) = all_answered
-finish_of (Err finish) = finish
-
-abbrev pub trace_of : MachineOutcome (Unit {0}) → AnswerTrace
-trace_of o = record { deeds = o.did; finish = finish_of o.end }
-
--- the trace of an answering machine, by the devices of the server and what is to come
-abbrev pub answer_trace : AnswerJob → List DeviceInfo → ToCome → AnswerTrace
-answer_trace job devices a = trace_of (answers job devices a)
+-- why a machine ends: one that came to the end of its parts has answered all calls
+abbrev pub finish_of : MachineTrace → AnswerFinish
+finish_of trace = elim (trace.end) [ Ok y ↦ all_answered | Err finish ↦ finish ]
 
 -- how a machine ends at a fault of its connection
 abbrev pub connection_end : ConnFault → AnswerEnd

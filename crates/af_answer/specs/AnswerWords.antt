@@ -1,13 +1,11 @@
 -- The arguments of an answering machine: they are one simple command of clap, and they ask what its matches, which clap defines,
 -- state.
-use Rattle.std.specs.Prelude.{ℕ, ◌-◌, ◌&&◌, Bool, false, nat_le, List, [], ◌∷◌, length, Option, Some, None, codes, is_some}
-use Rattle.std.specs.Prelude.{option_and_then, option_map, if◌then◌else◌}
+use Rattle.std.specs.Prelude.{ℕ, ◌&&◌, if◌then◌else◌, Bool, false, List, [], ◌∷◌, ◌++◌, Option, Some, None, codes, is_some}
 use Rattle.std.specs.Str.{bytes_eq}
-use Rattle.af_limits.specs.Limits.{most_devices}
-use Rattle.clap.specs.Words.{App, Row, Text, first_of, matches_of, new_app, takes}
+use Rattle.clap.specs.Words.{App, Row, Text, matches_of, new_app, takes}
 use Rattle.af_cli.specs.declared.command.ArgumentKind.TheVariants.{Place, NeededOption, FreeOption}
-use Rattle.af_cli.specs.Numbers.{number_in}
-use Rattle.af_cli.specs.Words.{address_at, number_at, rule_at, with_rules}
+use Rattle.af_cli.specs.Numbers.{◌>>=◌}
+use Rattle.af_cli.specs.Words.{address_at, device_at, number_at, rule_at, rules_of, stated_number_at, text_at, with_rules}
 use Rattle.af_answer.specs.declared.job.AnswerJob.{AnswerJob}
 use Rattle.af_answer.specs.declared.options.AnswerCall.{AnswerCall}
 
@@ -38,34 +36,19 @@ words_of_call call = words_of_job call.server.now call.job
 -- the command of the answering machine
 unfoldable pub answer_app : App
 answer_app = with_rules (new_app (codes "answer")) (
-    rule_at (codes "SERVER") Place ∷
-    rule_at (codes "device") FreeOption ∷
-    rule_at (codes "rings") FreeOption ∷
-    rule_at (codes "calls") NeededOption ∷
-    rule_at (codes "greeting") NeededOption ∷
-    rule_at (codes "message") NeededOption ∷ [])
+    rule_at (codes "SERVER") Place ∷ rules_of FreeOption (codes "device" ∷ codes "rings" ∷ []) ++
+    rules_of NeededOption (codes "calls" ∷ codes "greeting" ∷ codes "message" ∷ []))
 
--- a text for a shell: 1 to 200 bytes
-abbrev pub shell_text_at : Text → List Row → Option Text
-shell_text_at id rows =
-    option_and_then (λ text. if nat_le 1 (length text) && nat_le (length text) 200 then Some text else None) (first_of id rows)
-
--- what the matches of the command ask, if each value is in its range
+-- what the matches of the command ask, if each value is in its range; the texts for a shell have 1 to 200 bytes
 abbrev pub words_in : List Row → Option AnswerWords
-words_in rows =
-    option_and_then (λ server.
-    option_and_then (λ device.
-    option_and_then (λ rings.
-    option_and_then (λ calls.
-    option_and_then (λ greeting.
-    option_map (λ message.
-    record { server = server; device = device; rings = rings; calls = calls; greeting = greeting; message = message })
-    (shell_text_at (codes "message") rows))
-    (shell_text_at (codes "greeting") rows))
-    (option_and_then (number_in 1 1000) (first_of (codes "calls") rows)))
-    (number_at (codes "rings") 2 1 20 rows))
-    (number_at (codes "device") 0 0 (most_devices - 1) rows))
-    (address_at (codes "SERVER") rows)
+words_in rows = do
+  server ← address_at (codes "SERVER") rows
+  device ← device_at (codes "device") rows
+  rings ← number_at (codes "rings") 2 1 20 rows
+  calls ← stated_number_at (codes "calls") 1 1000 rows
+  greeting ← text_at (codes "greeting") 200 rows
+  message ← text_at (codes "message") 200 rows
+  Some (record { server = server; device = device; rings = rings; calls = calls; greeting = greeting; message = message })
 
 -- the first word names the machine
 abbrev pub names_answer : List Text → Bool

@@ -1,24 +1,21 @@
 -- What an answering machine has done at its end.
-use Rattle.std.specs.Prelude.{◌≡◌, ◌≢◌, ◌<◌, ◌≤◌, ◌↔◌, ◌⊎◌, ⊤, ℕ, Bool, true, false, List, [], ◌∷◌, ◌++◌, map, drop, length}
-use Rattle.std.specs.Prelude.{Result, Ok, Err, Option, None, Some}
+use Rattle.std.specs.Prelude.{◌≡◌, ◌≢◌, ◌<◌, ◌≤◌, ◌⊎◌, ⊤, ℕ, true, false, List, [], ◌∷◌, ◌++◌, map, drop, length}
+use Rattle.std.specs.Prelude.{Some}
 use Rattle.af_limits.specs.Limits.{most_devices}
 use Rattle.af_wire.specs.declared.order.Order.{Order}
-use Rattle.af_process.specs.Acts.{Told}
 use Rattle.af_lib.specs.declared.fault.ConnFault.{ConnFault}
-use Rattle.af_lib.specs.Calls.{ConnState}
 use Rattle.af_request.specs.Asked.{hook_switch, select_events}
 use Rattle.af_request.specs.Requests.{request_bytes}
 use Rattle.af_request.specs.declared.reply.DeviceInfo.{DeviceInfo}
 use Rattle.af_toolkit.specs.Trace.{ClientState}
-use Rattle.af_toolkit.specs.Ends.{client_of}
 use Rattle.af_answer.specs.declared.end.AnswerEnd.{AnswerEnd}
 use Rattle.af_answer.specs.declared.end.AnswerEnd.TheVariants as end
 use Rattle.af_answer.specs.declared.job.AnswerJob.{AnswerJob}
 use Rattle.af_answer.specs.Acts.{MachineAct, answer_acts, greet, leaves_off, off_hook, on_hook, record_message, write_tally}
-use Rattle.af_answer.specs.AnswerTrace.{AnswerFinish, AnswerTrace, MachineDeeds, Work, answer_trace, both_works, child_starved}
-use Rattle.af_answer.specs.AnswerTrace.{first_run, line_at, met_fault, no_work, off_hook_fault, on_hook_fault, rang_too_little}
+use Rattle.af_answer.specs.AnswerTrace.{AnswerFinish, MachineDeeds, MachineTrace, Work, answers, both_works, child_starved}
+use Rattle.af_answer.specs.AnswerTrace.{finish_of, first_run, line_at, met_fault, no_work, off_hook_fault, on_hook_fault, rang_too_little}
 use Rattle.af_answer.specs.AnswerTrace.{running, sending, tally_text, writing}
-use Rattle.af_answer.specs.AnswerParts.{Added, MatchesAnswer, Seen, is_from_outside, seen_as}
+use Rattle.af_answer.specs.AnswerParts.{Added, MatchesAnswer, Seen, is_from_outside}
 use Rattle.af_answer.specs.Children.{ChildRun, run_end, told_of_run, shell_words}
 
 -- the values of a job are in their ranges
@@ -107,11 +104,11 @@ LeavesHook end.LinkFault finish hung_up refused_off sends = ⊤
 LeavesHook how finish hung_up refused_off sends = sends ≡ []
 
 -- what the events that a machine got and the ends of its children ask for
-abbrev pub acts_asked : AnswerJob → AnswerTrace → List ChildRun → List MachineAct
-acts_asked job trace runs = answer_acts job trace.deeds.heard (map run_end runs)
+abbrev pub acts_asked : AnswerJob → MachineTrace → List ChildRun → List MachineAct
+acts_asked job trace runs = answer_acts job trace.did.heard (map run_end runs)
 
 -- A machine did what this trace has, in a byte order, with its children running in this way.
-pub record RanAs (order : Order) (job : AnswerJob) (devices : List DeviceInfo) (trace : AnswerTrace) (runs : List ChildRun)
+pub record RanAs (order : Order) (job : AnswerJob) (devices : List DeviceInfo) (trace : MachineTrace) (runs : List ChildRun)
     (how : AnswerEnd) (before after : Seen) : Type 0 where
   -- what was done
   pub done : MachineDeeds
@@ -121,40 +118,16 @@ pub record RanAs (order : Order) (job : AnswerJob) (devices : List DeviceInfo) (
   -- it is what was asked for
   pub answered : HasLine job devices → KeepsToActs order job (acts_asked job trace runs) runs how done.work
   -- the hook is left as this end has it
-  pub hung_up : LeavesHook how trace.finish
+  pub hung_up : LeavesHook how (finish_of trace)
       (HangsUp order job (acts_asked job trace runs) runs done.work)
       (StopsAtOffHook order job (acts_asked job trace runs) runs done.work.sends) done.work.sends
-  -- if memory ran out for a child, the machine ends so, and after that the hook was put on
-  pub starves : trace.finish ≡ child_starved → (how ≡ end.OutOfMemory) ⊎ (is_from_outside how ≡ true)
   -- If there is a line, each request gets its reply, and each call rings enough, then it is done, unless memory ran out for a
   -- child or something from outside ended it.
-  pub complete : HasLine job devices → IsReplied trace.finish → trace.finish ≢ rang_too_little →
-      (how ≡ end.Done) ⊎ (trace.finish ≡ child_starved) ⊎ (is_from_outside how ≡ true)
+  pub complete : HasLine job devices → IsReplied (finish_of trace) → finish_of trace ≢ rang_too_little →
+      (how ≡ end.Done) ⊎ (finish_of trace ≡ child_starved) ⊎ (is_from_outside how ≡ true)
 
 -- An answering machine ran, by what its link gives: its children ran in some way, and it did what its trace has for that.
 pub record AnswerRan (job : AnswerJob) (devices : List DeviceInfo) (w : ClientState) (how : AnswerEnd)
     (before after : Seen) : Type 0 where
   pub runs : List ChildRun
-  pub ran : RanAs w.order job devices (answer_trace job devices (record { wire = w; runs = runs })) runs how before after
-
--- the same over a connection whose link is observable
-abbrev pub RunsAnswer : {L S K : Type 0} → (left sent : L → Option (List ℕ)) → (acts : S → Option (List Told)) →
-    (held : K → Option (List ℕ)) →
-    AnswerJob → AnswerEnd → (conn conn' : ConnState L) → (spawner spawner' : S) → (sink sink' : K) → Type 0
-RunsAnswer left sent acts held job how conn conn' spawner spawner' sink sink' = (input : List ℕ) → left conn.link ≡ Some input →
-    AnswerRan job conn.devices (client_of conn input) how (seen_as (sent conn.link) (acts spawner) (held sink))
-    (seen_as (sent conn'.link) (acts spawner') (held sink'))
-
--- that there is a line, or else the end that says what is missing
-abbrev pub line_or_end : AnswerJob → Option Bool → ℕ → Result (Unit {0}) AnswerEnd
-line_or_end job (Some true) devices = Ok tt
-line_or_end job (Some false) devices = Err (end.NoLine job.device)
-line_or_end job None devices = Err (end.NoDevice devices)
-
--- a machine ends with NoDevice exactly if its device number is not below the number of devices, which the end carries
-abbrev pub LacksItsDevice : AnswerJob → List DeviceInfo → AnswerEnd → Type 0
-LacksItsDevice job devices how = (n : ℕ) → (how ≡ end.NoDevice n) ↔ ((n ≡ length devices) × (length devices ≤ job.device))
-
--- it ends with NoLine exactly if its device exists and has no line, and the end carries the number of the device
-abbrev pub LacksItsLine : AnswerJob → List DeviceInfo → AnswerEnd → Type 0
-LacksItsLine job devices how = (n : ℕ) → (how ≡ end.NoLine n) ↔ ((n ≡ job.device) × (line_at job devices ≡ Some false))
+  pub ran : RanAs w.order job devices (answers job devices (record { wire = w; runs = runs })) runs how before after

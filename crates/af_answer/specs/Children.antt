@@ -1,11 +1,9 @@
 -- How the children of an answering machine run, and what is told of them.
-use Rattle.std.specs.Prelude.{◌≡◌, ℕ, ℤ, pos, zero, Bool, true, false, List, [], ◌∷◌, codes, Option, Some}
-use Rattle.af_io.specs.Observed.{Appended}
+use Rattle.std.specs.Prelude.{ℕ, ℤ, pos, zero, Bool, true, false, List, [], ◌∷◌, codes, Option, Some}
 use Rattle.af_process.specs.declared.act.BeganGot.TheVariants as got
 use Rattle.af_process.specs.Acts.{Told, began, finished}
 use Rattle.af_answer.specs.declared.child.ChildEnd.{ChildEnd}
 use Rattle.af_answer.specs.declared.child.ChildEnd.TheVariants as end
-use Rattle.af_answer.specs.declared.job.AnswerJob.{AnswerJob}
 
 -- the command line of a shell that runs a text
 abbrev pub shell_words : List ℕ → List (List ℕ)
@@ -39,14 +37,3 @@ abbrev pub told_of_run : List (List ℕ) → ChildRun → List Told
 told_of_run words start_failed = began words got.Failed ∷ []
 told_of_run words start_starved = began words got.NoMemory ∷ []
 told_of_run words (child_ran child status) = began words (got.Child child) ∷ finished child status ∷ []
-
--- a child ran by this command line, and ended so
-pub record RunsChild (words : List (List ℕ)) (how : ChildEnd) (acts acts' : Option (List Told)) : Type 0 where
-  pub run : ChildRun
-  pub ended : run_end run ≡ how
-  pub told : Appended acts (told_of_run words run) acts'
-
--- the message is recorded after a good greeting, and else the call ends as the greeting did, and no child runs
-abbrev pub LeavesMessage : AnswerJob → (greeting how : ChildEnd) → (acts acts' : Option (List Told)) → Type 0
-LeavesMessage job end.Good how acts acts' = RunsChild (shell_words job.message.bytes) how acts acts'
-LeavesMessage job greeting how acts acts' = (how ≡ greeting) × (acts' ≡ acts)

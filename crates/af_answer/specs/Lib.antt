@@ -2,7 +2,6 @@ pub mod Children
 pub mod Acts
 pub mod AnswerTrace
 pub mod AnswerParts
-pub mod Outcomes
 pub mod Answered
 pub mod AnswerWords
 pub mod AnswerRun

@@ -3,8 +3,7 @@ ghost use Rattle.std.specs.Prelude.{◌≡◌, ◌≤◌, true, IfErr};
 ghost use Rattle.std.specs.declared.option.Option.TheVariants.{None};
 ghost use Rattle.af_toolkit.specs.Ends.{KeepsConnectionBy};
 ghost use Rattle.af_answer.specs.AnswerTrace.{attends_all};
-ghost use Rattle.af_answer.specs.AnswerParts.{GoesBy};
-ghost use Rattle.af_answer.specs.Outcomes.{is_of_calls};
+ghost use Rattle.af_answer.specs.AnswerParts.{is_of_calls, GoesBy};
 
 use crate::call::take_call;
 use crate::end::AnswerEnd;

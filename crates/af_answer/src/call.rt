@@ -2,10 +2,8 @@
 ghost use Rattle.std.specs.Prelude.{◌≡◌, ◌≤◌, true, IfErr};
 ghost use Rattle.std.specs.declared.option.Option.TheVariants.{None};
 ghost use Rattle.af_toolkit.specs.Ends.{KeepsConnectionBy};
-ghost use Rattle.af_answer.specs.AnswerTrace.{takes_call};
-ghost use Rattle.af_answer.specs.AnswerParts.{GoesBy};
-ghost use Rattle.af_answer.specs.Children.{LeavesMessage};
-ghost use Rattle.af_answer.specs.Outcomes.{is_of_calls};
+ghost use Rattle.af_answer.specs.AnswerTrace.{leaves_message, takes_call};
+ghost use Rattle.af_answer.specs.AnswerParts.{is_of_calls, GoesBy, RunsBy};
 
 use crate::child::{ChildEnd, run_child};
 use crate::end::AnswerEnd;
@@ -22,7 +20,7 @@ fn leave_message<S: Spawner>(
     greeting: ChildEnd,
     spawner: &mut S,
 ) -> ChildEnd
-    ensures left { LeavesMessage job.now greeting result (S.acts spawner.old) (S.acts spawner.new) }
+    ensures left { RunsBy (S.acts spawner.old) (S.acts spawner.new) (leaves_message job.now greeting) result }
     ensures count { S.faults spawner.old ≤ S.faults spawner.new }
 {
     match greeting {

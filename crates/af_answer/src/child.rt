@@ -2,7 +2,9 @@
 ghost use Rattle.std.specs.Prelude.{◌≡◌, ◌≤◌, length};
 ghost use Rattle.arrayvec.specs.ArrayVec.{array_vec_len};
 ghost use Rattle.af_process.specs.Acts.{status_of, words_of};
-ghost use Rattle.af_answer.specs.Children.{end_by_status, is_starved, shell_words, RunsChild};
+ghost use Rattle.af_answer.specs.AnswerTrace.{runs_child};
+ghost use Rattle.af_answer.specs.AnswerParts.{RunsBy};
+ghost use Rattle.af_answer.specs.Children.{end_by_status, is_starved, shell_words};
 
 use af_process::{Finished, Spawner, Started, Words};
 use arrayvec::ArrayString;
@@ -60,7 +62,7 @@ fn finished_end(finished: Finished) -> ChildEnd
 
 /// Runs a text as a child, and waits for its end.
 pub fn run_child<S: Spawner>(alloc: Global, text: &ArrayString<200>, spawner: &mut S) -> ChildEnd
-    ensures ran { RunsChild (shell_words text.now.bytes) result (S.acts spawner.old) (S.acts spawner.new) }
+    ensures ran { RunsBy (S.acts spawner.old) (S.acts spawner.new) (runs_child text.now.bytes) result }
     ensures count { S.faults spawner.old ≤ S.faults spawner.new }
 {
     match spawner.start(alloc, &shell_words(text)) {

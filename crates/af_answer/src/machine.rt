@@ -1,29 +1,30 @@
 // The answering machine, over a connection.
-ghost use Rattle.std.specs.Prelude.{◌≡◌, ◌≤◌, length, true};
-ghost use Rattle.std.specs.declared.option.Option.TheVariants.{None};
+ghost use Rattle.std.specs.Prelude.{◌≡◌, ◌≤◌, ◌↔◌, ℕ, length, option_map, false, true, List};
+ghost use Rattle.std.specs.declared.option.Option.TheVariants.{None, Some};
 ghost use Rattle.af_io.specs.Observed.{CountsFault};
-ghost use Rattle.af_answer.specs.AnswerTrace.{line_at};
-ghost use Rattle.af_answer.specs.Answered.{line_or_end, IsAnswerJob, LacksItsDevice, LacksItsLine, RunsAnswer};
-ghost use Rattle.af_answer.specs.Outcomes.{is_of_answer};
+ghost use Rattle.af_toolkit.specs.Ends.{client_of};
+ghost use Rattle.af_answer.specs.AnswerTrace.{line_at, machine_end, missing};
+ghost use Rattle.af_answer.specs.AnswerParts.{is_of_answer, seen_as};
+ghost use Rattle.af_answer.specs.Answered.{AnswerRan, IsAnswerJob};
 
 use crate::attend::attend;
 use crate::end::AnswerEnd;
 use crate::job::AnswerJob;
 use crate::report::report;
-use af_io::{Link, Sink};
+use af_io::{Link, Put, Sink};
 use af_lib::Conn;
 use af_process::Spawner;
 use std::alloc::Global;
 
-// Whether the job's device exists and has a line, or else the end of the machine.
-fn find_line<L: Link + Drop>(job: &AnswerJob, conn: &Conn<L>) -> Result<(), AnswerEnd>
-    ensures { result ≡ line_or_end job.now (line_at job.now conn.now.devices) (length conn.now.devices) }
+// The end of the machine where the job's device is missing, or has no line.
+fn missing<L: Link + Drop>(job: &AnswerJob, conn: &Conn<L>) -> Option<AnswerEnd>
+    ensures { result ≡ option_map machine_end (missing job.now (line_at job.now conn.now.devices) (length conn.now.devices)) }
 {
     let devices = conn.devices();
     match devices.get(usize::from(job.device)) {
-        Some(device) if device.line => Ok(()),
-        Some(_) => Err(AnswerEnd::NoLine { device: job.device }),
-        None => Err(AnswerEnd::NoDevice {
+        Some(device) if device.line => None,
+        Some(_) => Some(AnswerEnd::NoLine { device: job.device }),
+        None => Some(AnswerEnd::NoDevice {
             devices: devices.len() as u8,
         }),
     }
@@ -47,23 +48,31 @@ pub fn answer<L: Link + Drop, S: Spawner, K: Sink>(
     requires range { IsAnswerJob job.now }
 
     // what was sent, which children ran, what was written, what the hook is at the end, and when it is done
-    ensures ran { RunsAnswer L.left L.sent S.acts K.held job.now result conn.old conn.new spawner.old spawner.new
-        sink.old sink.new }
+    ensures ran { (input : List ℕ) → L.left conn.old.link ≡ Some input →
+        AnswerRan job.now conn.old.devices (client_of conn.old input) result
+        (seen_as (L.sent conn.old.link) (S.acts spawner.old) (K.held sink.old))
+        (seen_as (L.sent conn.new.link) (S.acts spawner.new) (K.held sink.new)) }
 
-    // each end has its cause
+    // each end has its cause: NoDevice, with the number of devices, exactly if that of the job is not below it; NoLine exactly if
+    // the device exists and has no line
     ensures end { is_of_answer result ≡ true }
-    ensures no_device { LacksItsDevice job.now conn.old.devices result }
-    ensures no_line { LacksItsLine job.now conn.old.devices result }
+    ensures no_device { (n : ℕ) → (result ≡ AnswerEnd.NoDevice n)
+        ↔ ((n ≡ length conn.old.devices) × (length conn.old.devices ≤ job.now.device)) }
+    ensures no_line { (n : ℕ) → (result ≡ AnswerEnd.NoLine n)
+        ↔ ((n ≡ job.now.device) × (line_at job.now conn.old.devices ≡ Some false)) }
     ensures link { CountsFault (result ≡ AnswerEnd.LinkFault) (L.faults conn.old.link) (L.faults conn.new.link) }
     ensures sink { CountsFault (result ≡ AnswerEnd.SinkFault) (K.faults sink.old) (K.faults sink.new) }
     ensures children { S.faults spawner.old ≤ S.faults spawner.new }
 {
-    match find_line(job, conn) {
-        Ok(()) => {}
-        Err(end) => return end,
+    match missing(job, conn) {
+        None => {}
+        Some(end) => return end,
     }
     match attend(alloc, job, conn, spawner) {
-        Ok(tally) => report(sink, tally),
+        Ok(tally) => match report(sink, tally) {
+            Put::Done => AnswerEnd::Done,
+            Put::Failed => AnswerEnd::SinkFault,
+        },
         Err(end) => end,
     }
 }

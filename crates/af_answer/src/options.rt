@@ -3,7 +3,7 @@ ghost use Rattle.std.specs.Prelude.{◌≡◌, ◌≤◌, true, false, length, m
 ghost use Rattle.std.specs.declared.option.Option.TheVariants.{Some};
 ghost use Rattle.clap.specs.Words.{found_of, kind_of, matches_of, rows_of, takes};
 ghost use Rattle.af_cli.specs.Ranges.{IsAddress};
-ghost use Rattle.af_cli.specs.Words.{command_app};
+ghost use Rattle.af_cli.specs.Words.{command_app, text_at};
 ghost use Rattle.af_answer.specs.Answered.{IsAnswerJob};
 ghost use Rattle.af_answer.specs.AnswerWords.{
   answer_app,
@@ -11,16 +11,15 @@ ghost use Rattle.af_answer.specs.AnswerWords.{
   words_in,
   is_answer_spelled,
   names_answer,
-  shell_text_at,
   words_of_call,
 };
 
 use crate::job::AnswerJob;
 use af_cli::{
-    Argument, ArgumentKind, OptionsFault, address_at, matches_for, number_at, number_in, text_of,
+    Argument, ArgumentKind, OptionsFault, address_at, device_at, matches_for, number_at,
+    stated_number_at, text_at,
 };
 use af_io::Args;
-use af_limits::MOST_DEVICES;
 use arrayvec::ArrayString;
 use clap::error::ErrorKind;
 use clap::{ArgMatches, Error};
@@ -61,13 +60,10 @@ fn answer_matches<'a>(alloc: Global, given: &'a [String]) -> Result<ArgMatches<'
 
 // A text for a shell.
 fn shell_text_at(matches: &ArgMatches<'_>, name: &str) -> Option<ArrayString<200>>
-    ensures text { option_map (λ text. text.bytes) result ≡ shell_text_at name.now (rows_of (found_of matches.now)) }
+    ensures text { option_map (λ text. text.bytes) result ≡ text_at name.now 200 (rows_of (found_of matches.now)) }
     ensures size { IfSome result (λ text. (1 ≤ length text.bytes) × (length text.bytes ≤ 200)) }
 {
-    let text = text_of(matches, name)?;
-    if text.is_empty() || text.len() > 200 {
-        return None;
-    }
+    let text = text_at(matches, name, 200)?;
     let mut copy = ArrayString::new();
     copy.push_str(text);
     Some(copy)
@@ -79,15 +75,15 @@ fn call_in<'a>(matches: &ArgMatches<'a>) -> Option<AnswerCall<'a>>
     ensures range { IfSome result (λ call. IsAnswerJob call.job × IsAddress call.server.now) }
 {
     let server = address_at(matches, "SERVER")?;
-    let device = number_at(matches, "device", 0, 0, MOST_DEVICES as u32 - 1)?;
+    let device = device_at(matches, "device")?;
     let rings = number_at(matches, "rings", 2, 1, 20)?;
-    let calls = number_in(1, 1000, text_of(matches, "calls")?.as_bytes())?;
+    let calls = stated_number_at(matches, "calls", 1, 1000)?;
     let greeting = shell_text_at(matches, "greeting")?;
     let message = shell_text_at(matches, "message")?;
     Some(AnswerCall {
         server,
         job: AnswerJob {
-            device: device as u8,
+            device,
             rings,
             calls,
             greeting,

@@ -1,11 +1,9 @@
 // The line that counts the calls.
-ghost use Rattle.std.specs.Prelude.{◌≡◌, ◌<◌, ◌≤◌, length, take, true};
+ghost use Rattle.std.specs.Prelude.{◌≡◌, ◌<◌, ◌≤◌, length, take};
+ghost use Rattle.af_io.specs.Flow.{Written};
 ghost use Rattle.af_io.specs.Observed.{CountsFault};
 ghost use Rattle.af_answer.specs.AnswerTrace.{tally_text};
-ghost use Rattle.af_answer.specs.AnswerParts.{WritesTo};
-ghost use Rattle.af_answer.specs.Outcomes.{is_of_line};
 
-use crate::end::AnswerEnd;
 use crate::tally::Tally;
 use af_io::{Put, Sink};
 use af_toolkit::{put, put_number};
@@ -27,15 +25,11 @@ fn write_line(out: &mut [u8], tally: Tally) -> usize
 }
 
 /// Writes how many calls were answered, messages recorded, and calls failed: the last that a machine does.
-pub fn report<K: Sink>(sink: &mut K, tally: Tally) -> AnswerEnd
-    ensures wrote { WritesTo (tally_text tally) result (K.held sink.old) (K.held sink.new) }
-    ensures end { is_of_line result ≡ true }
-    ensures fault { CountsFault (result ≡ AnswerEnd.SinkFault) (K.faults sink.old) (K.faults sink.new) }
+pub fn report<K: Sink>(sink: &mut K, tally: Tally) -> Put
+    ensures wrote { Written result (K.held sink.old) (tally_text tally) (K.held sink.new) }
+    ensures fault { CountsFault (result ≡ Put.Failed) (K.faults sink.old) (K.faults sink.new) }
 {
     let mut line = [0; 160];
     let length = write_line(&mut line, tally);
-    match sink.write(&line[..length]) {
-        Put::Done => AnswerEnd::Done,
-        Put::Failed => AnswerEnd::SinkFault,
-    }
+    sink.write(&line[..length])
 }

@@ -4,8 +4,7 @@ ghost use Rattle.af_process.specs.Acts.{Told};
 ghost use Rattle.af_toolkit.specs.Ends.{KeepsConnectionBy};
 ghost use Rattle.af_answer.specs.Acts.{rings_after};
 ghost use Rattle.af_answer.specs.AnswerTrace.{awaits_call, most_for_a_call};
-ghost use Rattle.af_answer.specs.AnswerParts.{GoesBy};
-ghost use Rattle.af_answer.specs.Outcomes.{is_of_calls};
+ghost use Rattle.af_answer.specs.AnswerParts.{is_of_calls, GoesBy};
 
 use crate::end::AnswerEnd;
 use crate::job::AnswerJob;

@@ -5,9 +5,8 @@ ghost use Rattle.af_io.specs.Observed.{Appended, CountsFault, FaultCounted};
 ghost use Rattle.af_cli.specs.Ranges.{IsAddress};
 ghost use Rattle.af_answer.specs.Answered.{IsAnswerJob};
 ghost use Rattle.af_answer.specs.AnswerWords.{answer_words, is_answer_spelled, words_of_call, AnswerWords};
-ghost use Rattle.af_answer.specs.AnswerRun.{AskedForServer, RanOver, RunsAsked};
-ghost use Rattle.af_answer.specs.AnswerParts.{seen_as};
-ghost use Rattle.af_answer.specs.Outcomes.{is_of_answer, is_of_dial, is_of_run};
+ghost use Rattle.af_answer.specs.AnswerRun.{surroundings, IsIdle, RanOver, RunsAsked};
+ghost use Rattle.af_answer.specs.AnswerParts.{is_of_answer, is_of_dial, seen_as};
 
 use crate::end::AnswerEnd;
 use crate::job::AnswerJob;
@@ -56,8 +55,9 @@ fn answer_on<K: Sink, D: Dial, S: Spawner>(
 ) -> AnswerEnd
     requires range { IsAnswerJob call.now.job }
     requires server { IsAddress call.now.server.now }
-    ensures ran { RunsAsked D.links D.back S.acts K.held (words_of_call call.now) result
-        dial.old dial.new spawner.old spawner.new sink.old sink.new }
+    ensures ran { RunsAsked (words_of_call call.now) result
+        (surroundings (D.links dial.old) (D.back dial.old) (S.acts spawner.old) (K.held sink.old))
+        (surroundings (D.links dial.new) (D.back dial.new) (S.acts spawner.new) (K.held sink.new)) }
     ensures asked { Appended (D.asked dial.old) (call.now.server.now ∷ []) (D.asked dial.new) }
     ensures end { is_of_dial result ≡ true }
     ensures dialled { CountsFault (result ≡ AnswerEnd.DialFault) (D.faults dial.old) (D.faults dial.new) }
@@ -91,15 +91,15 @@ pub fn answer_run<K: Sink, D: Dial, S: Spawner>(
     ensures untouched { result ≡ AnswerEnd.Usage → (sink.new ≡ sink.old) × (dial.new ≡ dial.old) × (spawner.new ≡ spawner.old) }
     ensures no_job { answer_words words.now ≡ None → (sink.new ≡ sink.old) × (dial.new ≡ dial.old) × (spawner.new ≡ spawner.old) }
 
-    // which server was dialled; what was sent, which children ran, what was written, what the hook is at the end, and when it is
-    // done
+    // which server was dialled, unless memory ran out before; what was sent, which children ran, what was written, what the hook
+    // is at the end, and when it is done
     ensures asked { (a : AnswerWords) → answer_words words.now ≡ Some a → result ≢ AnswerEnd.Usage →
-        AskedForServer a.server result (D.asked dial.old) (D.asked dial.new) }
-    ensures ran { (a : AnswerWords) → answer_words words.now ≡ Some a → result ≢ AnswerEnd.Usage →
-        RunsAsked D.links D.back S.acts K.held a result dial.old dial.new spawner.old spawner.new sink.old sink.new }
+        IsIdle result (D.asked dial.old) (D.asked dial.new) ⊎ Appended (D.asked dial.old) (a.server ∷ []) (D.asked dial.new) }
+    ensures ran { (a : AnswerWords) → answer_words words.now ≡ Some a → result ≢ AnswerEnd.Usage → RunsAsked a result
+        (surroundings (D.links dial.old) (D.back dial.old) (S.acts spawner.old) (K.held sink.old))
+        (surroundings (D.links dial.new) (D.back dial.new) (S.acts spawner.new) (K.held sink.new)) }
 
     // each end has its cause
-    ensures end { is_of_run result ≡ true }
     ensures dialled { CountsFault (result ≡ AnswerEnd.DialFault) (D.faults dial.old) (D.faults dial.new) }
     ensures link { CountsFault (result ≡ AnswerEnd.LinkFault) (D.hurt dial.old) (D.hurt dial.new) }
     ensures sink { CountsFault (result ≡ AnswerEnd.SinkFault) (K.faults sink.old) (K.faults sink.new) }

@@ -20,10 +20,12 @@ loop-left-init g c =
     let kept = asked.keeps c.requires.usable in
     let none = c.new-tally.ensures in
     record {
-      usable = ap (λ (conn : ConnState _). conn.cause) kept;
-      devices = ap (λ (conn : ConnState _). conn.devices) kept;
-      tells = asked.tells;
-      count = asked.count;
+      stays = record {
+        usable = ap (λ (conn : ConnState _). conn.cause) kept;
+        devices = ap (λ (conn : ConnState _). conn.devices) kept;
+        tells = asked.tells;
+        count = asked.count;
+      };
       children = omega arith;
       few = subst (λ (t : Tally). t.answered + job.calls ≤ job.calls) (sym none) (omega arith);
       counted = subst (λ (t : Tally). t.recorded + t.failed ≤ t.answered) (sym none) (omega arith);
@@ -59,10 +61,12 @@ loop-left-preserved g c =
     let took = c.in_ok-end.ensures in
     let fed : is_starved c.in_ok-end.end ≡ false = search rules in
     record {
-      usable = took.holds.usable refl;
-      devices = took.holds.devices ∙ rang.holds.devices ∙ i.devices;
-      tells = λ t. took.holds.tells (rang.holds.tells (i.tells t));
-      count = omega (arith, took.holds.count, rang.holds.count, i.count);
+      stays = record {
+        usable = took.holds.usable refl;
+        devices = took.holds.devices ∙ rang.holds.devices ∙ i.stays.devices;
+        tells = λ t. took.holds.tells (rang.holds.tells (i.stays.tells t));
+        count = omega (arith, took.holds.count, rang.holds.count, i.stays.count);
+      };
       children = omega (arith, took.count, i.children);
       few = omega (arith, c.count.ensures.one, i.few);
       counted = c.count.ensures.within;

@@ -1,15 +1,12 @@
-use Rattle.std.proofs.Common.{◌≡◌, ◌≤◌, ◌+◌, ℕ, List, IsSome, Option, None}
+use Rattle.std.proofs.Common.{◌≤◌, ◌+◌, ℕ, List, Option}
 use Rattle.af_answer.specs.AnswerTrace.{attends, attends_all}
 use Rattle.af_answer.specs.AnswerParts.{stand_on}
-use Rattle.af_answer.proofs.AnswerPartLemmas.{GotTo}
+use Rattle.af_answer.proofs.AnswerPartLemmas.{GotTo, StaysUsable}
 use Rattle.af_answer.proofs.attend.attend.Given as goal
 
 abbrev pub invariant-loop-left : goal.invariant-loop-left
 invariant-loop-left g l = record {
-  usable : l.conn.cause ≡ None;
-  devices : l.conn.devices ≡ l.fn.conn.devices;
-  tells : IsSome (g.L.Link.left l.fn.conn.link) → IsSome (g.L.Link.left l.conn.link);
-  count : g.L.Link.faults l.fn.conn.link ≤ g.L.Link.faults l.conn.link;
+  stays : StaysUsable g.L.Link.left g.L.Link.faults l.fn.conn l.conn;
   children : g.S.Spawner.faults l.fn.spawner ≤ g.S.Spawner.faults l.spawner;
   few : l.tally.answered + l.left ≤ l.job.calls;
   counted : l.tally.recorded + l.tally.failed ≤ l.tally.answered;

@@ -2,7 +2,7 @@ use Rattle.std.proofs.Common.{rules, ◌≡◌, ap, None}
 use Rattle.af_lib.specs.Calls.{ConnState}
 use Rattle.af_answer.specs.AnswerTrace.{takes_call}
 use Rattle.af_answer.proofs.AnswerPartLemmas.{went_stop, went_through, went_value}
-use Rattle.af_answer.proofs.AnswerStepLemmas.{child_went, message_went, requested_went}
+use Rattle.af_answer.proofs.AnswerStepLemmas.{requested_went}
 use Rattle.af_answer.proofs.call.take_call.Goals as goal
 
 pub returns-in_err-hook-clause-goes : goal.returns-in_err-hook-clause-goes
@@ -14,8 +14,8 @@ unfolding takes_call
 returns-in_err-hook-2-clause-goes g c held =
     let usable : c.hook.new.self.cause ≡ None = ap (λ (conn : ConnState _). conn.cause) (c.in_ok-hook.ensures.keeps c.requires) in
     went_through _ (requested_went c.in_ok-hook.ensures c.requires held)
-    (went_through _ (child_went c.args.job.now.greeting.bytes c.run_child-greeting.ensures.ran)
-    (went_through _ (message_went c.args.job.now c.run_child-greeting.result c.leave_message-end.ensures.left)
+    (went_through _ (c.run_child-greeting.ensures.ran _ _ _ _)
+    (went_through _ (c.leave_message-end.ensures.left _ _ _ _)
     (went_stop _ (search rules) (requested_went c.in_err-hook-2.ensures usable held))))
 
 pub returns-clause-goes : goal.returns-clause-goes
@@ -23,6 +23,6 @@ unfolding takes_call
 returns-clause-goes g c held =
     let usable : c.hook.new.self.cause ≡ None = ap (λ (conn : ConnState _). conn.cause) (c.in_ok-hook.ensures.keeps c.requires) in
     went_through _ (requested_went c.in_ok-hook.ensures c.requires held)
-    (went_through _ (child_went c.args.job.now.greeting.bytes c.run_child-greeting.ensures.ran)
-    (went_through _ (message_went c.args.job.now c.run_child-greeting.result c.leave_message-end.ensures.left)
+    (went_through _ (c.run_child-greeting.ensures.ran _ _ _ _)
+    (went_through _ (c.leave_message-end.ensures.left _ _ _ _)
     (went_through _ (requested_went c.in_ok-hook-2.ensures usable held) (went_value _))))

@@ -8,10 +8,7 @@ use Rattle.af_answer.proofs.rings.await_call.Goals as goal
 
 pub loop-allowed-init : goal.loop-allowed-init
 loop-allowed-init g c = record {
-  usable = c.requires.usable;
-  devices = refl;
-  tells = λ told. told;
-  count = omega arith;
+  stays = record { usable = c.requires.usable; devices = refl; tells = λ told. told; count = omega arith };
   few = omega arith;
   waiting = λ acts held. went_here;
 }
@@ -20,12 +17,12 @@ pub returns-in_err-event-clause-goes : goal.returns-in_err-event-clause-goes
 returns-in_err-event-clause-goes g c acts held =
     let i = c.loop-allowed.invariant in
     went_by (i.waiting acts held) (rw (awaits_next c.loop-allowed.allowed c.args.job.now c.loop-allowed.rings (omega arith))
-    (went_stop _ (search rules) (awaited_went (Err c.in_err-event.field-0.0) c.in_err-event.ensures i.usable)))
+    (went_stop _ (search rules) (awaited_went (Err c.in_err-event.field-0.0) c.in_err-event.ensures i.stays.usable)))
 
 pub returns-then-rings-job-clause-goes : goal.returns-then-rings-job-clause-goes
 returns-then-rings-job-clause-goes g c acts held =
     let i = c.loop-allowed.invariant in
-    let heard = awaited_went (Ok c.in_ok-event.event) c.in_ok-event.ensures i.usable in
+    let heard = awaited_went (Ok c.in_ok-event.event) c.in_ok-event.ensures i.stays.usable in
     went_by (went_on _ (rw (awaits_next c.loop-allowed.allowed c.args.job.now c.loop-allowed.rings (omega arith)) at (i.waiting acts held)) heard)
     (rw (eq-eqb _ _ (sym c.rings_after-rings.ensures.rings ∙ c.if-rings-job.true)) (went_value tt))
 
@@ -39,14 +36,16 @@ pub loop-allowed-preserved : goal.loop-allowed-preserved
 loop-allowed-preserved g c =
     let i = c.loop-allowed.invariant in
     let e = c.in_ok-event.ensures in
-    let stays = event_stays e i.usable in
+    let stays = event_stays e i.stays.usable in
     record {
-      usable = stays.0;
-      devices = stays.1 ∙ i.devices;
-      tells = λ t. e.tells (i.tells t);
-      count = omega (arith, e.count, i.count);
+      stays = record {
+        usable = stays.0;
+        devices = stays.1 ∙ i.stays.devices;
+        tells = λ t. e.tells (i.stays.tells t);
+        count = omega (arith, e.count, i.stays.count);
+      };
       few = omega (arith, c.rings_after-rings.ensures.few, i.few);
       waiting = λ acts held.
           rw (ne_eqb _ _ (λ same. c.if-rings-job.false (c.rings_after-rings.ensures.rings ∙ same)), sym c.rings_after-rings.ensures.rings) at
-          (went_on _ (rw (awaits_next c.loop-allowed.allowed c.args.job.now c.loop-allowed.rings (omega arith)) at (i.waiting acts held)) (awaited_went (Ok c.in_ok-event.event) e i.usable));
+          (went_on _ (rw (awaits_next c.loop-allowed.allowed c.args.job.now c.loop-allowed.rings (omega arith)) at (i.waiting acts held)) (awaited_went (Ok c.in_ok-event.event) e i.stays.usable));
     }

@@ -1,16 +1,13 @@
-use Rattle.std.proofs.Common.{◌≡◌, ◌≤◌, ◌<◌, ◌^◌, ◌+◌, ℕ, List, IsSome, Option, None}
+use Rattle.std.proofs.Common.{◌<◌, ◌^◌, ◌+◌, ℕ, List, Option}
 use Rattle.af_process.specs.Acts.{Told}
 use Rattle.af_answer.specs.AnswerTrace.{awaits_call, most_for_a_call}
 use Rattle.af_answer.specs.AnswerParts.{stand_on}
-use Rattle.af_answer.proofs.AnswerPartLemmas.{GotTo}
+use Rattle.af_answer.proofs.AnswerPartLemmas.{GotTo, StaysUsable}
 use Rattle.af_answer.proofs.rings.await_call.Given as goal
 
 abbrev pub invariant-loop-allowed : goal.invariant-loop-allowed
 invariant-loop-allowed g l = record {
-  usable : l.conn.cause ≡ None;
-  devices : l.conn.devices ≡ l.initial.conn.devices;
-  tells : IsSome (g.L.Link.left l.initial.conn.link) → IsSome (g.L.Link.left l.conn.link);
-  count : g.L.Link.faults l.initial.conn.link ≤ g.L.Link.faults l.conn.link;
+  stays : StaysUsable g.L.Link.left g.L.Link.faults l.initial.conn l.conn;
   few : l.rings + l.allowed < 2 ^ 32;
   waiting : (acts : Option (List Told)) (held : Option (List ℕ)) → GotTo (awaits_call most_for_a_call l.job 0) (awaits_call l.allowed l.job l.rings)
       (stand_on g.L.Link.left g.L.Link.sent l.initial.conn acts held) (stand_on g.L.Link.left g.L.Link.sent l.conn acts held);

@@ -15,7 +15,7 @@ use Rattle.af_lib.proofs.EventRingLemmas.{none_taken}
 use Rattle.af_lib.proofs.LinkByteLemmas.{told_both}
 use Rattle.af_toolkit.specs.Trace.{ClientState, after_reply, answer_on}
 use Rattle.af_toolkit.specs.Ends.{client_of}
-use Rattle.af_toolkit.proofs.TracePartLemmas.{Known, asked_known}
+use Rattle.af_toolkit.proofs.ToolPartLemmas.{Known, asked_known}
 use Rattle.af_answer.specs.declared.child.ChildEnd.{ChildEnd}
 use Rattle.af_answer.specs.declared.end.AnswerEnd.{AnswerEnd}
 use Rattle.af_answer.specs.AnswerTrace.{AnswerFinish, MachineOutcome, ToCome, after_event, awaits_event, by_answer, connection_end, deeds_of_work, exchanges, hears, machine_end, met_fault, next_event, refusal, requests, running, runs_child, sending}

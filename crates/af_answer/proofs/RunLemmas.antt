@@ -16,7 +16,7 @@ use Rattle.af_lib.specs.Calls.{ConnState, IsSetUp}
 use Rattle.af_lib.specs.Ring.{RingState}
 use Rattle.af_toolkit.specs.Trace.{ClientState, new_client, client_after_setup, client_before_setup, setup_answer}
 use Rattle.af_toolkit.specs.Ends.{client_of}
-use Rattle.af_toolkit.proofs.TracePartLemmas.{client_begun, setup_known}
+use Rattle.af_toolkit.proofs.ToolPartLemmas.{client_begun, setup_known}
 use Rattle.af_answer.specs.declared.end.AnswerEnd.{AnswerEnd}
 use Rattle.af_answer.specs.declared.end.AnswerEnd.TheVariants as end
 use Rattle.af_answer.specs.declared.job.AnswerJob.{AnswerJob}

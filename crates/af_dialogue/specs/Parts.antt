@@ -45,6 +45,14 @@ followed deeds did (Err finish) next = outcome did (Err finish)
 unfoldable pub goes_on : {S D F X Y : Type 0} → Deeds D → Part S D F X → (X → Part S D F Y) → Part S D F Y
 goes_on deeds part next s = followed deeds (part s).did (part s).end (λ y. next y.0 y.1)
 
+-- the same part of a program that ends for other causes too: each of its causes is one of these
+abbrev pub end_among : {X F G : Type 0} → (name : F → G) → Result X F → Result X G
+end_among name (Ok x) = Ok x
+end_among name (Err finish) = Err (name finish)
+
+abbrev pub part_among : {S D F G X : Type 0} → (name : F → G) → Part S D F X → Part S D G X
+part_among name part s = outcome (part s).did (end_among name (part s).end)
+
 -- what follows a dialogue that ends with a value or with the end of the whole program
 abbrev pub or_ends : {Call : Type 0} {Answer : Call → Type 0} {X Y F : Type 0} → (X → Dialogue Answer (Result Y F)) → Result X F →
     Dialogue Answer (Result Y F)

@@ -13,14 +13,15 @@ use Rattle.af_toolkit.specs.declared.end.ToolEnd.TheVariants as end
 use Rattle.af_cli.specs.declared.job.PassJob.{PassJob}
 use Rattle.af_toolkit.specs.Trace.{Finish, ClientState, channel_mismatch, done, tool_end, ends, mismatch, no_device, writes_first}
 use Rattle.af_dialogue.specs.Parts.{Goes, Stopped}
-use Rattle.af_relay.specs.RelayParts.{IsClientOf, LinkSight, ObservedRelayTrace, relaying}
+use Rattle.af_toolkit.specs.ToolParts.{IsClientOf, LinkSight}
+use Rattle.af_relay.specs.RelayParts.{ObservedRelayTrace, relaying}
 use Rattle.af_toolkit.specs.Ends.{MatchesTrace, ObservedTrace}
 use Rattle.af_relay.specs.Pair.{pair_of, pair_or_end, EndsByPair, HaveChannels}
 use Rattle.af_relay.specs.Pass.{Both, RelayOutcome, RelayTrace, apass_trace, both, of_one_shape, ends_both, on_from, on_one, on_to, passed_between, passed_text, passes_between, relay_ending, relay_of, relay_writes_first, sends_first_from, sends_first_to}
 use Rattle.af_relay.specs.Results.{ApassRan}
 use Rattle.af_relay.specs.Relayed.{IsRelayed}
 use Rattle.af_io.proofs.AppendedLemmas.{appended_none, appended_on}
-use Rattle.af_toolkit.proofs.TracePartLemmas.{ended_at_once, ended_early, ended_then}
+use Rattle.af_toolkit.proofs.ToolPartLemmas.{ended_at_once, ended_early, ended_then}
 use Rattle.af_toolkit.proofs.ToolEndLemmas.{IsDoneOrRefused, done_where_answered, finish_done, reply_of}
 
 -- two devices, and what follows them

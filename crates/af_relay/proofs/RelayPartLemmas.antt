@@ -1,27 +1,26 @@
 -- Requests on the two links of a relay, and how its parts go by them.
-use Rattle.std.proofs.Common.{◌≡◌, ◌<◌, ◌-◌, ℕ, zero, suc, arith, true, List, [], ◌++◌, sym, ap, ap₂, ◌∙◌, subst, append_assoc, append-nil, refl, inl, inr, ◌⊎◌}
+use Rattle.std.proofs.Common.{◌≡◌, ◌<◌, ◌-◌, ℕ, zero, suc, arith, List, [], ◌++◌, ap, ap₂, ◌∙◌, append_assoc, append-nil, refl, inl, inr}
 use Rattle.std.specs.Prelude.{⊤, Result, Ok, Err}
 use Rattle.std.specs.declared.option.Option.{Option}
 use Rattle.std.specs.declared.option.Option.TheVariants.{None}
 use Rattle.af_io.specs.Observed.{Appended}
-use Rattle.af_io.specs.Flow.{AppendedPrefix}
 use Rattle.af_dialogue.specs.Parts.{Came, Goes, IsProgramKind, called, goes_on}
 use Rattle.af_request.specs.Asked.{Asked}
 use Rattle.af_request.specs.Answer.{Answer}
 use Rattle.af_request.specs.Requests.{request_bytes}
 use Rattle.af_lib.specs.declared.fault.ConnFault.{ConnFault}
-use Rattle.af_lib.specs.declared.fault.ConnFault.TheVariants as fault
 use Rattle.af_lib.specs.Calls.{Called, ConnState, Sends}
 use Rattle.af_toolkit.specs.declared.end.ToolEnd.{ToolEnd}
-use Rattle.af_toolkit.specs.Trace.{Trace, Finish, ClientState, answer_on, after_reply, ends, fault_end, refused, sends_first}
-use Rattle.af_toolkit.specs.Ends.{MatchesTrace, is_outer}
+use Rattle.af_toolkit.specs.Trace.{Trace, Finish, ClientState, answer_on, after_reply, ends, refused, sends_first}
+use Rattle.af_toolkit.specs.Ends.{MatchesTrace}
 use Rattle.af_cli.specs.declared.job.PassJob.{PassJob}
 use Rattle.af_relay.specs.declared.pass.RelayPace.{RelayPace}
 use Rattle.af_relay.specs.declared.pass.RelayProgress.{RelayProgress}
-use Rattle.af_relay.specs.RelayParts.{IsClientOf, LinkSight, link_sight, relaying}
+use Rattle.af_toolkit.specs.ToolParts.{IsClientOf, LinkSight, link_sight}
+use Rattle.af_relay.specs.RelayParts.{relaying}
 use Rattle.af_relay.specs.Pass.{Both, RelayOutcome, RelayTrace, asks_from, asks_to, both, ends_both, on_from, on_to, passes, passes_block, relay_after_answer, sending, sends_first_from, sends_first_to}
 use Rattle.af_io.proofs.AppendedLemmas.{appended_none, appended_on}
-use Rattle.af_toolkit.proofs.TracePartLemmas.{Known, asked_known, part_answer, ended_at_once, ended_early}
+use Rattle.af_toolkit.proofs.ToolPartLemmas.{Known, OnLink, call_on_link, on_link, part_answer, ended_at_once, ended_early}
 
 pub is_relaying : IsProgramKind relaying
 is_relaying = record {
@@ -33,21 +32,6 @@ is_relaying = record {
     appended_on o.to.sent p.to.sent q.to.sent d.to e.to shows.1 more.1,
   );
 }
-
--- what a request came to on its link
-abbrev OnLink : {X : Type 0} → Result X ToolEnd → Result X ConnFault → ClientState → List ℕ → LinkSight → LinkSight → Type 0
-OnLink (Ok x) answer after bytes link link' = (answer ≡ Ok x) × IsClientOf link' after × Appended link.sent bytes link'.sent
-OnLink (Err how) answer after bytes link link' =
-    ((is_outer how ≡ true) × AppendedPrefix link.sent bytes link'.sent)
-    ⊎ ((f : ConnFault) × (how ≡ fault_end f) × (answer ≡ Err f) × Appended link.sent bytes link'.sent)
-
-on_link : {X : Type 0} (result answer : Result X ConnFault) (after : ClientState) (bytes : List ℕ) (link link' : LinkSight) →
-    Sends result link.sent bytes link'.sent → Known answer after link'.left link'.client result → OnLink (part_answer result) answer after bytes link link'
-on_link (Ok x) answer after bytes link link' sends known =
-    let k = known (λ e. cc e) in
-    (sym k.2, (k.0, k.1, sym k.3), sends.whole (λ e. cc e))
-on_link (Err fault.LinkFault) answer after bytes link link' sends known = inl (refl, sends.part)
-on_link (Err f) answer after bytes link link' sends known = inr (f, refl, sym (known (λ e. cc e)).2, sends.whole (λ e. cc e))
 
 module _ {X : Type 0} (asked : Asked) (value_of : Answer → Option X) (at : Both ClientState) where
   -- a request on one of the links, by its answer
@@ -75,16 +59,11 @@ module _ {X : Type 0} (asked : Asked) (value_of : Answer → Option X) (at : Bot
 -- a call of one of the connections, while the other stands still
 module _ {L X : Type 0} {left sent : L → Option (List ℕ)} {faults : L → ℕ} {asked : Asked} {value_of : Answer → Option X} {old new : ConnState L} {result : Result X ConnFault}
     (call : Called left sent faults asked value_of old new result) (usable : old.cause ≡ None) where
-  call_on_link : (w : ClientState) → IsClientOf (link_sight left sent old) w → OnLink (part_answer result) (answer_on asked value_of w) (after_reply w) (request_bytes w.order asked) (link_sight left sent old) (link_sight left sent new)
-  call_on_link w stands =
-      subst (λ (c : ClientState). OnLink (part_answer result) (answer_on asked value_of c) (after_reply c) (request_bytes c.order asked) (link_sight left sent old) (link_sight left sent new)) (sym stands.2)
-      (on_link result _ _ _ (link_sight left sent old) (link_sight left sent new) (call.sends usable) (asked_known left sent faults asked value_of old new stands.0 result call usable stands.1))
-
   pub asked_from : {other : LinkSight} → Goes relaying (asks_from asked value_of) (part_answer result) (both (link_sight left sent old) other) (both (link_sight left sent new) other)
-  asked_from {other} = record { came = λ at stands. from_came asked value_of at (part_answer result) _ _ other (call_on_link at.from stands.0) stands.1 }
+  asked_from {other} = record { came = λ at stands. from_came asked value_of at (part_answer result) _ _ other (call_on_link call usable at.from stands.0) stands.1 }
 
   pub asked_to : {other : LinkSight} → Goes relaying (asks_to asked value_of) (part_answer result) (both other (link_sight left sent old)) (both other (link_sight left sent new))
-  asked_to {other} = record { came = λ at stands. to_came asked value_of at (part_answer result) _ _ other (call_on_link at.to stands.1) stands.0 }
+  asked_to {other} = record { came = λ at stands. to_came asked value_of at (part_answer result) _ _ other (call_on_link call usable at.to stands.1) stands.0 }
 
 -- one of the blocks that are left is the next
 pub passes_next : (n : ℕ) (job : PassJob) (pace : RelayPace) (passed : RelayProgress) → 0 < n → passes n job pace passed ≡ goes_on sending (passes_block job pace passed) (λ passed. passes (n - 1) job pace passed)

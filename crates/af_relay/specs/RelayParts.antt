@@ -1,7 +1,7 @@
 -- How far a relay came, on each of its two links.
 use Rattle.std.specs.Prelude.{◌≡◌, ◌≤◌, ◌⊎◌, ℕ, List, Result, Err, IsOk, IsSome}
 use Rattle.std.specs.declared.option.Option.{Option}
-use Rattle.std.specs.declared.option.Option.TheVariants.{None, Some}
+use Rattle.std.specs.declared.option.Option.TheVariants.{None}
 use Rattle.af_dialogue.specs.Parts.{Goes, ProgramKind}
 use Rattle.af_io.specs.Observed.{Appended, FaultCounted}
 use Rattle.af_lib.specs.declared.fault.ConnFault.{ConnFault}
@@ -9,21 +9,9 @@ use Rattle.af_lib.specs.Calls.{ConnState}
 use Rattle.af_toolkit.specs.declared.end.ToolEnd.{ToolEnd}
 use Rattle.af_toolkit.specs.declared.end.ToolEnd.TheVariants as end
 use Rattle.af_toolkit.specs.Trace.{ClientState, fault_end}
-use Rattle.af_toolkit.specs.Ends.{MatchesTrace, client_of, is_outer}
+use Rattle.af_toolkit.specs.Ends.{MatchesTrace, is_outer}
+use Rattle.af_toolkit.specs.ToolParts.{IsClientOf, LinkSight, link_sight}
 use Rattle.af_relay.specs.Pass.{Both, RelayPart, RelayTrace, both, on_from, on_to, sending}
-
--- a connection as its link tells: the bytes that this has left to give, the client by them, and the bytes that it was sent
-pub record LinkSight : Type 0 where
-  pub left : Option (List ℕ)
-  pub client : List ℕ → ClientState
-  pub sent : Option (List ℕ)
-
-abbrev pub link_sight : {L : Type 0} → (left sent : L → Option (List ℕ)) → ConnState L → LinkSight
-link_sight left sent conn = record { left = left conn.link; client = client_of conn; sent = sent conn.link }
-
--- the client of a link that is observable has come so far
-abbrev pub IsClientOf : LinkSight → ClientState → Type 0
-IsClientOf link client = (input : List ℕ) × (link.left ≡ Some input) × (client ≡ link.client input)
 
 -- Relays, as programs: a fault ends one as any tool, and each of its links shows what was sent on it.
 abbrev pub relaying : ProgramKind (Both ClientState) (Both (List ℕ)) ConnFault ToolEnd (Both LinkSight)

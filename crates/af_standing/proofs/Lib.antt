@@ -1,3 +1,1 @@
-pub mod ControlsReportLemmas
-pub mod ListedLemmas
 pub mod ListLemmas

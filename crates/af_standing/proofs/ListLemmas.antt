@@ -1,82 +1,83 @@
--- The lines of devices, one after another.
-use Rattle.std.proofs.Common.{◌≡◌, ◌<◌, ◌≤◌, ◌+◌, ℕ, List, [], ◌∷◌, drop, length, ap, sym, subst, ◌∙◌, refl, inl}
+-- The lines of devices, one after another, and what list wrote if it is done.
+use Rattle.std.proofs.Common.{◌≡◌, ◌<◌, ◌≤◌, ◌+◌, ◌++◌, Bool, true, false, ℕ, List, [], ◌∷◌, drop, length, is_some, ap, sym, subst, ◌∙◌, refl, append-nil, inl}
 use Rattle.std.proofs.lemmas.List.{drop_all, drop_more}
-use Rattle.std.specs.Prelude.{Result, Ok, Err, slice_index_or}
+use Rattle.std.specs.Prelude.{Result, Ok, IsOk, slice_index_or}
 use Rattle.std.specs.declared.option.Option.{Option}
-use Rattle.std.specs.declared.option.Option.TheVariants.{Some}
+use Rattle.std.specs.declared.option.Option.TheVariants.{None, Some}
+use Rattle.af_dialogue.specs.Parts.{Goes, after_deeds, goes_on, has_value, outcome}
+use Rattle.af_dialogue.proofs.PartLemmas.{Reached, first_ok, goes_by, reached_on}
 use Rattle.af_request.specs.declared.reply.DeviceInfo.{DeviceInfo}
-use Rattle.af_request.specs.Asked.{get_time}
-use Rattle.af_lib.specs.Calls.{as_time}
+use Rattle.af_request.specs.declared.reply.Phone.{Phone}
+use Rattle.af_request.specs.Asked.{get_time, query_controls, query_phone}
+use Rattle.af_request.specs.Requests.{request_bytes}
+use Rattle.af_lib.specs.Calls.{as_controls, as_phone, as_time}
 use Rattle.af_toolkit.specs.declared.end.ToolEnd.{ToolEnd}
-use Rattle.af_toolkit.specs.Trace.{Trace, ClientState, done, ends}
-use Rattle.af_toolkit.specs.Ends.{ObservedPart, ObservedTrace, TracePart}
-use Rattle.af_toolkit.proofs.TracePartLemmas.{Reaches, part_is_done, part_reaches, part_stops, reaches_as, reaches_none, reaches_on}
-use Rattle.af_toolkit.proofs.ToolEndLemmas.{IsDoneOrRefused, asked_finish, done_where_answered, ends_by_reply, is_whole}
-use Rattle.af_standing.specs.List.{list_trace, tells_device, tells_from, HasLines, ListRan}
-use Rattle.af_standing.proofs.ListedLemmas.{list_lines}
-use Rattle.af_standing.proofs.ControlsReportLemmas.{controls_report_finish}
+use Rattle.af_toolkit.specs.Trace.{ClientState, after_reply, done, ends, refused}
+use Rattle.af_toolkit.specs.Ends.{ObservedTrace}
+use Rattle.af_toolkit.specs.ToolParts.{ToolSight, deeds, doing, tooling}
+use Rattle.af_toolkit.proofs.ToolPartLemmas.{is_tool}
+use Rattle.af_toolkit.proofs.ToolEndLemmas.{asks_first, done_where_answered, ends_by_reply, is_whole, last_output, part_answered, part_finish}
+use Rattle.af_standing.specs.declared.controls_report.ControlsReport.{ControlsReport}
+use Rattle.af_standing.specs.ControlsReport.{asks_line, asks_controls_report}
+use Rattle.af_standing.specs.List.{device_line, list_trace, tells_device, tells_from, HasLines, ListRan}
 
 -- the devices with this number and greater ones are left to be listed
-abbrev pub left_to_tell : List DeviceInfo → ℕ → ClientState → TracePart (Unit {0})
-left_to_tell devices number w = λ next. tells_from number (drop number devices) w next
+module _ {devices stated : List DeviceInfo} {number : ℕ} (d : DeviceInfo) (same : stated ≡ devices) (within : number < length devices) where
+  left : tells_from number (drop number devices) ≡ goes_on doing (tells_device number (slice_index_or stated number d)) (λ _. tells_from (number + 1) (drop (number + 1) devices))
+  left = ap (tells_from number) (drop_more devices number d within ∙ ap (λ (l : List DeviceInfo). slice_index_or l number d ∷ drop (number + 1) devices) (sym same))
 
-pub record IsTelling (devices : List DeviceInfo) (number : ℕ) (first : ClientState) (told : Option (List ℕ)) (wire : List ℕ → ClientState) (sent sent' held held' : Option (List ℕ)) : Type 0 where
-  pub input : List ℕ
-  pub is_told : told ≡ Some input
-  pub reaches : Reaches (left_to_tell devices 0 first) (left_to_tell devices number (wire input)) sent sent' held held'
+  -- the first of them comes next, or it was listed
+  pub tell_next : {r : Result (Unit {0}) ToolEnd} {o p : ToolSight} → Goes (tooling refused) (goes_on doing (tells_device number (slice_index_or stated number d)) (λ _. tells_from (number + 1) (drop (number + 1) devices))) r o p →
+      Goes (tooling refused) (tells_from number (drop number devices)) r o p
+  tell_next g = rw left g
 
-pub telling_begin : {devices : List DeviceInfo} (input : List ℕ) {told : Option (List ℕ)} (wire : List ℕ → ClientState) {sent held : Option (List ℕ)} → told ≡ Some input → IsTelling devices 0 (wire input) told wire sent sent held held
-telling_begin input wire is_told = record { input = input; is_told = is_told; reaches = reaches_none }
+  pub telling_on : {o p q : ToolSight} → Reached (tooling refused) (tells_from 0 devices) (tells_from number (drop number devices)) o p → Goes {X = Unit {0}} (tooling refused) (tells_device number (slice_index_or stated number d)) (Ok tt) p q →
+      Reached (tooling refused) (tells_from 0 devices) (tells_from (number + 1) (drop (number + 1) devices)) o q
+  telling_on t g = reached_on is_tool (λ _. tells_from (number + 1) (drop (number + 1) devices)) (rw left at t) g
 
--- a device and those after it
-pub device_next : (devices stated : List DeviceInfo) (number : ℕ) (d : DeviceInfo) → stated ≡ devices → number < length devices → drop number devices ≡ slice_index_or stated number d ∷ drop (number + 1) devices
-device_next devices stated number d same within =
-    drop_more devices number d within ∙ ap (λ (l : List DeviceInfo). slice_index_or l number d ∷ drop (number + 1) devices) (sym same)
+pub tell_none : (devices : List DeviceInfo) (number : ℕ) → length devices ≤ number → tells_from number (drop number devices) ≡ has_value doing tt
+tell_none devices number beyond = ap (tells_from number) (drop_all number devices beyond)
 
-tell_next : (devices : List DeviceInfo) (number : ℕ) (device : DeviceInfo) (w : ClientState) → drop number devices ≡ device ∷ drop (number + 1) devices → (next : Unit {0} → ClientState → Trace) →
-    left_to_tell devices number w next ≡ tells_device number device w (λ _ w. left_to_tell devices (number + 1) w next)
-unfolding tells_from
-tell_next devices number device w is next = ap (λ (l : List DeviceInfo). tells_from number l w next) is
+-- the state of a line, and of a device, that was told: a line where the device has one
+line_told : (line : Bool) (device : ℕ) (w : ClientState) → IsOk (asks_line line device w).end → (phone : Option Phone) × (v : ClientState) × (sends : List ℕ) × (is_some phone ≡ line) × (asks_line line device w ≡ outcome (deeds sends []) (Ok (phone, v)))
+line_told true device w ok = let a = asks_first (query_phone device) as_phone _ w ok in (Some a.value, after_reply w, _, refl, a.is)
+line_told false device w ok = (None, w, [], refl, refl)
 
-tell_none : (devices : List DeviceInfo) (number : ℕ) (w : ClientState) → length devices ≤ number → (next : Unit {0} → ClientState → Trace) → left_to_tell devices number w next ≡ next tt w
-unfolding tells_from
-tell_none devices number w beyond next = ap (λ (l : List DeviceInfo). tells_from number l w next) (drop_all number devices beyond)
+report_told : (line : Bool) (device : ℕ) (w : ClientState) → IsOk (asks_controls_report line device w).end →
+    (report : ControlsReport) × (v : ClientState) × (sends : List ℕ) × (is_some report.phone ≡ line) × (asks_controls_report line device w ≡ outcome (deeds sends []) (Ok (report, v)))
+report_told line device w ok =
+    let a = asks_first (query_controls device) as_controls _ w ok in
+    let report : Option Phone → ControlsReport = λ phone. record { controls = a.value; phone = phone } in
+    let b = line_told line device (after_reply w) (first_ok doing (asks_line line device) (λ phone. has_value doing (report phone)) (after_reply w) a.last) in
+    (report b.0, b.1, _, b.3, a.is ∙ ap (after_deeds doing (deeds (request_bytes w.order (query_controls device)) [])) (goes_by doing (asks_line line device) (λ phone. has_value doing (report phone)) b.4))
 
-module _ {devices : List DeviceInfo} {number : ℕ} {first : ClientState} {told : Option (List ℕ)} {wire : List ℕ → ClientState} {s s' h h' : Option (List ℕ)} (t : IsTelling devices number first told wire s s' h h') where
-  -- all were listed
-  pub telling_done : length devices ≤ number → ObservedPart (left_to_tell devices 0 first) (Ok tt) told wire s s' h h'
-  telling_done beyond = part_reaches t.reaches (part_is_done t.is_told (tell_none devices number (wire t.input) beyond))
+-- the line of a device was written
+device_told : (number : ℕ) (device : DeviceInfo) (w : ClientState) → IsOk (tells_device number device w).end →
+    (report : ControlsReport) × (now : ℕ) × (v : ClientState) × (sends : List ℕ) × (is_some report.phone ≡ device.line) × (tells_device number device w ≡ outcome (deeds sends (device_line number device report now)) (Ok (tt, v)))
+device_told number device w ok =
+    let a = report_told device.line number w (first_ok doing (asks_controls_report device.line number) _ w ok) in
+    let first = goes_by doing (asks_controls_report device.line number) _ a.4 in
+    let t = asks_first (get_time number) as_time _ a.1 (subst (λ o. IsOk o.end) first ok) in
+    (a.0, t.value.0, after_reply a.1, _, a.3, first ∙ ap (after_deeds doing (deeds a.2 [])) t.is)
 
-  module _ {device : DeviceInfo} (is : drop number devices ≡ device ∷ drop (number + 1) devices) {told' : Option (List ℕ)} {wire' : List ℕ → ClientState} {s'' h'' : Option (List ℕ)} where
-    -- the next one could not be listed
-    pub telling_stop : {how : ToolEnd} {result : Result (Unit {0}) ToolEnd} → result ≡ Err how → ObservedPart {X = Unit {0}} (tells_device number device (wire t.input)) (Err how) told' wire' s' s'' h' h'' → ObservedPart (left_to_tell devices 0 first) result told' wire' s s'' h h''
-    telling_stop same g = part_reaches (reaches_as t.reaches (tell_next devices number device (wire t.input) is)) (part_stops {second = λ _ w. left_to_tell devices (number + 1) w} same g)
+lines_told : (number : ℕ) (devices : List DeviceInfo) (w : ClientState) → IsOk (tells_from number devices w).end → HasLines number devices (tells_from number devices w).did.output
+lines_told number [] w ok = refl
+lines_told number (device ∷ more) w ok =
+    let rest = λ (_ : Unit {0}). tells_from (number + 1) more in
+    let a = device_told number device w (first_ok doing (tells_device number device) rest w ok) in
+    let whole = goes_by doing (tells_device number device) rest a.5 in
+    (a.0, a.1, (tells_from (number + 1) more a.2).did.output, a.4, ap (λ o. o.did.output) whole, lines_told (number + 1) more a.2 (subst (λ o. IsOk o.end) whole ok))
 
-    -- the next one was listed
-    pub telling_on : ObservedPart {X = Unit {0}} (tells_device number device (wire t.input)) (Ok tt) told' wire' s' s'' h' h'' → IsTelling devices (number + 1) first told' wire' s s'' h h''
-    telling_on g =
-        let k = reaches_on (λ _ w. left_to_tell devices (number + 1) w) t.reaches (tell_next devices number device (wire t.input) is) g in
-        record { input = k.0; is_told = k.1; reaches = k.2 }
-
--- list is done or refused
-tells_finish : (number : ℕ) (devices : List DeviceInfo) (w : ClientState) (next : Unit {0} → ClientState → Trace) → ((x : Unit {0}) (v : ClientState) → IsDoneOrRefused (next x v).finish) → IsDoneOrRefused (tells_from number devices w next).finish
-unfolding tells_from tells_device
-tells_finish number [] w next more = more tt w
-tells_finish number (device ∷ devices) w next more =
-    controls_report_finish device.line number w _ (λ controls_report v.
-    asked_finish (get_time number) as_time v _ (λ now v.
-    tells_finish (number + 1) devices v next more))
-
-pub list_finish : (devices : List DeviceInfo) (w : ClientState) → IsDoneOrRefused (list_trace devices w).finish
-unfolding list_trace
-list_finish devices w = tells_finish 0 devices w (λ _ _. ends done) (λ x v. inl refl)
-
+-- list ran, by its trace
 pub list_ran : (devices : List DeviceInfo) (w : ClientState) (how : ToolEnd) (s s' h h' : Option (List ℕ)) → ObservedTrace (list_trace devices w) how s s' h h' → ListRan devices w how s s' h h'
-list_ran devices w how s s' h h' f = record {
-  followed = f;
-  listed = λ way.
-      let whole = is_whole f.ended way in
-      subst (λ (l : List ℕ). HasLines 0 devices l) (sym whole.wrote) (list_lines devices w whole.finish);
-  reply = ends_by_reply (list_trace devices w) how s s' h h' f;
-  complete = λ answered. done_where_answered (list_trace devices w) how f.sends f.output f.ended (list_finish devices w) answered;
-}
+unfolding list_trace
+list_ran devices w how s s' h h' f =
+    let o = tells_from 0 devices w in
+    record {
+      followed = f;
+      listed = λ way.
+          let whole = is_whole f.ended way in
+          subst (λ (l : List ℕ). HasLines 0 devices l) (sym (whole.wrote ∙ ap (λ (l : List ℕ). o.did.output ++ l) (last_output o.end) ∙ append-nil o.did.output)) (lines_told 0 devices w (part_answered o.end (λ _. ends done) whole.finish));
+      reply = ends_by_reply (list_trace devices w) how s s' h h' f;
+      complete = λ answered. done_where_answered (list_trace devices w) how f.sends f.output f.ended (part_finish o.end (λ _. ends done) (λ _. inl refl)) answered;
+    }

@@ -6,20 +6,21 @@ use Rattle.std.specs.declared.option.Option.TheVariants.{None, Some}
 use Rattle.af_request.specs.declared.reply.Phone.{Phone}
 use Rattle.af_request.specs.Asked.{query_controls, query_phone}
 use Rattle.af_lib.specs.Calls.{as_controls, as_phone}
-use Rattle.af_toolkit.specs.Trace.{Trace, ClientState, asks}
+use Rattle.af_dialogue.specs.Parts.{goes_on, has_value}
+use Rattle.af_toolkit.specs.ToolParts.{ToolPart, asks, doing}
 use Rattle.af_standing.specs.declared.controls_report.ControlsReport.{ControlsReport}
 
 -- the state of a line is asked for if the device has one
-abbrev pub asks_line : Bool → ℕ → ClientState → (Option Phone → ClientState → Trace) → Trace
-asks_line true device w next = asks (query_phone device) as_phone w (λ phone v. next (Some phone) v)
-asks_line false device w next = next None w
+abbrev pub asks_line : Bool → ℕ → ToolPart (Option Phone)
+asks_line true device = goes_on doing (asks (query_phone device) as_phone) (λ phone. has_value doing (Some phone))
+asks_line false device = has_value doing None
 
 -- the device with this number is asked for its state: first its controls, and then its line if it has one
-unfoldable pub asks_controls_report : (line : Bool) → ℕ → ClientState → (ControlsReport → ClientState → Trace) → Trace
-asks_controls_report line device w next =
-    asks (query_controls device) as_controls w (λ controls w.
-    asks_line line device w (λ phone w.
-    next (record { controls = controls; phone = phone }) w))
+abbrev pub asks_controls_report : (line : Bool) → ℕ → ToolPart ControlsReport
+asks_controls_report line device =
+    goes_on doing (asks (query_controls device) as_controls) (λ controls.
+    goes_on doing (asks_line line device) (λ phone.
+    has_value doing (record { controls = controls; phone = phone })))
 
 -- a switch and a gain
 abbrev pub control_text : List ℕ → Bool → ℤ → List ℕ

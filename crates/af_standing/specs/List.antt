@@ -10,7 +10,9 @@ use Rattle.af_request.specs.Asked.{get_time}
 use Rattle.af_lib.specs.Calls.{ConnState, as_time}
 use Rattle.af_toolkit.specs.declared.end.ToolEnd.{ToolEnd}
 use Rattle.af_toolkit.specs.declared.end.ToolEnd.TheVariants as end
-use Rattle.af_toolkit.specs.Trace.{Trace, ClientState, asks, done, ends, writes_first}
+use Rattle.af_dialogue.specs.Parts.{goes_on, has_value}
+use Rattle.af_toolkit.specs.Trace.{Trace, ClientState, done, ends, refused}
+use Rattle.af_toolkit.specs.ToolParts.{ToolPart, asks, doing, trace_of, writes}
 use Rattle.af_toolkit.specs.Ends.{client_of, is_of_link_or_sink, is_outer, EndsByReply, IsAnswered, ObservedTrace}
 use Rattle.af_standing.specs.declared.controls_report.ControlsReport.{ControlsReport}
 use Rattle.af_standing.specs.ControlsReport.{asks_controls_report, control_text, phone_text}
@@ -46,24 +48,20 @@ device_line number device controls_report now =
     front_text number device now ++ controls_report_words controls_report ++ codes "\n"
 
 -- a device is asked for its state, and for its time, and its line is written
-unfoldable pub tells_device : (number : ℕ) → DeviceInfo → ClientState → (Unit {0} → ClientState → Trace) → Trace
-tells_device number device w next =
-    asks_controls_report device.line number w (λ controls_report w.
-    asks (get_time number) as_time w (λ now w.
-    writes_first (device_line number device controls_report now.0) (next tt w)))
+abbrev pub tells_device : (number : ℕ) → DeviceInfo → ToolPart (Unit {0})
+tells_device number device =
+    goes_on doing (asks_controls_report device.line number) (λ controls_report.
+    goes_on doing (asks (get_time number) as_time) (λ now.
+    writes (device_line number device controls_report now.0)))
 
 -- the same for devices, one after another, from this number on
-unfoldable pub tells_from : (number : ℕ) → List DeviceInfo → ClientState → (Unit {0} → ClientState → Trace) → Trace
-tells_from number [] w next = next tt w
-tells_from number (device ∷ more) w next = tells_device number device w (λ _ w. tells_from (number + 1) more w next)
-
--- and of all devices of a server
-abbrev pub tells_all : List DeviceInfo → ClientState → (Unit {0} → ClientState → Trace) → Trace
-tells_all devices w next = tells_from 0 devices w next
+abbrev pub tells_from : (number : ℕ) → List DeviceInfo → ToolPart (Unit {0})
+tells_from number [] = has_value doing tt
+tells_from number (device ∷ more) = goes_on doing (tells_device number device) (λ _. tells_from (number + 1) more)
 
 -- the trace of list, by the devices of the server and what the link gives
 unfoldable pub list_trace : List DeviceInfo → ClientState → Trace
-list_trace devices w = tells_all devices w (λ _ _. ends done)
+list_trace devices w = trace_of refused (tells_from 0 devices w) (λ _. ends done)
 
 -- the ends of list
 abbrev pub is_of_list : ToolEnd → Bool

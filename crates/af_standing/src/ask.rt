@@ -1,7 +1,8 @@
 // Asks for the state of a device.
 ghost use Rattle.std.specs.Prelude.{◌≡◌, true, IfErr};
 ghost use Rattle.std.specs.declared.option.Option.TheVariants.{None};
-ghost use Rattle.af_toolkit.specs.Ends.{is_of_link, ObservedPartOver, KeepsConnection};
+ghost use Rattle.af_toolkit.specs.Ends.{is_of_link, KeepsConnection};
+ghost use Rattle.af_toolkit.specs.ToolParts.{GoesOver};
 ghost use Rattle.af_standing.specs.ControlsReport.{asks_line, asks_controls_report};
 
 use crate::controls_report::ControlsReport;
@@ -17,7 +18,7 @@ fn phone_of<L: Link + Drop>(
     conn: &mut Conn<L>,
 ) -> Result<Option<Phone>, ToolEnd>
     requires { conn.old.cause ≡ None }
-    ensures goes { ObservedPartOver L.left L.sent conn.old conn.new (λ w. asks_line line number w) result }
+    ensures goes { GoesOver L.left L.sent conn.old conn.new (asks_line line number) result }
     ensures holds { KeepsConnection L.left L.faults conn.old conn.new result }
     ensures end { IfErr result (λ how. is_of_link how ≡ true) }
 {
@@ -35,7 +36,7 @@ pub fn controls_report_of<L: Link + Drop>(
     conn: &mut Conn<L>,
 ) -> Result<ControlsReport, ToolEnd>
     requires { conn.old.cause ≡ None }
-    ensures goes { ObservedPartOver L.left L.sent conn.old conn.new (λ w. asks_controls_report line number w) result }
+    ensures goes { GoesOver L.left L.sent conn.old conn.new (asks_controls_report line number) result }
     ensures holds { KeepsConnection L.left L.faults conn.old conn.new result }
     ensures end { IfErr result (λ how. is_of_link how ≡ true) }
 {

@@ -2,8 +2,9 @@
 ghost use Rattle.std.specs.Prelude.{◌≡◌, true, Err, IfErr};
 ghost use Rattle.std.specs.declared.option.Option.TheVariants.{None};
 ghost use Rattle.af_io.specs.Observed.{CountsFault};
-ghost use Rattle.af_toolkit.specs.Ends.{is_of_link_or_sink, KeepsConnection, ObservedPartWriting, Writes};
-ghost use Rattle.af_standing.specs.List.{device_line, is_of_list, tells_all, tells_device, RunsList};
+ghost use Rattle.af_toolkit.specs.Ends.{is_of_link_or_sink, KeepsConnection, Writes};
+ghost use Rattle.af_toolkit.specs.ToolParts.{GoesWriting};
+ghost use Rattle.af_standing.specs.List.{device_line, is_of_list, tells_device, tells_from, RunsList};
 
 use crate::ask::controls_report_of;
 use crate::controls_report::ControlsReport;
@@ -38,8 +39,8 @@ fn tell_device<L: Link + Drop, K: Sink>(
     sink: &mut K,
 ) -> Result<(), ToolEnd>
     requires { conn.old.cause ≡ None }
-    ensures goes { ObservedPartWriting L.left L.sent K.held conn.old conn.new sink.old sink.new
-        (λ w. tells_device number device w) result }
+    ensures goes { GoesWriting L.left L.sent K.held conn.old conn.new sink.old sink.new
+        (tells_device number device) result }
     ensures holds { KeepsConnection L.left L.faults conn.old conn.new result }
     ensures end { IfErr result (λ how. is_of_link_or_sink how ≡ true) }
     ensures fault { CountsFault (result ≡ Err ToolEnd.SinkFault) (K.faults sink.old) (K.faults sink.new) }
@@ -52,8 +53,8 @@ fn tell_device<L: Link + Drop, K: Sink>(
 // Writes a line for each device, in the order of their numbers.
 fn tell_devices<L: Link + Drop, K: Sink>(conn: &mut Conn<L>, sink: &mut K) -> Result<(), ToolEnd>
     requires { conn.old.cause ≡ None }
-    ensures goes { ObservedPartWriting L.left L.sent K.held conn.old conn.new sink.old sink.new
-        (λ w. tells_all conn.old.devices w) result }
+    ensures goes { GoesWriting L.left L.sent K.held conn.old conn.new sink.old sink.new
+        (tells_from 0 conn.old.devices) result }
     ensures holds { KeepsConnection L.left L.faults conn.old conn.new result }
     ensures end { IfErr result (λ how. is_of_link_or_sink how ≡ true) }
     ensures fault { CountsFault (result ≡ Err ToolEnd.SinkFault) (K.faults sink.old) (K.faults sink.new) }

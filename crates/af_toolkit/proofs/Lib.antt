@@ -1,2 +1,2 @@
-pub mod TracePartLemmas
+pub mod ToolPartLemmas
 pub mod ToolEndLemmas

@@ -1,7 +1,10 @@
 -- How a tool ends, by its trace.
 use Rattle.std.proofs.Common.{◌≡◌, ℕ, true, false, List, [], ◌++◌, append-nil, sym, ap, ◌∙◌, refl, inl, inr, ◌⊎◌}
-use Rattle.std.specs.Prelude.{Result, Ok, Err}
+use Rattle.std.specs.Prelude.{Result, Ok, Err, IsOk}
 use Rattle.std.specs.declared.option.Option.{Option}
+use Rattle.af_dialogue.specs.Parts.{goes_on, outcome}
+use Rattle.af_dialogue.proofs.PartLemmas as parts
+use Rattle.af_dialogue.proofs.PartLemmas.{called_first, called_last}
 use Rattle.af_request.specs.Asked.{Asked}
 use Rattle.af_request.specs.Answer.{Answer}
 use Rattle.af_request.specs.Requests.{request_bytes}
@@ -9,7 +12,8 @@ use Rattle.af_lib.specs.declared.fault.ConnFault.{ConnFault}
 use Rattle.af_lib.specs.declared.fault.ConnFault.TheVariants as fault
 use Rattle.af_toolkit.specs.declared.end.ToolEnd.{ToolEnd}
 use Rattle.af_toolkit.specs.declared.end.ToolEnd.TheVariants as end
-use Rattle.af_toolkit.specs.Trace.{Trace, ClientState, Finish, after_reply, answer_on, after_answer, asks, bad_sound, channel_mismatch, done, tool_end, fault_end, mismatch, no_device, not_dialled, refused, sends_first, sound_cut, too_long}
+use Rattle.af_toolkit.specs.Trace.{Trace, ClientState, Finish, after_reply, answer_on, after_answer, bad_sound, channel_mismatch, done, ends, tool_end, fault_end, mismatch, no_device, not_dialled, refused, sound_cut, too_long}
+use Rattle.af_toolkit.specs.ToolParts.{ToolPart, asks, deeds, doing, trace_ending}
 use Rattle.af_toolkit.specs.Ends.{MatchesTrace, EndsByReply, ObservedTrace, IsAnswered, is_of_reply, is_outer}
 
 -- the finish of an end that is not from outside
@@ -113,23 +117,36 @@ is_whole {trace} {how} {sends} {output} e way =
       wrote = all_done trace.output output e.unwritten e.wrote whole.2;
     }
 
--- a trace that is done went on after an answer
+-- a setup in a trace that is done was answered
 pub answered_done : {X : Type 0} (r : Result X ConnFault) (w : ClientState) (next : X → ClientState → Trace) → (after_answer r w next).finish ≡ done → (x : X) × (r ≡ Ok x) × (after_answer r w next ≡ next x w)
 answered_done (Ok x) w next is = (x, refl, refl)
 answered_done (Err fault) w next is = absurd (cc)
 
-pub asks_done : {X : Type 0} (asked : Asked) (value_of : Answer → Option X) (w : ClientState) (next : X → ClientState → Trace) → (asks asked value_of w next).finish ≡ done →
-    (x : X) × (answer_on asked value_of w ≡ Ok x) × (asks asked value_of w next ≡ sends_first (request_bytes w.order asked) (next x (after_reply w))) × ((next x (after_reply w)).finish ≡ done)
-unfolding asks
-asks_done asked value_of w next is =
-    let r = answered_done (answer_on asked value_of w) (after_reply w) next is in
-    (r.0, r.1, ap (sends_first (request_bytes w.order asked)) r.2, ap (λ (c : Trace). c.finish) (sym r.2) ∙ is)
+-- A tool that begins with a part is done only if that came to a value, where no cause of its end is that it is done.
+pub part_ok : {X F : Type 0} (finish_of : F → Finish) → ((cause : F) → finish_of cause ≡ done → ⊥) → (end : Result (X × ClientState) F) (next : X → Trace) → (trace_ending finish_of end next).finish ≡ done → IsOk end
+part_ok finish_of undone (Ok y) next way = refl
+part_ok finish_of undone (Err cause) next way = absurd (undone cause way)
 
--- a trace that goes on by the answer to a request
-answer_finish : {X : Type 0} (r : Result X ConnFault) (w : ClientState) (next : X → ClientState → Trace) → ((x : X) (v : ClientState) → IsDoneOrRefused (next x v).finish) → IsDoneOrRefused (after_answer r w next).finish
-answer_finish (Ok x) w next more = more x w
-answer_finish (Err f) w next more = inr (f, refl)
+pub part_answered : {X : Type 0} (end : Result (X × ClientState) ConnFault) (next : X → Trace) → (trace_ending refused end next).finish ≡ done → IsOk end
+part_answered end next way = part_ok refused (λ f is. cc) end next way
 
-pub asked_finish : {X : Type 0} (asked : Asked) (value_of : Answer → Option X) (w : ClientState) (next : X → ClientState → Trace) → ((x : X) (v : ClientState) → IsDoneOrRefused (next x v).finish) → IsDoneOrRefused (asks asked value_of w next).finish
+-- it is done or refused where what follows its value is
+pub part_finish : {X : Type 0} (end : Result (X × ClientState) ConnFault) (next : X → Trace) → ((x : X) → IsDoneOrRefused (next x).finish) → IsDoneOrRefused (trace_ending refused end next).finish
+part_finish (Ok y) next more = more y.0
+part_finish (Err f) next more = inr (f, refl)
+
+-- nothing is written after the last part of a tool
+pub last_output : {X : Type 0} (end : Result (X × ClientState) ConnFault) → (trace_ending refused end (λ _. ends done)).output ≡ []
+last_output (Ok y) = refl
+last_output (Err f) = refl
+
+-- what a request was answered with, if its part came to a value
+pub asks_answered : {X : Type 0} (asked : Asked) (value_of : Answer → Option X) (w : ClientState) → IsOk (asks asked value_of w).end → (x : X) × (answer_on asked value_of w ≡ Ok x) × (asks asked value_of w ≡ outcome (deeds (request_bytes w.order asked) []) (Ok (x, after_reply w)))
 unfolding asks
-asked_finish asked value_of w next more = answer_finish (answer_on asked value_of w) (after_reply w) next more
+asks_answered asked value_of w ok = called_last (deeds (request_bytes w.order asked) []) (answer_on asked value_of w) (after_reply w) ok
+
+-- the same in a part that begins with it
+pub asks_first : {X Y : Type 0} (asked : Asked) (value_of : Answer → Option X) (next : X → ToolPart Y) (w : ClientState) → IsOk (goes_on doing (asks asked value_of) next w).end →
+    parts.IsAnswered doing (deeds (request_bytes w.order asked) []) (answer_on asked value_of w) (after_reply w) next (goes_on doing (asks asked value_of) next w)
+unfolding goes_on asks
+asks_first asked value_of next w ok = called_first doing _ _ _ next ok

@@ -1,7 +1,7 @@
 -- How far a tool came in its trace, and why it ended.
 use Rattle.std.specs.Prelude.{◌≡◌, ◌≢◌, ◌≤◌, ◌⊎◌, ℕ, Bool, true, false, List, [], ◌++◌, Result, Ok, Err, IsOk, IsSome}
 use Rattle.std.specs.declared.option.Option.{Option}
-use Rattle.std.specs.declared.option.Option.TheVariants.{None, Some}
+use Rattle.std.specs.declared.option.Option.TheVariants.{None}
 use Rattle.af_io.specs.Observed.{Appended, FaultCounted}
 use Rattle.af_io.specs.Flow.{AppendedPrefix}
 use Rattle.af_lib.specs.declared.fault.ConnFault.{ConnFault}
@@ -78,45 +78,6 @@ pub record EndsByReply (trace : Trace) (how : ToolEnd) : Type 0 where
 -- each request gets its reply
 abbrev pub IsAnswered : Trace → Type 0
 IsAnswered trace = (fault : ConnFault) → trace.finish ≢ refused fault
-
--- A part of a trace is a trace with what follows it left open.
-abbrev pub TracePart : Type 0 → Type 0
-TracePart X = (X → ClientState → Trace) → Trace
-
--- a part came to a value, having sent and written this, and what follows goes on from there
-abbrev pub PartCompletes : {X : Type 0} → TracePart X → X → ClientState → List ℕ → List ℕ → Type 0
-PartCompletes {X} part x w sends output = (next : X → ClientState → Trace) →
-    part next ≡ record { sends = sends ++ (next x w).sends; output = output ++ (next x w).output; finish = (next x w).finish }
-
--- how a part went, whatever follows it
-abbrev pub PartMatches : {X : Type 0} → TracePart X → Result X ToolEnd → Option (List ℕ) → (List ℕ → ClientState) → List ℕ →
-    List ℕ → Type 0
-PartMatches part (Ok x) left wire sends output =
-    (input : List ℕ) × (left ≡ Some input) × PartCompletes part x (wire input) sends output
-PartMatches {X} part (Err how) left wire sends output =
-    (next : X → ClientState → Trace) → MatchesTrace (part next) how sends output
-
--- the same by what the link was sent and the sink holds, before and after
-pub record ObservedPart {X : Type 0} (part : TracePart X) (result : Result X ToolEnd) (left : Option (List ℕ))
-    (wire : List ℕ → ClientState) (sent sent' held held' : Option (List ℕ)) : Type 0 where
-  pub sends : List ℕ
-  pub output : List ℕ
-  pub came : PartMatches part result left wire sends output
-  pub link : Appended sent sends sent'
-  pub sink : Appended held output held'
-
--- The same over a connection whose link is observable: the part begins where the connection stands, and writes nothing.
-abbrev pub ObservedPartOver : {L X : Type 0} → (left sent : L → Option (List ℕ)) → (old new : ConnState L) →
-    (ClientState → TracePart X) → Result X ToolEnd → Type 0
-ObservedPartOver left sent old new part result = (input : List ℕ) (held : Option (List ℕ)) → left old.link ≡ Some input →
-    ObservedPart (part (client_of old input)) result (left new.link) (client_of new) (sent old.link) (sent new.link) held held
-
--- The same for a part that also writes, to a sink.
-abbrev pub ObservedPartWriting : {L K X : Type 0} → (left sent : L → Option (List ℕ)) → (held : K → Option (List ℕ)) →
-    (conn conn' : ConnState L) → (sink sink' : K) → (ClientState → TracePart X) → Result X ToolEnd → Type 0
-ObservedPartWriting left sent held conn conn' sink sink' part result = (input : List ℕ) → left conn.link ≡ Some input →
-    ObservedPart (part (client_of conn input)) result (left conn'.link) (client_of conn')
-    (sent conn.link) (sent conn'.link) (held sink) (held sink')
 
 -- some bytes were written to a sink, or the first of them before it failed
 abbrev pub Writes : {K : Type 0} → (held : K → Option (List ℕ)) → List ℕ → Result (Unit {0}) ToolEnd → (sink sink' : K) → Type 0

@@ -1,4 +1,5 @@
 pub mod Trace
 pub mod Ends
+pub mod ToolParts
 pub mod Device
 pub mod Talk

@@ -5,10 +5,8 @@ use Rattle.std.specs.declared.option.Option.{Option}
 use Rattle.std.specs.declared.option.Option.TheVariants.{None, Some}
 use Rattle.af_limits.specs.Limits.{most_events}
 use Rattle.af_request.specs.declared.reply.DeviceInfo.{DeviceInfo}
-use Rattle.af_time.specs.declared.DevTime.{DevTime}
-use Rattle.af_request.specs.Asked.{Asked, get_time}
+use Rattle.af_request.specs.Asked.{Asked}
 use Rattle.af_request.specs.Answer.{Answer}
-use Rattle.af_request.specs.Requests.{request_bytes}
 use Rattle.af_request.specs.Opcodes as opcodes
 use Rattle.af_lib.specs.declared.fault.ConnFault.{ConnFault}
 use Rattle.af_lib.specs.declared.fault.ConnFault.TheVariants as fault
@@ -16,7 +14,7 @@ use Rattle.af_lib.specs.Ring.{RingState}
 use Rattle.af_lib.specs.Incoming.{Awaited, awaited_message}
 use Rattle.af_wire.specs.declared.order.Order.{Order}
 use Rattle.af_wire.specs.Front.{setup_bytes}
-use Rattle.af_lib.specs.Calls.{answer_of, as_devices, as_done, as_time, next_sequence, opcode_of}
+use Rattle.af_lib.specs.Calls.{answer_of, as_devices, next_sequence, opcode_of}
 use Rattle.af_io.specs.Dial.{ToldLink}
 use Rattle.af_sound.specs.declared.head.SoundFault.{SoundFault}
 use Rattle.af_toolkit.specs.declared.end.ToolEnd.{ToolEnd}
@@ -79,15 +77,6 @@ after_reply w =
 -- what the link answers to a request
 abbrev pub answer_on : {X : Type 0} → Asked → (Answer → Option X) → ClientState → Result X ConnFault
 answer_on asked value_of w = answer_of w.order value_of (opcode_of asked) (next_sequence w.sequence) (next_message w).found
-
--- a request is sent, and what follows goes by its answer
-unfoldable pub asks : {X : Type 0} → Asked → (Answer → Option X) → ClientState → (X → ClientState → Trace) → Trace
-asks asked value_of w next =
-    sends_first (request_bytes w.order asked) (after_answer (answer_on asked value_of w) (after_reply w) next)
-
--- a context is made, and the time of its device is asked for
-abbrev pub begins : Asked → ℕ → ClientState → (DevTime → ClientState → Trace) → Trace
-begins context device w next = asks context as_done w (λ _ v. asks (get_time device) as_time v next)
 
 -- a tool uses the device with this number, which has to exist
 abbrev pub on_device : Option DeviceInfo → ℕ → (DeviceInfo → Trace) → Trace

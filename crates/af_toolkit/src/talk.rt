@@ -3,9 +3,9 @@ ghost use Rattle.std.specs.Prelude.{◌≡◌, true, IfErr};
 ghost use Rattle.std.specs.declared.option.Option.TheVariants.{None};
 ghost use Rattle.af_request.specs.Asked.{free_ac, get_time};
 ghost use Rattle.af_lib.specs.Calls.{as_done, as_time, device_channels};
-ghost use Rattle.af_toolkit.specs.Trace.{asks, begins};
 ghost use Rattle.af_toolkit.specs.Talk.{creates};
-ghost use Rattle.af_toolkit.specs.Ends.{is_of_link, ObservedPartOver, KeepsConnection};
+ghost use Rattle.af_toolkit.specs.Ends.{is_of_link, KeepsConnection};
+ghost use Rattle.af_toolkit.specs.ToolParts.{asks, begins, GoesOver};
 
 use crate::end::ToolEnd;
 use af_io::Link;
@@ -29,8 +29,8 @@ pub struct ToolContext {
 /// Creates the context, with the channels of its device.
 pub fn make_context<L: Link + Drop>(conn: &mut Conn<L>, context: ToolContext) -> Result<(), ToolEnd>
     requires { conn.old.cause ≡ None }
-    ensures goes { ObservedPartOver L.left L.sent conn.old conn.new
-        (λ w. asks (creates (device_channels conn.old.devices context.device) context) as_done w) result }
+    ensures goes { GoesOver L.left L.sent conn.old conn.new
+        (asks (creates (device_channels conn.old.devices context.device) context) as_done) result }
     ensures holds { KeepsConnection L.left L.faults conn.old conn.new result }
     ensures end { IfErr result (λ how. is_of_link how ≡ true) }
 {
@@ -48,7 +48,7 @@ pub fn make_context<L: Link + Drop>(conn: &mut Conn<L>, context: ToolContext) ->
 /// Asks for a device's time.
 pub fn device_time<L: Link + Drop>(conn: &mut Conn<L>, device: u8) -> Result<DevTime, ToolEnd>
     requires { conn.old.cause ≡ None }
-    ensures goes { ObservedPartOver L.left L.sent conn.old conn.new (λ w. asks (get_time device) as_time w) result }
+    ensures goes { GoesOver L.left L.sent conn.old conn.new (asks (get_time device) as_time) result }
     ensures holds { KeepsConnection L.left L.faults conn.old conn.new result }
     ensures end { IfErr result (λ how. is_of_link how ≡ true) }
 {
@@ -58,8 +58,8 @@ pub fn device_time<L: Link + Drop>(conn: &mut Conn<L>, device: u8) -> Result<Dev
 /// Creates the context, with the channels of its device, and asks for the device's time.
 pub fn begin<L: Link + Drop>(conn: &mut Conn<L>, context: ToolContext) -> Result<DevTime, ToolEnd>
     requires { conn.old.cause ≡ None }
-    ensures goes { ObservedPartOver L.left L.sent conn.old conn.new
-        (λ w. begins (creates (device_channels conn.old.devices context.device) context) context.device w) result }
+    ensures goes { GoesOver L.left L.sent conn.old conn.new
+        (begins (creates (device_channels conn.old.devices context.device) context) context.device) result }
     ensures holds { KeepsConnection L.left L.faults conn.old conn.new result }
     ensures end { IfErr result (λ how. is_of_link how ≡ true) }
 {
@@ -71,7 +71,7 @@ pub fn begin<L: Link + Drop>(conn: &mut Conn<L>, context: ToolContext) -> Result
 /// Frees the context.
 pub fn finish<L: Link + Drop>(conn: &mut Conn<L>) -> Result<(), ToolEnd>
     requires { conn.old.cause ≡ None }
-    ensures goes { ObservedPartOver L.left L.sent conn.old conn.new (λ w. asks (free_ac 1) as_done w) result }
+    ensures goes { GoesOver L.left L.sent conn.old conn.new (asks (free_ac 1) as_done) result }
     ensures holds { KeepsConnection L.left L.faults conn.old conn.new result }
     ensures end { IfErr result (λ how. is_of_link how ≡ true) }
 {

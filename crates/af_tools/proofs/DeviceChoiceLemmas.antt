@@ -13,9 +13,10 @@ use Rattle.af_toolkit.specs.declared.talk.ToolContext.{ToolContext}
 use Rattle.af_lib.specs.Calls.{device_channels}
 use Rattle.af_request.specs.Asked.{Asked}
 use Rattle.af_tools.specs.declared.sound.SourceSound.{SourceSound}
-use Rattle.af_tools.specs.Play.{played_text, plays_on}
+use Rattle.af_tools.specs.Play.{play_finish, played_text, plays_on}
+use Rattle.af_toolkit.specs.ToolParts.{trace_of}
 use Rattle.af_toolkit.specs.Ends.{ObservedTrace}
-use Rattle.af_toolkit.proofs.TracePartLemmas.{followed_end}
+use Rattle.af_toolkit.proofs.ToolPartLemmas.{followed_end}
 
 -- the device with a number
 pub record IsThere (devices : List DeviceInfo) (number : ℕ) (device : DeviceInfo) : Type 0 where
@@ -58,7 +59,7 @@ missing_at devices number none d get = absurd (none-some d (sym none ∙ get))
 
 -- a sound is played on a device, and then that is written
 abbrev pub reported : PlayJob → DeviceInfo → ClientState → SourceSound → List ℕ → Trace
-reported job device w sound bytes = plays_on job sound device bytes w (λ frames start _. writes_first (played_text frames start) (ends done))
+reported job device w sound bytes = trace_of play_finish (plays_on job sound device bytes w) (λ p. writes_first (played_text p.frames p.start.0) (ends done))
 
 pub followed_same : (c d : Trace) (how : ToolEnd) (s s' h h' : Option (List ℕ)) → d ≡ c → ObservedTrace c how s s' h h' → ObservedTrace d how s s' h h'
 followed_same c d how s s' h h' is f = subst (λ (x : Trace). ObservedTrace x how s s' h h') (sym is) f

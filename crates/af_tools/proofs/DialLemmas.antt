@@ -26,7 +26,7 @@ use Rattle.af_tools.specs.Sounds.{most_bytes}
 use Rattle.af_cli.specs.Words.{Job, one, relay}
 use Rattle.af_io.proofs.ConsumedLemmas.{consumed_known}
 use Rattle.af_io.proofs.AppendedLemmas.{appended_none, appended_on}
-use Rattle.af_toolkit.proofs.TracePartLemmas.{ended_early, ended_same, ended_then, setup_known}
+use Rattle.af_toolkit.proofs.ToolPartLemmas.{ended_early, ended_same, ended_then, setup_known}
 use Rattle.af_toolkit.proofs.ToolEndLemmas.{done_unless_outer, ends_as}
 use Rattle.af_tools.proofs.EndLemmas.{never}
 use Rattle.af_relay.proofs.RelayPartLemmas.{is_from, is_to, one_goes}

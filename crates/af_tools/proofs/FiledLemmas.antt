@@ -1,5 +1,5 @@
 -- A recording that is written as a sound file, beside the same recording written raw.
-use Rattle.std.proofs.Common.{◌≡◌, ℕ, ◌+◌, ◌*◌, ◌%◌, ◌^◌, ◌==◌, Bool, true, false, List, [], ◌∷◌, ◌++◌, length, length-append, slice_get, append_assoc, append-nil, sym, ap, ap₂, ◌∙◌, subst, refl, arith, if◌then◌else◌, Result, Ok, Err, option_and_then, option_map, unwrap_or, Option, None, Some}
+use Rattle.std.proofs.Common.{◌≡◌, ℕ, ◌+◌, ◌*◌, ◌%◌, ◌^◌, ◌==◌, Bool, true, false, List, [], ◌∷◌, ◌++◌, length, length-append, slice_get, append-nil, sym, ap, ◌∙◌, subst, refl, arith, if◌then◌else◌, Result, Ok, Err, IsOk, option_and_then, option_map, unwrap_or, Option, None, Some}
 use Rattle.std.proofs.Math.Nat.{add-mul}
 use Rattle.std.proofs.lemmas.Bool.Decides.{nat_tests}
 use Rattle.af_io.specs.Observed.{Appended}
@@ -10,9 +10,8 @@ use Rattle.af_sound.specs.declared.head.Coding.TheVariants as coding
 use Rattle.af_sound.specs.declared.head.SoundForm.{SoundForm}
 use Rattle.af_sound.specs.declared.head.SoundForm.TheVariants.{Au, Wave}
 use Rattle.af_sound.proofs.SwappedLemmas.{swapped_append}
-use Rattle.af_wire.specs.declared.order.Order.{Order}
 use Rattle.af_request.specs.declared.reply.DeviceInfo.{DeviceInfo}
-use Rattle.af_request.specs.Asked.{Asked, free_ac, get_time, record_run}
+use Rattle.af_request.specs.Asked.{free_ac, get_time, record_run}
 use Rattle.af_request.specs.Answer.{Answer, recorded}
 use Rattle.af_wire.specs.declared.order.Order.{Order}
 use Rattle.af_request.specs.Requests.{request_bytes}
@@ -23,21 +22,18 @@ use Rattle.af_cli.specs.Sizes.{block_frames}
 use Rattle.af_cli.specs.declared.job.RecordJob.{RecordJob}
 use Rattle.af_toolkit.specs.declared.end.ToolEnd.{ToolEnd}
 use Rattle.af_toolkit.specs.declared.end.ToolEnd.TheVariants as end
-use Rattle.af_toolkit.specs.Trace.{Trace, ClientState, after_reply, answer_on, after_answer, asks, done, ends, next_message, writes_first}
+use Rattle.af_dialogue.specs.Parts.{Outcome, after_deeds, called, goes_on, has_value, outcome}
+use Rattle.af_dialogue.proofs.PartLemmas.{first_ok, goes_by}
+use Rattle.af_time.specs.declared.DevTime.{DevTime}
+use Rattle.af_toolkit.specs.Trace.{Trace, ClientState, after_reply, answer_on, done, ends, next_message, on_device, refused}
+use Rattle.af_toolkit.specs.ToolParts.{ToolDeeds, ToolPart, asks, begins, deeds, doing, trace_of, writes}
 use Rattle.af_toolkit.specs.Ends.{ObservedTrace}
 use Rattle.af_tools.specs.declared.record.RecordedSound.{RecordedSound}
-use Rattle.af_tools.specs.Record.{as_filed, as_raw, coding_in, front_of_recording, pad_after, recorded_sound, recorded_type, IsFiledAs, arecord_trace, block_lengths, ends_row, peak, record_context, recorded_frame, records_on, records, records_all, writes_recording, IsRecorded}
+use Rattle.af_tools.specs.Record.{as_filed, as_raw, coding_in, front_of_recording, pad_after, recorded_sound, recorded_type, recording_of, IsFiledAs, arecord_trace, block_lengths, ends_row, peak, record_context, recorded_frame, records_on, records, records_all, takes_block, writes_recording, IsRecorded}
 use Rattle.af_tools.specs.Sounds.{AreWhole}
 use Rattle.af_tools.proofs.PlayedBlockLemmas.{on_device_done}
-use Rattle.af_toolkit.proofs.ToolEndLemmas.{is_whole}
+use Rattle.af_toolkit.proofs.ToolEndLemmas.{asks_answered, asks_first, is_whole, part_answered}
 use Rattle.af_tools.proofs.RecordBlockLemmas.{whole_frames}
-
--- A trace that writes a file, beside one that writes its samples raw, when n bytes of these were written before. They send the
--- same and end alike. If they are done, the one has written this front, and as a file what the other wrote.
-pub record IsFileOf (front : List ℕ) (form : Option SoundForm) (coding : Option Coding) (before : ℕ) (c raw : Trace) : Type 0 where
-  pub sends : c.sends ≡ raw.sends
-  pub finish : c.finish ≡ raw.finish
-  pub output : raw.finish ≡ done → c.output ≡ front ++ (as_filed coding raw.output ++ pad_after form (before + length raw.output))
 
 filed_none : (coding : Option Coding) → as_filed coding [] ≡ []
 filed_none (Some coding.Lin16Little) = refl
@@ -75,128 +71,156 @@ found_size order size opcode (Err fault) r is = absurd cc
 answered_size : (order : Order) (size opcode sequence : ℕ) (found : Result (List ℕ) ConnFault) (r : Recorded) → answer_of order (as_recorded true size) opcode sequence found ≡ Ok r → length r.samples ≡ size
 answered_size order size opcode sequence found r is = found_size order size opcode (and_then (answer_to order opcode sequence) found) r is
 
-module _ (front : List ℕ) (form : Option SoundForm) (coding : Option Coding) (before : ℕ) where
-  answered_file : {X : Type 0} (r : Result X ConnFault) (w : ClientState) (next next' : X → ClientState → Trace) → ((x : X) (v : ClientState) → r ≡ Ok x → IsFileOf front form coding before (next x v) (next' x v)) →
-      IsFileOf front form coding before (after_answer r w next) (after_answer r w next')
-  answered_file (Ok x) w next next' more = more x w refl
-  answered_file (Err f) w next next' more = record { sends = refl; finish = refl; output = λ way. absurd cc }
-
-  -- a request is sent by both
-  asked_file : {X : Type 0} (asked : Asked) (value_of : Answer → Option X) (w : ClientState) (next next' : X → ClientState → Trace) →
-      ((x : X) (v : ClientState) → answer_on asked value_of w ≡ Ok x → IsFileOf front form coding before (next x v) (next' x v)) → IsFileOf front form coding before (asks asked value_of w next) (asks asked value_of w next')
-  unfolding asks
-  asked_file asked value_of w next next' more =
-      let f = answered_file (answer_on asked value_of w) (after_reply w) next next' more in
-      record { sends = ap (λ (l : List ℕ). request_bytes w.order asked ++ l) f.sends; finish = f.finish; output = f.output }
-
-  if_file : (b : Bool) (c d c' d' : Trace) → IsFileOf front form coding before c c' → IsFileOf front form coding before d d' → IsFileOf front form coding before (if b then c else d) (if b then c' else d')
-  if_file true c d c' d' f g = f
-  if_file false c d c' d' f g = g
-
--- the front of a file is written
-front_file : (front : List ℕ) (form : Option SoundForm) (coding : Option Coding) (c raw : Trace) → IsFileOf [] form coding 0 c raw → IsFileOf front form coding 0 (writes_first front c) raw
-front_file front form coding c raw f = record { sends = f.sends; finish = f.finish; output = λ way. ap (λ (l : List ℕ). front ++ l) (f.output way) }
-
-module _ (form : Option SoundForm) (coding : Option Coding) (before : ℕ) where
-  -- a block is written by both
-  block_file : (samples : List ℕ) (c raw : Trace) → AreWhole coding (length samples) → IsFileOf [] form coding (before + length samples) c raw → IsFileOf [] form coding before (writes_first (as_filed coding samples) c) (writes_first samples raw)
-  block_file samples c raw whole f = record {
-    sends = f.sends;
-    finish = f.finish;
-    output = λ way.
-        let len = length-append samples raw.output in
-        let size : before + length samples + length raw.output ≡ before + length (samples ++ raw.output) = omega (arith, len) in
-        ap (λ (l : List ℕ). as_filed coding samples ++ l) (f.output way)
-        ∙ sym (append_assoc (as_filed coding samples) (as_filed coding raw.output) (pad_after form (before + length samples + length raw.output)))
-        ∙ ap₂ (λ (l : List ℕ) (n : ℕ). l ++ pad_after form n) (sym (filed_append coding samples raw.output whole)) size;
-  }
-
-  -- both free the context, and write nothing more except the byte that makes the one even
-  freed_none : (r : Result (Unit {0}) ConnFault) (w : ClientState) → (after_answer r w (λ _ _. ends done)).output ≡ []
-  freed_none (Ok x) w = refl
-  freed_none (Err f) w = refl
-
-  end_file : (w : ClientState) → IsFileOf [] form coding before (writes_first (pad_after form before) (asks (free_ac 1) as_done w (λ _ _. ends done))) (asks (free_ac 1) as_done w (λ _ _. ends done))
-  unfolding asks
-  end_file w =
-      let none = freed_none (answer_on (free_ac 1) as_done w) (after_reply w) in
-      let rest : List ℕ = (after_answer (answer_on (free_ac 1) as_done w) (after_reply w) (λ _ _. ends done)).output in
-      let size : before ≡ before + length rest = rw none (let e : before ≡ before + 0 = omega arith in e) in
-      record {
-        sends = refl;
-        finish = refl;
-        output = λ way.
-            ap (λ (l : List ℕ). pad_after form before ++ l) none ∙ append-nil (pad_after form before) ∙ ap (pad_after form) size
-            ∙ ap (λ (l : List ℕ). l ++ pad_after form (before + length rest)) (sym (ap (as_filed coding) none ∙ filed_none coding));
-      }
-
 -- the same sound, written raw
 abbrev plain_sound : RecordedSound → RecordedSound
 plain_sound sound = record { ty = sound.ty; coding = None; channels = sound.channels }
 
-records_file : (job : RecordJob) (device : DeviceInfo) (sound : RecordedSound) (at before : ℕ) (peaks lengths : List ℕ) (w : ClientState) (next next' : ℕ → ClientState → Trace) → IsFiledAs sound.coding sound.ty →
-    ((frames : ℕ) (v : ClientState) → IsFileOf [] job.form sound.coding (frames * recorded_frame sound) (next frames v) (next' frames v)) →
-    IsFileOf [] job.form sound.coding (before * recorded_frame sound) (records job sound at before peaks lengths w next) (records (as_raw job device) (plain_sound sound) at before peaks lengths w next')
+-- a block that was recorded was written
+block_by : (sound : RecordedSound) (at size : ℕ) (w : ClientState) {r : Recorded} → answer_on (record_run true 1 at size) (as_recorded true size) w ≡ Ok r →
+    takes_block sound at size w ≡ outcome (deeds (request_bytes w.order (record_run true 1 at size) ++ []) (as_filed sound.coding r.samples)) (Ok (peak sound.ty r.samples, after_reply w))
+unfolding goes_on asks
+block_by sound at size w {r} good =
+    let asked = record_run true 1 at size in
+    let bytes = request_bytes w.order asked in
+    goes_by doing (asks asked (as_recorded true size)) _ (ap (λ (a : Result Recorded ConnFault). called (deeds bytes []) a (after_reply w)) good)
+    ∙ ap (λ (l : List ℕ). outcome {F = ConnFault} (deeds (bytes ++ []) l) (Ok (peak sound.ty r.samples, after_reply w))) (append-nil (as_filed sound.coding r.samples))
+
+-- Blocks that were recorded, after n frames: a file of their samples was written, and the same recording written raw has these.
+record WroteFile (sound : RecordedSound) (before : ℕ) (o raw : Outcome ToolDeeds (ℕ × ClientState) ConnFault) : Type 0 where
+  frames : ℕ
+  after : ClientState
+  sends : List ℕ
+  samples : List ℕ
+  size : before * recorded_frame sound + length samples ≡ frames * recorded_frame sound
+  is : o ≡ outcome (deeds sends (as_filed sound.coding samples)) (Ok (frames, after))
+  raw_is : raw ≡ outcome (deeds sends samples) (Ok (frames, after))
+
+wrote_none : (sound : RecordedSound) (before : ℕ) (w : ClientState) → WroteFile sound before (has_value doing before w) (has_value doing before w)
+wrote_none sound before w = record {
+  frames = before;
+  after = w;
+  sends = [];
+  samples = [];
+  size = omega arith;
+  is = ap (λ (l : List ℕ). outcome {F = ConnFault} (deeds [] l) (Ok (before, w))) (sym (filed_none sound.coding));
+  raw_is = refl;
+}
+
+records_wrote : (job : RecordJob) (device : DeviceInfo) (sound : RecordedSound) (at before : ℕ) (peaks lengths : List ℕ) (w : ClientState) → IsFiledAs sound.coding sound.ty → IsOk (records job sound at before peaks lengths w).end →
+    WroteFile sound before (records job sound at before peaks lengths w) (records (as_raw job device) (plain_sound sound) at before peaks lengths w)
 unfolding records
-records_file job device sound at before peaks [] w next next' filed more = more before w
-records_file job device sound at before peaks (n ∷ lengths) w next next' filed more =
+records_wrote job device sound at before peaks [] w filed ok = wrote_none sound before w
+records_wrote job device sound at before peaks (n ∷ lengths) w filed ok =
     let frame = recorded_frame sound in
-    asked_file [] job.form sound.coding (before * frame) (record_run true 1 at (n * frame)) (as_recorded true (n * frame)) w _ _ (λ r v is.
-    let size : length r.samples ≡ n * frame = answered_size w.order (n * frame) (opcode_of (record_run true 1 at (n * frame))) (next_sequence w.sequence) (next_message w).found r is in
-    let sum : (before + n) * frame ≡ before * frame + length r.samples = add-mul before n frame ∙ ap (λ (m : ℕ). before * frame + m) (sym size) in
-    block_file job.form sound.coding (before * frame) r.samples _ _ (whole_frames sound n (length r.samples) filed size)
-    (subst (λ (m : ℕ). IsFileOf [] job.form sound.coding m
-    (if ends_row job (peak sound.ty r.samples ∷ peaks) then next (before + n) v else records job sound ((at + n) % 2 ^ 32) (before + n) (peak sound.ty r.samples ∷ peaks) lengths v next)
-    (if ends_row job (peak sound.ty r.samples ∷ peaks) then next' (before + n) v else records (as_raw job device) (plain_sound sound) ((at + n) % 2 ^ 32) (before + n) (peak sound.ty r.samples ∷ peaks) lengths v next')) sum
-    (if_file [] job.form sound.coding ((before + n) * frame) (ends_row job (peak sound.ty r.samples ∷ peaks)) _ _ _ _ (more (before + n) v)
-    (records_file job device sound ((at + n) % 2 ^ 32) (before + n) (peak sound.ty r.samples ∷ peaks) lengths v next next' filed more))))
+    let run = record_run true 1 at (n * frame) in
+    let on = λ (x : ℕ). records job sound ((at + n) % 2 ^ 32) (before + n) (x ∷ peaks) lengths in
+    let raw_on = λ (x : ℕ). records (as_raw job device) (plain_sound sound) ((at + n) % 2 ^ 32) (before + n) (x ∷ peaks) lengths in
+    let next : ℕ → ToolPart ℕ = λ x. if ends_row job (x ∷ peaks) then has_value doing (before + n) else on x in
+    let raw_next : ℕ → ToolPart ℕ = λ x. if ends_row job (x ∷ peaks) then has_value doing (before + n) else raw_on x in
+    let a = asks_first run (as_recorded true (n * frame)) _ w (first_ok doing (takes_block sound at (n * frame)) next w ok) in
+    let r = a.value in
+    let v = after_reply w in
+    let x = peak sound.ty r.samples in
+    let bytes : List ℕ = request_bytes w.order run ++ [] in
+    let whole = goes_by doing (takes_block sound at (n * frame)) next (block_by sound at (n * frame) w a.good) in
+    let raw_whole = goes_by doing (takes_block (plain_sound sound) at (n * frame)) raw_next (block_by (plain_sound sound) at (n * frame) w a.good) in
+    let m = either (ends_row job (x ∷ peaks)) sound (before + n) v (on x) (raw_on x) (λ ok. records_wrote job device sound ((at + n) % 2 ^ 32) (before + n) (x ∷ peaks) lengths v filed ok) (subst (λ o. IsOk o.end) whole ok) in
+    let size : length r.samples ≡ n * frame = answered_size w.order (n * frame) (opcode_of run) (next_sequence w.sequence) (next_message w).found r a.good in
+    let count = m.size in
+    let sum = add-mul before n frame in
+    let len = length-append r.samples m.samples in
+    record {
+      frames = m.frames;
+      after = m.after;
+      sends = bytes ++ m.sends;
+      samples = r.samples ++ m.samples;
+      size = omega arith;
+      is = whole ∙ ap (after_deeds doing (deeds bytes (as_filed sound.coding r.samples))) m.is
+          ∙ ap (λ (l : List ℕ). outcome {F = ConnFault} (deeds (bytes ++ m.sends) l) (Ok (m.frames, m.after))) (sym (filed_append sound.coding r.samples m.samples (whole_frames sound n (length r.samples) filed size)));
+      raw_is = raw_whole ∙ ap (after_deeds doing (deeds bytes r.samples)) m.raw_is;
+    }
+  where
+    either : (ends : Bool) (sound : RecordedSound) (count : ℕ) (v : ClientState) (on raw_on : ToolPart ℕ) → (IsOk (on v).end → WroteFile sound count (on v) (raw_on v)) → (let part : ToolPart ℕ = if ends then has_value doing count else on in IsOk (part v).end) →
+        (let part : ToolPart ℕ = if ends then has_value doing count else on in let raw : ToolPart ℕ = if ends then has_value doing count else raw_on in WroteFile sound count (part v) (raw v))
+    either true sound count v on raw_on wrote ok = wrote_none sound count v
+    either false sound count v on raw_on wrote ok = wrote ok
 
--- what follows the front, and the same written raw
-abbrev file_body : RecordJob → DeviceInfo → (start : ℕ) → ClientState → Trace
-file_body job device start w = records_all job (recorded_sound job device) start w (λ frames w.
-    writes_first (pad_after job.form (frames * recorded_frame (recorded_sound job device))) (asks (free_ac 1) as_done w (λ _ _. ends done)))
+-- a device that was recorded: a recording was written, and the same written raw has its samples
+record WroteRecording (job : RecordJob) (device : DeviceInfo) (w : ClientState) : Type 0 where
+  sends : List ℕ
+  samples : List ℕ
+  after : ClientState
+  is : records_on job device w ≡ outcome (deeds sends (recording_of job device samples)) (Ok (tt, after))
+  raw_is : records_on (as_raw job device) device w ≡ outcome (deeds sends samples) (Ok (tt, after))
 
-abbrev raw_body : RecordJob → DeviceInfo → (start : ℕ) → ClientState → Trace
-raw_body job device start w = records_all (as_raw job device) (plain_sound (recorded_sound job device)) start w (λ frames w. asks (free_ac 1) as_done w (λ _ _. ends done))
-
-body_file : (job : RecordJob) (device : DeviceInfo) (start : ℕ) (w : ClientState) → IsFileOf [] job.form (recorded_sound job device).coding 0 (file_body job device start w) (raw_body job device start w)
-body_file job device start w =
+-- what was recorded from a start on, between the front and the pad byte
+written : (job : RecordJob) (device : DeviceInfo) (start : ℕ) (w : ClientState) → IsOk (writes_recording job device start w).end →
+    (sends : List ℕ) × (samples : List ℕ) × (after : ClientState) × (writes_recording job device start w ≡ outcome (deeds sends (recording_of job device samples)) (Ok (tt, after)))
+    × (writes_recording (as_raw job device) device start w ≡ outcome (deeds sends samples) (Ok (tt, after)))
+unfolding goes_on
+written job device start w ok =
     let sound = recorded_sound job device in
     let frame = recorded_frame sound in
-    let none : 0 * frame ≡ 0 = omega arith in
-    rw none at (records_file job device sound start 0 [] (block_lengths (block_frames job.block frame) job.frames) w
-    (λ frames w. writes_first (pad_after job.form (frames * frame)) (asks (free_ac 1) as_done w (λ _ _. ends done))) (λ frames w. asks (free_ac 1) as_done w (λ _ _. ends done))
-    (filed_as job.form (unwrap_or job.ty device.ty)) (λ frames v. end_file job.form sound.coding (frames * frame) v))
-
-recorded_file : (job : RecordJob) (device : DeviceInfo) (w : ClientState) →
-    IsFileOf (front_of_recording job device) job.form (recorded_sound job device).coding 0 (records_on job device w (λ _ _. ends done)) (records_on (as_raw job device) device w (λ _ _. ends done))
-unfolding records_on writes_recording
-recorded_file job device w =
     let front = front_of_recording job device in
-    let sound = recorded_sound job device in
-    asked_file front job.form sound.coding 0 (record_context job device) as_done w _ _ (λ _ v _.
-    asked_file front job.form sound.coding 0 (get_time job.device) as_time v _ _ (λ now v _.
-    front_file front job.form sound.coding (file_body job device (unwrap_or job.time now.0) v) (raw_body job device (unwrap_or job.time now.0) v) (body_file job device (unwrap_or job.time now.0) v)))
+    let pad = λ (frames : ℕ). writes (pad_after job.form (frames * frame)) in
+    let raw_pad = λ (frames : ℕ). writes [] in
+    let lengths = block_lengths (block_frames job.block frame) job.frames in
+    let m = records_wrote job device sound start 0 [] lengths w (filed_as job.form (unwrap_or job.ty device.ty)) (first_ok doing (records_all job sound start) pad w ok) in
+    let size : m.frames * frame ≡ length m.samples = (let all = m.size in omega arith) in (
+      m.sends ++ [],
+      m.samples,
+      m.after,
+      ap (after_deeds doing (deeds [] front)) (goes_by doing (records_all job sound start) pad m.is)
+          ∙ ap (λ (n : ℕ). outcome {F = ConnFault} (deeds (m.sends ++ []) (front ++ (as_filed sound.coding m.samples ++ pad_after job.form n))) (Ok (tt, m.after))) size,
+      ap (after_deeds doing (deeds [] [])) (goes_by doing (records_all (as_raw job device) (plain_sound sound) start) raw_pad m.raw_is)
+          ∙ ap (λ (l : List ℕ). outcome {F = ConnFault} (deeds (m.sends ++ []) l) (Ok (tt, m.after))) (append-nil m.samples),
+    )
 
--- arecord on a device that exists
-pub arecord_file : (job : RecordJob) (devices : List DeviceInfo) (w : ClientState) (device : DeviceInfo) → slice_get devices job.device ≡ Some device →
-    IsFileOf (front_of_recording job device) job.form (recorded_sound job device).coding 0 (arecord_trace job devices w) (arecord_trace (as_raw job device) devices w)
-unfolding arecord_trace
-arecord_file job devices w device there = rw there (recorded_file job device w)
+recorded_on : (job : RecordJob) (device : DeviceInfo) (w : ClientState) → IsOk (records_on job device w).end → WroteRecording job device w
+recorded_on job device w ok =
+    let next = λ (j : RecordJob) (now : DevTime). goes_on doing (writes_recording j device (unwrap_or job.time now.0)) (λ _. asks (free_ac 1) as_done) in
+    let begun = begins (record_context job device) job.device in
+    let a = asks_first (record_context job device) as_done (λ _. asks (get_time job.device) as_time) w (first_ok doing begun (next job) w ok) in
+    let t = asks_answered (get_time job.device) as_time (after_reply w) a.last in
+    let start = unwrap_or job.time t.0.0 in
+    let v = after_reply (after_reply w) in
+    let context : List ℕ = request_bytes w.order (record_context job device) in
+    let time : List ℕ = request_bytes w.order (get_time job.device) in
+    let begin = a.is ∙ ap (after_deeds doing (deeds context [])) t.2 in
+    let whole = goes_by doing begun (next job) begin in
+    let ok' = subst (λ o. IsOk o.end) whole ok in
+    let r = written job device start v (first_ok doing (writes_recording job device start) _ v ok') in
+    let more = goes_by doing (writes_recording job device start) (λ _. asks (free_ac 1) as_done) r.3 in
+    let f = asks_answered (free_ac 1) as_done r.2 (subst (λ o. IsOk o.end) more ok') in
+    let raw_more = goes_by doing (writes_recording (as_raw job device) device start) (λ _. asks (free_ac 1) as_done) r.4 in
+    let sends : List ℕ = (context ++ time) ++ (r.0 ++ request_bytes r.2.order (free_ac 1)) in
+    let begun_by = deeds (context ++ time) [] in
+    let end : (output : List ℕ) → outcome {X = Unit {0} × ClientState} {F = ConnFault} (deeds sends (output ++ [])) (Ok (tt, after_reply r.2)) ≡ outcome (deeds sends output) (Ok (tt, after_reply r.2)) =
+    λ output. ap (λ (l : List ℕ). outcome {X = Unit {0} × ClientState} {F = ConnFault} (deeds sends l) (Ok (tt, after_reply r.2))) (append-nil output) in
+    record {
+      sends = sends;
+      samples = r.1;
+      after = after_reply r.2;
+      is = whole ∙ ap (after_deeds doing begun_by) (more ∙ ap (after_deeds doing (deeds r.0 (recording_of job device r.1))) f.2) ∙ end (recording_of job device r.1);
+      raw_is = goes_by doing begun (next (as_raw job device)) begin ∙ ap (after_deeds doing begun_by) (raw_more ∙ ap (after_deeds doing (deeds r.0 r.1)) f.2) ∙ end r.1;
+    }
 
 pub is_recorded : (job : RecordJob) (devices : List DeviceInfo) (w : ClientState) (how : ToolEnd) (s s' h h' : Option (List ℕ)) → ObservedTrace (arecord_trace job devices w) how s s' h h' → how ≡ end.Done → IsRecorded job devices w s s' h h'
 unfolding arecord_trace
 is_recorded job devices w how s s' h h' followed way =
     let all = is_whole followed.ended way in
-    let d = on_device_done (slice_get devices job.device) (length devices) (λ device. records_on job device w (λ _ _. ends done)) all.finish in
-    let f = arecord_file job devices w d.0 d.1 in
-    let samples : List ℕ = (arecord_trace (as_raw job d.0) devices w).output in
-    let size : 0 + length samples ≡ length samples = omega arith in
+    let whole = λ (o : Outcome ToolDeeds (Unit {0} × ClientState) ConnFault). trace_of refused o (λ _. ends done) in
+    let d = on_device_done (slice_get devices job.device) (length devices) (λ device. whole (records_on job device w)) all.finish in
+    let device = d.0 in
+    let r = recorded_on job device w (part_answered (records_on job device w).end (λ _. ends done) (ap (λ (c : Trace). c.finish) (sym d.2) ∙ all.finish)) in
+    let is = d.2 ∙ ap whole r.is in
+    let raw = as_raw job device in
+    let raw_is = ap (λ (o : Option DeviceInfo). on_device o (length devices) (λ device. whole (records_on raw device w))) d.1 ∙ ap whole r.raw_is in
     record {
-      device = d.0;
+      device = device;
       is_there = d.1;
-      samples = samples;
+      samples = (arecord_trace raw devices w).output;
       are_raw = refl;
-      link = subst (λ (b : List ℕ). Appended s b s') (all.sent ∙ f.sends) followed.link;
-      sink = subst (λ (b : List ℕ). Appended h b h') (all.wrote ∙ f.output (sym f.finish ∙ all.finish) ∙ ap (λ (n : ℕ). front_of_recording job d.0 ++ (as_filed (recorded_sound job d.0).coding samples ++ pad_after job.form n)) size) followed.sink;
+      link = subst (λ (b : List ℕ). Appended s b s') (all.sent ∙ ap (λ (c : Trace). c.sends) is ∙ sym (ap (λ (c : Trace). c.sends) raw_is)) followed.link;
+      sink = subst (λ (b : List ℕ). Appended h b h') (all.wrote ∙ ap (λ (c : Trace). c.output) is ∙ append-nil (recording_of job device r.samples) ∙ ap (recording_of job device) (sym (ap (λ (c : Trace). c.output) raw_is ∙ append-nil r.samples))) followed.sink;
     }

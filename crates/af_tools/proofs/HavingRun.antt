@@ -5,9 +5,10 @@ use Rattle.std.proofs.lemmas.Option.{slice_get_cases}
 use Rattle.af_request.specs.declared.reply.DeviceInfo.{DeviceInfo}
 use Rattle.af_request.specs.Replies.{IsDeviceInfo}
 use Rattle.af_toolkit.specs.declared.end.ToolEnd.{ToolEnd}
-use Rattle.af_toolkit.specs.Trace.{Trace, ClientState, done, ends, too_long, with_job_device, writes_first}
+use Rattle.af_toolkit.specs.Trace.{Trace, ClientState, done, ends, refused, too_long, with_job_device, writes_first}
+use Rattle.af_toolkit.specs.ToolParts.{trace_of}
 use Rattle.af_toolkit.specs.Ends.{ObservedTrace}
-use Rattle.af_toolkit.proofs.ToolEndLemmas.{IsDoneOrRefused, done_where_answered, ends_by_reply}
+use Rattle.af_toolkit.proofs.ToolEndLemmas.{IsDoneOrRefused, done_where_answered, ends_by_reply, part_finish}
 use Rattle.af_cli.specs.declared.job.PlayJob.{PlayJob}
 use Rattle.af_cli.specs.declared.job.RecordJob.{RecordJob}
 use Rattle.af_cli.specs.declared.job.SetJob.{SetJob}
@@ -18,13 +19,13 @@ use Rattle.af_sound.proofs.FrontLemmas.{front, front_head}
 use Rattle.af_sample.specs.declared.sample_type.SampleType.{SampleType}
 use Rattle.af_tools.specs.declared.sound.SourceSound.{SourceSound}
 use Rattle.af_tools.specs.Sounds.{most_bytes, at_one_shape, file_sound, raw_sound, reads_front, reads_sound, GivesSamples, IsFileSound, IsPlayable}
-use Rattle.af_tools.specs.Play.{aplay_trace, played_text}
+use Rattle.af_tools.specs.Play.{aplay_trace}
 use Rattle.af_tools.proofs.EndLemmas.{ends_if_unfit}
 use Rattle.af_tools.specs.Record.{arecord_trace, records_on}
 use Rattle.af_standing.specs.ControlsReport.{controls_report_text}
 use Rattle.af_tools.specs.Set.{aset_trace, sets_on}
 use Rattle.af_tools.specs.Results.{AplayRan, ToolRan}
-use Rattle.af_tools.proofs.TraceEndLemmas.{played_finish, recorded_finish, set_finish}
+use Rattle.af_tools.proofs.TraceEndLemmas.{played_finish}
 use Rattle.af_tools.proofs.PlayedBlockLemmas.{is_played}
 use Rattle.af_tools.proofs.DeviceChoiceLemmas.{IsMissing, IsThere, followed_missing, followed_there, missing_at, reported, stated_at}
 
@@ -63,10 +64,10 @@ sound_read form job device bytes next ty samples s few =
 
 playable_finish : (form : Option SoundForm) (job : PlayJob) (device : DeviceInfo) (bytes : List ℕ) (w : ClientState) (ty : SampleType) (samples : List ℕ) → GivesSamples form job device bytes ty samples → length bytes ≤ most_bytes →
     IsDoneOrRefused (reads_sound form job device bytes (reported job device w)).finish
-playable_finish None job device bytes w ty samples is few = played_finish job (raw_sound job device) device bytes w (λ frames start _. writes_first (played_text frames start) (ends done)) (omega arith) (λ frames start v. inl refl)
+playable_finish None job device bytes w ty samples is few = played_finish job (raw_sound job device) device bytes w _ (omega arith) (λ p. inl refl)
 playable_finish (Some form) job device bytes w ty samples is few =
     let r = sound_read form job device bytes (reported job device w) ty samples is few in
-    rw r.3 (played_finish job r.0 device r.1 w (λ frames start _. writes_first (played_text frames start) (ends done)) r.2 (λ frames start v. inl refl))
+    rw r.3 (played_finish job r.0 device r.1 w _ r.2 (λ p. inl refl))
 
 aplay_is : (job : PlayJob) (devices : List DeviceInfo) (bytes : List ℕ) (w : ClientState) →
     aplay_trace job devices bytes w ≡ with_job_device job.device devices (λ device. reads_sound job.form job device bytes (reported job device w))
@@ -82,14 +83,14 @@ pub record IsOnDevice (trace : Trace) (number : ℕ) (devices : List DeviceInfo)
   pub is : trace ≡ with_job_device number devices each
   pub finish : (device : DeviceInfo) → IsDoneOrRefused (each device).finish
 
-pub arecord_on : (job : RecordJob) (devices : List DeviceInfo) (w : ClientState) → IsOnDevice (arecord_trace job devices w) job.device devices (λ device. records_on job device w (λ _ _. ends done))
+pub arecord_on : (job : RecordJob) (devices : List DeviceInfo) (w : ClientState) → IsOnDevice (arecord_trace job devices w) job.device devices (λ device. trace_of refused (records_on job device w) (λ _. ends done))
 unfolding arecord_trace
-arecord_on job devices w = record { is = refl; finish = λ device. recorded_finish job device w (λ _ _. ends done) (λ _ v. inl refl) }
+arecord_on job devices w = record { is = refl; finish = λ device. part_finish (records_on job device w).end (λ _. ends done) (λ _. inl refl) }
 
 pub aset_on : (job : SetJob) (devices : List DeviceInfo) (w : ClientState) →
-    IsOnDevice (aset_trace job devices w) job.device devices (λ device. sets_on job device w (λ controls_report _. writes_first (controls_report_text controls_report) (ends done)))
+    IsOnDevice (aset_trace job devices w) job.device devices (λ device. trace_of refused (sets_on job device w) (λ controls_report. writes_first (controls_report_text controls_report) (ends done)))
 unfolding aset_trace
-aset_on job devices w = record { is = refl; finish = λ device. set_finish job device w (λ controls_report _. writes_first (controls_report_text controls_report) (ends done)) (λ s v. inl refl) }
+aset_on job devices w = record { is = refl; finish = λ device. part_finish (sets_on job device w).end _ (λ s. inl refl) }
 
 module _ (trace : Trace) (number : ℕ) (devices : List DeviceInfo) (each : DeviceInfo → Trace) (t : IsOnDevice trace number devices each) where
   followed_ran : (how : ToolEnd) (s s' h h' : Option (List ℕ)) → ObservedTrace trace how s s' h h' → ToolRan trace number devices how s s' h h'

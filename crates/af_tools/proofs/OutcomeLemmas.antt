@@ -1,6 +1,6 @@
 -- What a tool that dials has done, if it is done.
 use Rattle.std.proofs.Common.{length, ◌≡◌, ◌≤◌, ℕ, List, [], ◌∷◌, sym, ap, ◌∙◌, subst, refl, slice_get, Result, Ok, Option, Some}
-use Rattle.af_toolkit.proofs.TracePartLemmas.{ended_at_once}
+use Rattle.af_toolkit.proofs.ToolPartLemmas.{ended_at_once}
 use Rattle.std.proofs.lemmas.Option.{get_or_from_slice_get, slice_get_within}
 use Rattle.clap.specs.Words.{Text}
 use Rattle.af_io.specs.Observed.{Appended}

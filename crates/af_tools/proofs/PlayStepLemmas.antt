@@ -11,39 +11,47 @@ use Rattle.af_request.specs.Asked.{play_run}
 use Rattle.af_lib.specs.Calls.{as_time}
 use Rattle.af_toolkit.specs.declared.end.ToolEnd.{ToolEnd}
 use Rattle.af_toolkit.specs.declared.end.ToolEnd.TheVariants as end
-use Rattle.af_toolkit.specs.Trace.{Trace, ClientState, asks, too_long}
+use Rattle.af_dialogue.specs.Parts.{Goes, IsProgramKind, goes_on, part_among}
+use Rattle.af_dialogue.proofs.PartLemmas.{Reached, goes_stop, goes_value, reached_goes, reached_here, reached_on}
+use Rattle.af_toolkit.specs.Trace.{refused}
+use Rattle.af_toolkit.specs.ToolParts.{ToolPart, ToolSight, asks, deeds, doing, tooling}
 use Rattle.af_sound.specs.declared.head.Coding.{Coding}
 use Rattle.af_tools.specs.declared.fill.FillFault.{FillFault}
 use Rattle.af_tools.specs.declared.fill.FillFault.TheVariants as fill
 use Rattle.af_tools.specs.declared.sound.SourceSound.{SourceSound}
 use Rattle.af_tools.specs.Sounds.{most_bytes, as_served, source_width, stated_after, stated_part, stated_room, FitsStated}
-use Rattle.af_tools.specs.Play.{block_time, blocks, frames_in, plays, plays_sound, whole_frames}
+use Rattle.af_tools.specs.Play.{PlayPart, block_time, blocks, frames_in, gives_too_much, of_reply, of_source, play_asks, play_finish, plays, plays_sound, whole_frames}
 use Rattle.af_tools.specs.Reading.{fill_end, ConsumedAbove, FillsBlock, IsFirstBlock}
-use Rattle.af_toolkit.specs.Ends.{ObservedPart, TracePart}
 use Rattle.af_io.proofs.ConsumedLemmas.{consumed_known, consumed_told}
-use Rattle.af_toolkit.proofs.TracePartLemmas.{Reaches, part_cut, part_ends, part_is_done, part_reaches, part_stops, reaches_as, reaches_none, reaches_on}
+use Rattle.af_toolkit.proofs.ToolPartLemmas.{cut_goes, goes_among, is_tooling}
 use Rattle.af_tools.proofs.PlayBlockLemmas.{plays_beyond, plays_next, plays_over}
 use Rattle.af_tools.proofs.SourceCountLemmas.{spent_none, whole_of}
 use Rattle.af_tools.proofs.SourceFrameLemmas.{BlockFits, block_short}
 
--- So many frames of a sound were played: the trace goes on with the blocks of what is left of it. The source is to give so many
--- bytes of the sound, if that is stated, and gave n before it.
-pub record IsPlaying (part : TracePart ℕ) (coding : Option Coding) (width start size frames given : ℕ) (of : Option ℕ) (left told : Option (List ℕ)) (wire : List ℕ → ClientState) (sent sent' held : Option (List ℕ)) : Type 0 where
+pub is_play : IsProgramKind (tooling play_finish)
+is_play = is_tooling play_finish
+
+-- a request of a tool, as one of aplay
+pub play_goes : {X : Type 0} {part : ToolPart X} {r : Result X ToolEnd} {o p : ToolSight} → Goes (tooling refused) part r o p → Goes (tooling play_finish) (part_among of_reply part) r o p
+play_goes g = goes_among of_reply play_finish g
+
+too_much_goes : {o : ToolSight} → Goes {X = ℕ} (tooling play_finish) gives_too_much (Err end.TooLong) o o
+too_much_goes {o} = record { came = λ w stands. (deeds [] [], inr (of_source, refl, refl), is_play.shows_nothing o) }
+
+-- So many frames of a sound were played: the blocks of what is left of it follow. The source is to give so many bytes of the
+-- sound, if that is stated, and gave n before it.
+pub record IsPlaying (part : PlayPart ℕ) (coding : Option Coding) (width start size frames given : ℕ) (of : Option ℕ) (left : Option (List ℕ)) (o p : ToolSight) : Type 0 where
   pub rest : List ℕ
-  pub input : List ℕ
   pub is_left : left ≡ Some rest
-  pub is_told : told ≡ Some input
-  pub reaches : Reaches part (plays coding width start frames given (blocks size (stated_part of rest)) (wire input)) sent sent' held held
+  pub reached : Reached (tooling play_finish) part (plays coding width start frames given (blocks size (stated_part of rest))) o p
 
 -- the same where the next n bytes of the sound were read into a room
-pub record IsFilled (part : TracePart ℕ) (coding : Option Coding) (width start size frames given n : ℕ) (of : Option ℕ) (room : List ℕ) (left told : Option (List ℕ)) (wire : List ℕ → ClientState) (sent sent' held : Option (List ℕ)) : Type 0 where
+pub record IsFilled (part : PlayPart ℕ) (coding : Option Coding) (width start size frames given n : ℕ) (of : Option ℕ) (room : List ℕ) (left : Option (List ℕ)) (o p : ToolSight) : Type 0 where
   pub after : List ℕ
-  pub input : List ℕ
   pub is_left : left ≡ Some after
-  pub is_told : told ≡ Some input
   pub full : length (take n room) ≡ n
   pub ended : n < size → stated_part (stated_after of n) after ≡ []
-  pub reaches : Reaches part (plays coding width start frames given (blocks size (take n room ++ stated_part (stated_after of n) after)) (wire input)) sent sent' held held
+  pub reached : Reached (tooling play_finish) part (plays coding width start frames given (blocks size (take n room ++ stated_part (stated_after of n) after))) o p
 
 -- a part of a sound at its front
 part_front : (of : Option ℕ) (part after : List ℕ) → FitsStated of (length part) → stated_part of (part ++ after) ≡ part ++ stated_part (stated_after of (length part)) after
@@ -78,118 +86,95 @@ fits_room : (of : Option ℕ) (size n : ℕ) → n ≤ stated_room of size → (
 fits_room None size n fits = (fits, tt)
 fits_room (Some m) size n fits = (omega arith, omega arith)
 
-module _ {part : TracePart ℕ} {coding : Option Coding} {width start size frames given : ℕ} {of : Option ℕ} {left told : Option (List ℕ)} {wire : List ℕ → ClientState} {sent sent' held : Option (List ℕ)}
-    (p : IsPlaying part coding width start size frames given of left told wire sent sent' held) where
+module _ {part : PlayPart ℕ} {coding : Option Coding} {width start size frames given : ℕ} {of : Option ℕ} {left : Option (List ℕ)} {o p : ToolSight} (i : IsPlaying part coding width start size frames given of left o p) where
   -- the source gave too much
-  pub play_too_long : (allowed : ℕ) (left' : Option (List ℕ)) → 0 < size → allowed + given ≡ most_bytes → ConsumedAbove allowed (stated_room of size) left left' → IsSome left' →
-      {told' : Option (List ℕ)} {wire' : List ℕ → ClientState} → ObservedPart {X = ℕ} part (Err end.TooLong) told' wire' sent sent' held held
-  play_too_long allowed left' some limit above tells {told'} {wire'} =
-      let k = consumed_known left left' p.rest above.bytes p.is_left above.consumed tells in
+  pub play_too_long : (allowed : ℕ) (left' : Option (List ℕ)) → 0 < size → allowed + given ≡ most_bytes → ConsumedAbove allowed (stated_room of size) left left' → IsSome left' → Goes {X = ℕ} (tooling play_finish) part (Err end.TooLong) o p
+  play_too_long allowed left' some limit above tells =
+      let k = consumed_known left left' i.rest above.bytes i.is_left above.consumed tells in
       let beyond = above.beyond in
       let part_fits = fits_room of size (length above.bytes) above.within in
-      let fits = part_fits.0 in
-      part_reaches p.reaches
-      (part_ends too_long (λ next. plays_beyond coding width start frames given (wire p.input) next size (stated_part of p.rest) above.bytes
-      (stated_part (stated_after of (length above.bytes)) k.0) some (ap (stated_part of) k.2 ∙ part_front of above.bytes k.0 part_fits.1) fits (omega arith) (omega arith)) refl)
+      reached_goes is_play _ i.reached
+      (rw (plays_beyond coding width start frames given size (stated_part of i.rest) above.bytes (stated_part (stated_after of (length above.bytes)) k.0) some
+      (ap (stated_part of) k.2 ∙ part_front of above.bytes k.0 part_fits.1) part_fits.0 (omega arith) (omega arith)) too_much_goes)
 
   -- nothing is left of the sound
-  play_ended : (rest : List ℕ) → 0 < size → given ≤ most_bytes → left ≡ Some rest → stated_part of rest ≡ [] → ObservedPart part (Ok frames) told wire sent sent' held held
+  play_ended : (rest : List ℕ) → 0 < size → given ≤ most_bytes → left ≡ Some rest → stated_part of rest ≡ [] → Goes (tooling play_finish) part (Ok frames) o p
   play_ended rest some within is none =
-      let len : length (stated_part of p.rest) ≡ 0 = ap (λ (l : List ℕ). length (stated_part of l)) (same_Some p.rest rest (sym p.is_left ∙ is)) ∙ ap length none in
-      part_reaches p.reaches (part_is_done p.is_told
-      (λ next. plays_over coding width start frames given (wire p.input) next size (stated_part of p.rest) some (omega arith) (omega arith) (ap (λ k. k / width) len ∙ zero-div width)))
+      let len : length (stated_part of i.rest) ≡ 0 = ap (λ (l : List ℕ). length (stated_part of l)) (same_Some i.rest rest (sym i.is_left ∙ is)) ∙ ap length none in
+      reached_goes is_play _ i.reached
+      (rw (plays_over coding width start frames given size (stated_part of i.rest) some (omega arith) (omega arith) (ap (λ k. k / width) len ∙ zero-div width)) (goes_value is_play _))
 
   -- the next block is read
-  pub play_filled : {n : ℕ} {room : List ℕ} {left' : Option (List ℕ)} → Consumed left (take n room) left' → IsSome left' → length room ≡ size → n ≤ size → FitsStated of n → (n < size → IsSpent left' ⊎ (of ≡ Some n)) →
-      IsFilled part coding width start size frames given n of room left' told wire sent sent' held
+  pub play_filled : {n : ℕ} {room : List ℕ} {left' : Option (List ℕ)} → Consumed left (take n room) left' → IsSome left' → length room ≡ size → n ≤ size → FitsStated of n → (n < size → IsSpent left' ⊎ (of ≡ Some n)) → IsFilled part coding width start size frames given n of room left' o p
   play_filled {n} {room} {left'} consumed tells sized within stated ended =
-      let k = consumed_known left left' p.rest (take n room) p.is_left consumed tells in
+      let k = consumed_known left left' i.rest (take n room) i.is_left consumed tells in
       let full = length-take-le n room (subst (λ (k : ℕ). n ≤ k) (sym sized) within) in
-      let parts : stated_part of p.rest ≡ take n room ++ stated_part (stated_after of n) k.0 =
+      let parts : stated_part of i.rest ≡ take n room ++ stated_part (stated_after of n) k.0 =
       ap (stated_part of) k.2 ∙ part_front of (take n room) k.0 (subst (λ (k : ℕ). FitsStated of k) (sym full) stated)
       ∙ ap (λ (m : ℕ). take n room ++ stated_part (stated_after of m) k.0) full in
-      record {
-        after = k.0;
-        input = p.input;
-        is_left = k.1;
-        is_told = p.is_told;
-        full = full;
-        ended = λ short. part_ended of n left' k.0 k.1 (ended short);
-        reaches = rw parts at p.reaches;
-      }
+      record { after = k.0; is_left = k.1; full = full; ended = λ short. part_ended of n left' k.0 k.1 (ended short); reached = rw parts at i.reached }
 
 -- nothing was played, and the source has all
-pub play_begin : (sound : SourceSound) (block start width : ℕ) (bytes input : List ℕ) (left told : Option (List ℕ)) (wire : List ℕ → ClientState) (sent held : Option (List ℕ)) {given : ℕ} → sound.head ≡ given → width ≡ source_width sound.coding sound.ty sound.channels → left ≡ Some bytes → told ≡ Some input →
-    IsPlaying (plays_sound sound block start bytes (wire input)) sound.coding width start (block * width) 0 given sound.length left told wire sent sent held
+pub play_begin : (sound : SourceSound) (block start width : ℕ) (bytes : List ℕ) (left : Option (List ℕ)) {o : ToolSight} {given : ℕ} → sound.head ≡ given → width ≡ source_width sound.coding sound.ty sound.channels → left ≡ Some bytes →
+    IsPlaying (plays_sound sound block start bytes) sound.coding width start (block * width) 0 given sound.length left o o
 unfolding plays_sound
-play_begin sound block start width bytes input left told wire sent held same_head same is_left is_told =
-    record {
-      rest = bytes;
-      input = input;
-      is_left = is_left;
-      is_told = is_told;
-      reaches = rw (← same_head, same) reaches_none;
-    }
+play_begin sound block start width bytes left same_head same is_left = record { rest = bytes; is_left = is_left; reached = rw (← same_head, same) (reached_here is_play) }
 
-module _ {part : TracePart ℕ} {coding : Option Coding} {width start size frames given n : ℕ} {of : Option ℕ} {room : List ℕ} {left told : Option (List ℕ)} {wire : List ℕ → ClientState} {sent sent' held : Option (List ℕ)}
-    (f : IsFilled part coding width start size frames given n of room left told wire sent sent' held) (fits : BlockFits n size width given) where
+module _ {part : PlayPart ℕ} {coding : Option Coding} {width start size frames given n : ℕ} {of : Option ℕ} {room : List ℕ} {left : Option (List ℕ)} {o p : ToolSight}
+    (f : IsFilled part coding width start size frames given n of room left o p) (fits : BlockFits n size width given) where
   -- fewer bytes than a frame has were left
-  pub play_over : n / width ≡ 0 → ObservedPart part (Ok frames) told wire sent sent' held held
+  pub play_over : n / width ≡ 0 → Goes (tooling play_finish) part (Ok frames) o p
   play_over none =
       let within = fits.within in
       let most = fits.most in
       let short = block_short fits none in
       let all : List ℕ = take n room ++ stated_part (stated_after of n) f.after in
       let len : length all ≡ n = ap length (ap (λ b. take n room ++ b) (f.ended short) ∙ append-nil (take n room)) ∙ f.full in
-      part_reaches f.reaches (part_is_done f.is_told
-      (λ next. plays_over coding width start frames given (wire f.input) next size all fits.some (omega arith) (omega arith) (ap (λ k. k / width) len ∙ none)))
+      reached_goes is_play _ f.reached (rw (plays_over coding width start frames given size all fits.some (omega arith) (omega arith) (ap (λ k. k / width) len ∙ none)) (goes_value is_play _))
 
   module _ {at : ℕ} (place : at ≡ block_time start frames) (whole : 0 < n / width) where
     -- the block is played
-    asked_next : (next : ℕ → ClientState → Trace) → plays coding width start frames given (blocks size (take n room ++ stated_part (stated_after of n) f.after)) (wire f.input) next
-        ≡ asks (play_run false 1 at (as_served coding (take (n / width * width) room))) as_time (wire f.input) (λ _ v. plays coding width start (frames + n / width) (given + n) (blocks size (stated_part (stated_after of n) f.after)) v next)
-    asked_next next =
+    abbrev played : ToolPart DevTime
+    played = asks (play_run false 1 at (as_served coding (take (n / width * width) room))) as_time
+
+    abbrev later : PlayPart ℕ
+    later = plays coding width start (frames + n / width) (given + n) (blocks size (stated_part (stated_after of n) f.after))
+
+    asked_next : plays coding width start frames given (blocks size (take n room ++ stated_part (stated_after of n) f.after)) ≡ goes_on doing (part_among of_reply played) (λ _. later)
+    asked_next =
         let within = fits.within in
         let most = fits.most in
         let full = f.full in
         let count : frames_in width (take n room) ≡ n / width = ap (λ k. k / width) full in
         let samples = ap (as_served coding) (samples_of n width room full (whole_of n width)) in
-        plays_next coding width start frames given (wire f.input) next size (take n room ++ stated_part (stated_after of n) f.after) (take n room) (stated_part (stated_after of n) f.after) fits.some (omega arith) refl (λ short. f.ended (omega arith)) (omega arith) (omega arith)
-        ∙ ap₂ (λ (t : ℕ) (b : List ℕ). asks (play_run false 1 t b) as_time (wire f.input) (λ _ v. plays coding width start (frames + frames_in width (take n room)) (given + length (take n room)) (blocks size (stated_part (stated_after of n) f.after)) v next)) (sym place) (sym samples)
-        ∙ ap₂ (λ (k m : ℕ). asks (play_run false 1 at (as_served coding (take (n / width * width) room))) as_time (wire f.input) (λ _ v. plays coding width start (frames + k) (given + m) (blocks size (stated_part (stated_after of n) f.after)) v next)) count full
+        let rest : List ℕ = stated_part (stated_after of n) f.after in
+        plays_next coding width start frames given size (take n room ++ rest) (take n room) rest fits.some (omega arith) refl (λ short. f.ended (omega arith)) (omega arith) (omega arith)
+        ∙ ap₂ (λ (t : ℕ) (b : List ℕ). goes_on doing (play_asks (play_run false 1 t b) as_time) (λ _. plays coding width start (frames + frames_in width (take n room)) (given + length (take n room)) (blocks size rest))) (sym place) (sym samples)
+        ∙ ap₂ (λ (k m : ℕ). goes_on doing (part_among of_reply played) (λ _. plays coding width start (frames + k) (given + m) (blocks size rest))) count full
 
-    module _ {told' : Option (List ℕ)} {wire' : List ℕ → ClientState} {sent'' : Option (List ℕ)} where
-      pub play_refused : {how : ToolEnd} {result : Result ℕ ToolEnd} → result ≡ Err how → ((input : List ℕ) → told ≡ Some input → ObservedPart {X = DevTime} (asks (play_run false 1 at (as_served coding (take (n / width * width) room))) as_time (wire input)) (Err how) told' wire' sent' sent'' held held) →
-          ObservedPart part result told' wire' sent sent'' held held
-      play_refused same goes = part_reaches (reaches_as f.reaches asked_next) (part_stops same (goes f.input f.is_told))
+    module _ {q : ToolSight} where
+      pub play_refused : {how : ToolEnd} {result : Result ℕ ToolEnd} → result ≡ Err how → Goes {X = DevTime} (tooling refused) played (Err how) p q → Goes (tooling play_finish) part result o q
+      play_refused same goes = reached_goes is_play _ f.reached (rw asked_next (goes_stop is_play (λ _. later) same (play_goes goes)))
 
-      module _ {now : DevTime} (goes : (input : List ℕ) → told ≡ Some input → ObservedPart (asks (play_run false 1 at (as_served coding (take (n / width * width) room))) as_time (wire input)) (Ok now) told' wire' sent' sent'' held held) where
-        play_on : {given' : ℕ} {of' : Option ℕ} → given + n ≡ given' → of' ≡ stated_after of n → IsPlaying part coding width start size (frames + n / width) given' of' left told' wire' sent sent'' held
-        play_on {given'} {of'} count same =
-            let k = reaches_on (λ _ v. plays coding width start (frames + n / width) (given + n) (blocks size (stated_part (stated_after of n) f.after)) v) f.reaches asked_next (goes f.input f.is_told) in
-            record {
-              rest = f.after;
-              input = k.0;
-              is_left = f.is_left;
-              is_told = k.1;
-              reaches = rw (same, ← count) k.2;
-            }
+      module _ {now : DevTime} (goes : Goes (tooling refused) played (Ok now) p q) where
+        play_on : {given' : ℕ} {of' : Option ℕ} → given + n ≡ given' → of' ≡ stated_after of n → IsPlaying part coding width start size (frames + n / width) given' of' left o q
+        play_on count same = record { rest = f.after; is_left = f.is_left; reached = rw (same, ← count) (reached_on is_play (λ _. later) (rw asked_next at f.reached) (play_goes goes)) }
 
         -- it was the last one
-        pub play_last : n < size → ObservedPart part (Ok (frames + n / width)) told' wire' sent sent'' held held
+        pub play_last : n < size → Goes (tooling play_finish) part (Ok (frames + n / width)) o q
         play_last short = play_ended (play_on refl refl) f.after fits.some fits.most f.is_left (f.ended short)
 
         -- the next one is read
         pub play_next : {given' allowed m : ℕ} {of' : Option ℕ} {room' : List ℕ} {left' : Option (List ℕ)} → given + n ≡ given' → of' ≡ stated_after of n → IsFirstBlock (length room') allowed of' m room' left left' → IsSome left' → length room' ≡ size →
-            IsFilled part coding width start size (frames + n / width) given' m of' room' left' told' wire' sent sent'' held
+            IsFilled part coding width start size (frames + n / width) given' m of' room' left' o q
         play_next {m} count same block tells sized =
             let next = block.next in
             play_filled (play_on count same) block.consumed tells sized (subst (λ (k : ℕ). m ≤ k) sized next.within) next.stated (λ short. next.ended (subst (λ (k : ℕ). m < k) (sym sized) short))
 
         -- the next one is not had
         pub play_unfilled : {allowed : ℕ} {of' : Option ℕ} {room' : List ℕ} {left' : Option (List ℕ)} (fault : FillFault) → of' ≡ stated_after of n → FillsBlock (length room') allowed of' (Err fault) room' left left' → length room' ≡ size → IsSome left' → allowed + (given + n) ≡ most_bytes →
-            ObservedPart {X = ℕ} part (Err (fill_end fault)) told' wire' sent sent'' held held
-        play_unfilled fill.ReadFault same block sized tells limit = part_reaches (play_on refl refl).reaches (part_cut end.ReadFault refl)
+            Goes {X = ℕ} (tooling play_finish) part (Err (fill_end fault)) o q
+        play_unfilled fill.ReadFault same block sized tells limit = reached_goes is_play _ (play_on refl refl).reached (cut_goes play_finish end.ReadFault refl)
         play_unfilled {allowed} {of'} {left'} fill.TooLong same block sized tells limit =
             play_too_long (play_on refl same) allowed left' fits.some limit (subst (λ (k : ℕ). ConsumedAbove allowed (stated_room of' k) left left') sized (block.long refl)) tells
 

@@ -1,5 +1,5 @@
 -- If aplay is done, each block was played.
-use Rattle.std.proofs.Common.{◌≡◌, ◌⊎◌, ℕ, ap₂, ◌+◌, ◌*◌, ◌/◌, ◌%◌, ◌^◌, ◌<◌, ◌≤◌, false, List, [], ◌∷◌, ◌++◌, length, map, slice_get, sym, ap, ◌∙◌, append_assoc, append-nil, subst, refl, arith, inl, inr, Ok, flat_map, Option, None, Some}
+use Rattle.std.proofs.Common.{◌≡◌, ◌⊎◌, ℕ, ap₂, ◌+◌, ◌*◌, ◌/◌, ◌%◌, ◌^◌, ◌<◌, ◌≤◌, false, List, [], ◌∷◌, ◌++◌, length, map, slice_get, sym, ap, ◌∙◌, append-nil, subst, refl, arith, inl, inr, Result, Ok, Err, IsOk, flat_map, Option, None, Some}
 use Rattle.std.proofs.lemmas.Bool.{cases_lt}
 use Rattle.af_time.specs.DeviceTime.{frames_lasting}
 use Rattle.af_time.specs.declared.DevTime.{DevTime}
@@ -9,83 +9,95 @@ use Rattle.af_request.specs.Replies.{IsDeviceInfo}
 use Rattle.af_cli.proofs.FrameSizeLemmas.{frame_size, some_frames}
 use Rattle.af_io.specs.Observed.{Appended}
 use Rattle.af_request.specs.declared.reply.DeviceInfo.{DeviceInfo}
-use Rattle.af_request.specs.Asked.{free_ac, get_time, play_run}
+use Rattle.af_request.specs.Asked.{Asked, free_ac, get_time, play_run}
+use Rattle.af_request.specs.Answer.{Answer}
 use Rattle.af_request.specs.Requests.{request_bytes}
 use Rattle.af_wire.specs.declared.order.Order.{Order}
 use Rattle.af_lib.specs.Calls.{as_done, as_time}
 use Rattle.af_toolkit.specs.declared.end.ToolEnd.{ToolEnd}
 use Rattle.af_toolkit.specs.declared.end.ToolEnd.TheVariants as end
 use Rattle.af_cli.specs.declared.job.PlayJob.{PlayJob}
-use Rattle.af_toolkit.specs.Trace.{Trace, ClientState, answer_on, asks, after_reply, done, ends, on_device, sends_first, too_long, writes_first}
+use Rattle.af_dialogue.specs.Parts.{Outcome, after_deeds, end_among, goes_on, has_value, outcome}
+use Rattle.af_dialogue.proofs.PartLemmas.{first_ok, goes_by}
+use Rattle.af_lib.specs.declared.fault.ConnFault.{ConnFault}
+use Rattle.af_toolkit.specs.Trace.{Trace, ClientState, answer_on, after_reply, done, ends, on_device, sends_first, writes_first}
+use Rattle.af_toolkit.specs.ToolParts.{ToolDeeds, asks, deeds, doing, trace_of}
+use Rattle.af_tools.specs.declared.player.Played.{Played}
 use Rattle.af_sound.specs.declared.head.Coding.{Coding}
 use Rattle.af_sound.specs.declared.head.SoundForm.{SoundForm}
 use Rattle.af_tools.specs.declared.sound.SourceSound.{SourceSound}
 use Rattle.af_tools.specs.Sounds.{most_bytes, as_served, reads_sound, source_width, stated_part, IsServedAs}
-use Rattle.af_tools.specs.Play.{aplay_trace, blocks, frames_in, play_context, played_text, played_frames, plays_on, plays, plays_sound, start_at, whole_frames, Block, blocks_sent, play_of, played_whole, IsPlayed}
+use Rattle.af_tools.specs.Play.{PlayFault, PlayPart, aplay_trace, blocks, frames_in, of_reply, of_source, play_asks, play_context, play_finish, played_text, played_frames, plays_on, plays, plays_sound, start_at, whole_frames, Block, blocks_sent, play_of, played_whole, IsPlayed}
 use Rattle.af_toolkit.specs.Ends.{ObservedTrace}
 use Rattle.af_tools.proofs.PlayBlockLemmas.{plays_block, plays_last, plays_long, plays_none}
 use Rattle.af_tools.proofs.SentBlockLemmas.{frames_sent, sent_first, sent_last, sent_more, sent_no_more, frames_converted, sent_converted, sent_served, served_block}
 use Rattle.af_tools.proofs.HeardAsIntendedLemmas.{heard_as_intended}
-use Rattle.af_toolkit.proofs.ToolEndLemmas.{asks_done, is_whole}
+use Rattle.af_toolkit.proofs.ToolEndLemmas.{asks_answered, is_whole, part_ok}
 use Rattle.af_tools.proofs.SoundFitLemmas.{sound_cases, SoundRead, SoundRefused}
 
-sending_twice : (a b : List ℕ) (c : Trace) → sends_first a (sends_first b c) ≡ sends_first (a ++ b) c
-sending_twice a b c = ap (λ (s : List ℕ). (let d : Trace = record { sends = s; output = c.output; finish = c.finish } in d)) (sym (append_assoc a b c.sends))
+-- a request of aplay that came to a value, in a part that begins with it
+among_ok : {X : Type 0} (end : Result X ConnFault) → IsOk (end_among of_reply end) → IsOk end
+among_ok (Ok x) ok = refl
+among_ok (Err f) ok = cc
 
-pub ended_long : (c : Trace) → c ≡ ends too_long → c.finish ≡ done → ⊥
-ended_long c is way = let bad : too_long ≡ done = sym (ap (λ (x : Trace). x.finish) is) ∙ way in cc
+play_asked : {X Y : Type 0} (asked : Asked) (value_of : Answer → Option X) (next : X → PlayPart Y) (w : ClientState) → IsOk (goes_on doing (play_asks asked value_of) next w).end →
+    (x : X) × (answer_on asked value_of w ≡ Ok x) × (goes_on doing (play_asks asked value_of) next w ≡ after_deeds doing (deeds (request_bytes w.order asked) []) (next x (after_reply w))) × IsOk (next x (after_reply w)).end
+play_asked {X} {Y} asked value_of next w ok =
+    let a = asks_answered asked value_of w (among_ok (asks asked value_of w).end (first_ok doing (play_asks asked value_of) next w ok)) in
+    let whole = goes_by doing (play_asks asked value_of) next (ap (λ (o : Outcome ToolDeeds (X × ClientState) ConnFault). outcome o.did (end_among of_reply o.end)) a.2) in
+    (a.0, a.1, whole, subst (λ (o : Outcome ToolDeeds (Y × ClientState) PlayFault). IsOk o.end) whole ok)
 
-plays_done : (coding : Option Coding) (width start frames given : ℕ) (bs : List (List ℕ)) (w : ClientState) (next : ℕ → ClientState → Trace) → (plays coding width start frames given bs w next).finish ≡ done →
-    (n : ℕ) × (v : ClientState) × (n ≡ frames + frames_sent width bs) × (plays coding width start frames given bs w next ≡ sends_first (flat_map (play_of w.order start) (sent_served coding width frames bs)) (next n v)) × ((next n v).finish ≡ done) × (v.order ≡ w.order)
-plays_done coding width start frames given [] w next way = (frames, w, omega arith, plays_none coding width start frames given w next, ap (λ (c : Trace). c.finish) (sym (plays_none coding width start frames given w next)) ∙ way, refl)
-plays_done coding width start frames given (block ∷ more) w next way = elim (cases_lt most_bytes (given + length block)) [
-  | inl long ↦ absurd (ended_long _ (plays_long coding width start frames given w next block more long) way)
+-- blocks that were played
+record ArePlayed (coding : Option Coding) (width start frames : ℕ) (bs : List (List ℕ)) (w : ClientState) (o : Outcome ToolDeeds (ℕ × ClientState) PlayFault) : Type 0 where
+  count : ℕ
+  after : ClientState
+  order : after.order ≡ w.order
+  all : count ≡ frames + frames_sent width bs
+  is : o ≡ outcome (deeds (flat_map (play_of w.order start) (sent_served coding width frames bs)) []) (Ok (count, after))
+
+plays_done : (coding : Option Coding) (width start frames given : ℕ) (bs : List (List ℕ)) (w : ClientState) → IsOk (plays coding width start frames given bs w).end → ArePlayed coding width start frames bs w (plays coding width start frames given bs w)
+plays_done coding width start frames given [] w ok = record { count = frames; after = w; order = refl; all = omega arith; is = ap (λ (part : PlayPart ℕ). part w) (plays_none coding width start frames given) }
+plays_done coding width start frames given (block ∷ more) w ok = elim (cases_lt most_bytes (given + length block)) [
+  | inl long ↦ absurd (let bad = subst (λ (part : PlayPart ℕ). IsOk (part w).end) (plays_long coding width start frames given block more long) ok in cc bad)
   | inr fits ↦ elim (cases_lt 0 (length block / width)) [
     | inl some ↦
-        let after = λ (v : ClientState). plays coding width start (frames + frames_in width block) (given + length block) more v next in
-        let first : List ℕ = request_bytes w.order (play_run false 1 ((start + frames) % 2 ^ 32) (as_served coding (whole_frames width block))) in
+        let run = play_run false 1 ((start + frames) % 2 ^ 32) (as_served coding (whole_frames width block)) in
         let others : List Block = sent_served coding width (frames + frames_in width block) more in
-        let e = plays_block coding width start frames given w next block more fits some in
-        let a = asks_done (play_run false 1 ((start + frames) % 2 ^ 32) (as_served coding (whole_frames width block))) as_time w (λ _ v. after v) (ap (λ (c : Trace). c.finish) (sym e) ∙ way) in
-        let r = plays_done coding width start (frames + frames_in width block) (given + length block) more (after_reply w) next a.3 in
+        let e = plays_block coding width start frames given block more fits some in
+        let a = play_asked run as_time (λ _. plays coding width start (frames + frames_in width block) (given + length block) more) w (subst (λ (part : PlayPart ℕ). IsOk (part w).end) e ok) in
+        let r = plays_done coding width start (frames + frames_in width block) (given + length block) more (after_reply w) a.3 in
         let here = sent_more width block more some in
-        let there = r.2 in (
-          r.0,
-          r.1,
-          omega arith,
-          e ∙ a.2 ∙ ap (sends_first first) r.3
-              ∙ sending_twice first (flat_map (play_of w.order start) others) (next r.0 r.1)
-              ∙ ap (λ (s : List Block). sends_first (flat_map (play_of w.order start) s) (next r.0 r.1)) (ap (map (served_block coding)) (sym (sent_first width frames block more some))),
-          r.4,
-          r.5,
-        )
-    | inr none ↦ (
-      frames,
-      w,
-      (let here = sent_no_more width block more (omega arith) in omega arith),
-      plays_last coding width start frames given w next block more fits (omega arith)
-          ∙ ap (λ (s : List Block). sends_first (flat_map (play_of w.order start) s) (next frames w)) (ap (map (served_block coding)) (sym (sent_last width frames block more (omega arith)))),
-      ap (λ (c : Trace). c.finish) (sym (plays_last coding width start frames given w next block more fits (omega arith))) ∙ way,
-      refl,
-    )
+        let there = r.all in
+        record {
+          count = r.count;
+          after = r.after;
+          order = r.order;
+          all = omega arith;
+          is = ap (λ (part : PlayPart ℕ). part w) e ∙ a.2 ∙ ap (after_deeds doing (deeds (request_bytes w.order run) [])) r.is
+              ∙ ap (λ (s : List Block). outcome {F = PlayFault} (deeds (flat_map (play_of w.order start) s) []) (Ok (r.count, r.after))) (ap (map (served_block coding)) (sym (sent_first width frames block more some)));
+        }
+    | inr none ↦ record {
+      count = frames;
+      after = w;
+      order = refl;
+      all = (let here = sent_no_more width block more (omega arith) in omega arith);
+      is = ap (λ (part : PlayPart ℕ). part w) (plays_last coding width start frames given block more fits (omega arith))
+          ∙ ap (λ (s : List Block). outcome {F = PlayFault} (deeds (flat_map (play_of w.order start) s) []) (Ok (frames, w))) (ap (map (served_block coding)) (sym (sent_last width frames block more (omega arith))));
+    }
   ]
 ]
-
-sending_all : (a b p f : List ℕ) (c : Trace) → sends_first a (sends_first b (sends_first p (sends_first f c))) ≡ sends_first (a ++ (b ++ (p ++ f))) c
-sending_all a b p f c = ap (sends_first a) (ap (sends_first b) (sending_twice p f c) ∙ sending_twice b (p ++ f) c) ∙ sending_twice a (b ++ (p ++ f)) c
 
 from_none : (m n : ℕ) → m ≡ 0 + n → m ≡ n
 from_none m n is = omega arith
 
 -- a job that is done on a device
-done_on : (job : PlayJob) (sound : SourceSound) (device : DeviceInfo) (bytes : List ℕ) (w : ClientState) (next : ℕ → ℕ → ClientState → Trace) → IsServedAs sound.coding sound.ty → IsChannelCount sound.channels → 1 ≤ job.block →
-    (plays_on job sound device bytes w next).finish ≡ done →
+done_on : (job : PlayJob) (sound : SourceSound) (device : DeviceInfo) (bytes : List ℕ) (w : ClientState) → IsServedAs sound.coding sound.ty → IsChannelCount sound.channels → 1 ≤ job.block → IsOk (plays_on job sound device bytes w).end →
+    (let samples : List ℕ = as_served sound.coding (stated_part sound.length bytes) in
     (now : DevTime) × (v : ClientState) × (answer_on (get_time job.device) as_time (after_reply w) ≡ Ok now)
-    × (plays_on job sound device bytes w next
-    ≡ sends_first (played_whole w.order job sound.ty sound.channels (as_served sound.coding (stated_part sound.length bytes)) (start_at job.time now.0 (frames_lasting device.rate job.lead)))
-    (next (length (as_served sound.coding (stated_part sound.length bytes)) / frame_bytes sound.ty sound.channels) (start_at job.time now.0 (frames_lasting device.rate job.lead)) v))
-unfolding plays_on plays_sound
-done_on job sound device bytes w next served channels begun way =
+    × (let start = start_at job.time now.0 (frames_lasting device.rate job.lead) in
+    plays_on job sound device bytes w ≡ outcome (deeds (played_whole w.order job sound.ty sound.channels samples start) []) (Ok (record { frames = length samples / frame_bytes sound.ty sound.channels; start = record { 0 = start } }, v))))
+unfolding plays_sound
+done_on job sound device bytes w served channels begun ok =
     let coding = sound.coding in
     let width = source_width coding sound.ty sound.channels in
     let count = played_frames job sound.ty sound.channels in
@@ -94,28 +106,35 @@ done_on job sound device bytes w next served channels begun way =
     let part : List ℕ = stated_part sound.length bytes in
     let samples : List ℕ = as_served coding part in
     let cut : List (List ℕ) = blocks (count * width) part in
-    let start_of = λ (now : ℕ). start_at job.time now (frames_lasting device.rate job.lead) in
-    let freeing = λ (start frames : ℕ) (v : ClientState). asks (free_ac 1) as_done v (λ _ u. next frames start u) in
-    let playing = λ (now : DevTime) (v : ClientState). plays coding width (start_of now.0) 0 sound.head cut v (λ frames u. freeing (start_of now.0) frames u) in
-    let a = asks_done (play_context job sound.ty sound.channels) as_done w (λ _ v. asks (get_time job.device) as_time v playing) way in
-    let b = asks_done (get_time job.device) as_time (after_reply w) playing a.3 in
-    let now : ℕ = b.0.0 in
-    let p = plays_done coding width (start_of now) 0 sound.head cut (after_reply (after_reply w)) (λ frames u. freeing (start_of now) frames u) b.3 in
-    let f = asks_done (free_ac 1) as_done p.1 (λ _ u. next p.0 (start_of now) u) p.4 in
-    let all : p.0 ≡ length samples / frame_bytes sound.ty sound.channels = from_none p.0 (frames_sent width cut) p.2 ∙ frames_converted coding sound.ty sound.channels count part served channels some in
+    let a = play_asked (play_context job sound.ty sound.channels) as_done _ w ok in
+    let b = play_asked (get_time job.device) as_time _ (after_reply w) a.3 in
+    let start = start_at job.time b.0.0 (frames_lasting device.rate job.lead) in
+    let played : ℕ → Played = λ n. record { frames = n; start = record { 0 = start } } in
+    let playing = plays_sound sound count start bytes in
+    let freeing = λ (n : ℕ). goes_on doing (play_asks (free_ac 1) as_done) (λ _. has_value doing (played n)) in
+    let v = after_reply (after_reply w) in
+    let p = plays_done coding width start 0 sound.head cut v (first_ok doing playing freeing v b.3) in
+    let whole_p = goes_by doing playing freeing p.is in
+    let f = play_asked (free_ac 1) as_done (λ _. has_value doing (played p.count)) p.after (subst (λ (o : Outcome ToolDeeds (Played × ClientState) PlayFault). IsOk o.end) whole_p b.3) in
+    let all : p.count ≡ length samples / frame_bytes sound.ty sound.channels = from_none p.count (frames_sent width cut) p.all ∙ frames_converted coding sound.ty sound.channels count part served channels some in
     let context : List ℕ = request_bytes w.order (play_context job sound.ty sound.channels) in
     let time : List ℕ = request_bytes w.order (get_time job.device) in
-    let whole : List ℕ = flat_map (play_of w.order (start_of now)) (sent_served coding width 0 cut) in
-    let known : List ℕ = flat_map (play_of w.order (start_of now)) (blocks_sent job sound.ty sound.channels samples) in
-    let same : whole ≡ known = ap (flat_map (play_of w.order (start_of now))) (sent_converted coding sound.ty sound.channels count part served channels some) in (
+    let whole : List ℕ = flat_map (play_of w.order start) (sent_served coding width 0 cut) in
+    let known : List ℕ = flat_map (play_of w.order start) (blocks_sent job sound.ty sound.channels samples) in
+    let same : whole ≡ known = ap (flat_map (play_of w.order start)) (sent_converted coding sound.ty sound.channels count part served channels some) in
+    let end : List ℕ → List ℕ → ℕ → Outcome ToolDeeds (Played × ClientState) PlayFault = λ plays free n. outcome (deeds (context ++ (time ++ (plays ++ free))) []) (Ok (played n, after_reply p.after)) in (
       b.0,
-      after_reply p.1,
+      after_reply p.after,
       b.1,
-      a.2 ∙ ap (sends_first context) (b.2 ∙ ap (sends_first time) (p.3 ∙ ap (sends_first whole) f.2))
-          ∙ sending_all context time whole (request_bytes p.1.order (free_ac 1)) (next p.0 (start_of now) (after_reply p.1))
-          ∙ ap₂ (λ (l : List ℕ) (n : ℕ). sends_first (context ++ (time ++ (l ++ request_bytes p.1.order (free_ac 1)))) (next n (start_of now) (after_reply p.1))) same all
-          ∙ ap (λ (o : Order). sends_first (context ++ (time ++ (known ++ request_bytes o (free_ac 1)))) (next (length samples / frame_bytes sound.ty sound.channels) (start_of now) (after_reply p.1))) p.5,
+      a.2 ∙ ap (after_deeds doing (deeds context [])) (b.2 ∙ ap (after_deeds doing (deeds time [])) (whole_p ∙ ap (after_deeds doing (deeds whole [])) f.2))
+          ∙ ap (λ (l : List ℕ). end whole l p.count) (append-nil (request_bytes p.after.order (free_ac 1)) ∙ ap (λ (o : Order). request_bytes o (free_ac 1)) p.order)
+          ∙ ap₂ (λ (l : List ℕ) (n : ℕ). end l (request_bytes w.order (free_ac 1)) n) same all,
     )
+
+-- no cause for which playing ends early is that it is done
+play_undone : (cause : PlayFault) → play_finish cause ≡ done → ⊥
+play_undone (of_reply f) is = cc
+play_undone of_source is = cc
 
 pub on_device_done : (o : Option DeviceInfo) (n : ℕ) (next : DeviceInfo → Trace) → (on_device o n next).finish ≡ done → (device : DeviceInfo) × (o ≡ Some device) × (on_device o n next ≡ next device)
 on_device_done (Some device) n next way = (device, refl, refl)
@@ -134,18 +153,20 @@ unfolding aplay_trace
 is_played job devices bytes w how s s' h h' followed way some stated =
     let all = is_whole followed.ended way in
     let finish = all.finish in
-    let reporting = λ (frames start : ℕ) (v : ClientState). writes_first (played_text frames start) (ends done) in
-    let d = on_device_done (slice_get devices job.device) (length devices) (λ device. reads_sound job.form job device bytes (λ sound rest. plays_on job sound device rest w reporting)) finish in
+    let reporting = λ (p : Played). writes_first (played_text p.frames p.start.0) (ends done) in
+    let ending = λ (o : Outcome ToolDeeds (Played × ClientState) PlayFault). trace_of play_finish o reporting in
+    let d = on_device_done (slice_get devices job.device) (length devices) (λ device. reads_sound job.form job device bytes (λ sound rest. ending (plays_on job sound device rest w))) finish in
     let device = d.0 in
-    let g = sound_done (sound_cases job.form job device bytes) (λ sound rest. plays_on job sound device rest w reporting) (ap (λ (c : Trace). c.finish) (sym d.2) ∙ finish) in
+    let g = sound_done (sound_cases job.form job device bytes) (λ sound rest. ending (plays_on job sound device rest w)) (ap (λ (c : Trace). c.finish) (sym d.2) ∙ finish) in
     let sound = g.sound in
-    let goes = g.goes (λ sound rest. plays_on job sound device rest w reporting) in
+    let goes = g.goes (λ sound rest. ending (plays_on job sound device rest w)) in
     let samples : List ℕ = as_served sound.coding (stated_part sound.length g.rest) in
     let count : IsChannelCount device.channels = (stated device d.1).channels in
     let alike : sound.channels ≡ device.channels = g.channels in
-    let p = done_on job sound device g.rest w reporting g.served (subst IsChannelCount (sym alike) count) some (ap (λ (c : Trace). c.finish) (sym (d.2 ∙ goes)) ∙ finish) in
+    let ok = part_ok play_finish play_undone (plays_on job sound device g.rest w).end reporting (ap (λ (c : Trace). c.finish) (sym (d.2 ∙ goes)) ∙ finish) in
+    let p = done_on job sound device g.rest w g.served (subst IsChannelCount (sym alike) count) some ok in
     let start = start_at job.time p.0.0 (frames_lasting device.rate job.lead) in
-    let is = d.2 ∙ goes ∙ p.3 ∙ ap (λ (n : ℕ). sends_first (played_whole w.order job sound.ty n samples start) (reporting (length samples / frame_bytes sound.ty n) start p.1)) alike in
+    let is = d.2 ∙ goes ∙ ap ending p.3 ∙ ap (λ (n : ℕ). sends_first (played_whole w.order job sound.ty n samples start) (writes_first (played_text (length samples / frame_bytes sound.ty n) start) (ends done))) alike in
     record {
       device = device;
       is_there = d.1;

@@ -12,8 +12,10 @@ use Rattle.af_sample.specs.SampleTypes.{frame_bytes, width_of}
 use Rattle.af_sample.specs.Samples.{decoded, piece, samples}
 use Rattle.af_toolkit.specs.declared.end.ToolEnd.{ToolEnd}
 use Rattle.af_cli.specs.declared.job.RecordJob.{RecordJob}
-use Rattle.af_toolkit.specs.Trace.{Trace, ClientState, begins}
-use Rattle.af_toolkit.specs.Ends.{ObservedPart, TracePart}
+use Rattle.af_dialogue.specs.Parts.{Goes, goes_on, has_value}
+use Rattle.af_dialogue.proofs.PartLemmas.{Reached, goes_stop, goes_value, reached_goes, reached_here, reached_on}
+use Rattle.af_toolkit.specs.Trace.{refused}
+use Rattle.af_toolkit.specs.ToolParts.{ToolPart, ToolSight, doing, tooling}
 use Rattle.af_sound.specs.declared.head.Coding.{Coding}
 use Rattle.af_sound.specs.declared.head.Coding.TheVariants as coding
 use Rattle.af_sample.specs.Channels.{IsChannelCount}
@@ -22,23 +24,15 @@ use Rattle.af_cli.proofs.FrameSizeLemmas.{frame_size, some_frames}
 use Rattle.af_tools.specs.declared.record.RecordedSound.{RecordedSound}
 use Rattle.af_tools.specs.Record.{IsFiledAs, block_lengths, ends_row, greatest_of, peak, recorded_frame, records, records_all, row_below, takes_block}
 use Rattle.af_tools.specs.Sounds.{AreWhole}
-use Rattle.af_toolkit.proofs.TracePartLemmas.{Reaches, part_is_done, part_reaches, part_stops, reaches_as, reaches_none, reaches_on}
-use Rattle.af_time.specs.declared.DevTime.{DevTime}
-use Rattle.af_request.specs.Asked.{Asked}
-
--- what is left of recording
-abbrev pub left_to_record : RecordJob → RecordedSound → (block at before : ℕ) (peaks : List ℕ) → (frames : ℕ) → ClientState → TracePart ℕ
-left_to_record job sound block at before peaks frames w = λ next. records job sound at before peaks (block_lengths block frames) w next
+use Rattle.af_toolkit.proofs.ToolPartLemmas.{is_tool}
 
 -- n frames are left to be recorded, after a row of so many quiet blocks
-pub record IsRecording (part : TracePart ℕ) (job : RecordJob) (sound : RecordedSound) (block at frames row : ℕ) (told : Option (List ℕ)) (wire : List ℕ → ClientState) (sent sent' held held' : Option (List ℕ)) : Type 0 where
+pub record IsRecording (part : ToolPart ℕ) (job : RecordJob) (sound : RecordedSound) (block at frames row : ℕ) (o p : ToolSight) : Type 0 where
   pub peaks : List ℕ
-  pub input : List ℕ
   pub before : ℕ
-  pub is_told : told ≡ Some input
   pub is_row : row ≡ row_below job.stop_peak peaks
   pub is_before : before + frames ≡ job.frames
-  pub reaches : Reaches part (left_to_record job sound block at before peaks frames (wire input)) sent sent' held held'
+  pub reached : Reached (tooling refused) part (records job sound at before peaks (block_lengths block frames)) o p
 
 lengths_none : (block : ℕ) → block_lengths block 0 ≡ []
 unfolding block_lengths
@@ -92,78 +86,55 @@ unfolding peak samples
 peak_whole ty bytes = refl
 
 -- what follows a block with this peak, which ends a row of quiet ones or not
-abbrev after_block : RecordJob → RecordedSound → (block at n before frames : ℕ) (peaks : List ℕ) → Bool → (p : ℕ) → ClientState → TracePart ℕ
-after_block job sound block at n before frames peaks ends p v = λ next.
-    if ends then next (before + n) v else records job sound ((at + n) % 2 ^ 32) (before + n) (p ∷ peaks) (block_lengths block frames) v next
+abbrev after_block : RecordJob → RecordedSound → (block at n before frames : ℕ) (peaks : List ℕ) → Bool → (p : ℕ) → ToolPart ℕ
+after_block job sound block at n before frames peaks ends p =
+    if ends then has_value doing (before + n) else records job sound ((at + n) % 2 ^ 32) (before + n) (p ∷ peaks) (block_lengths block frames)
 
-module _ {part : TracePart ℕ} {job : RecordJob} {sound : RecordedSound} {block at frames row : ℕ} {told : Option (List ℕ)} {wire : List ℕ → ClientState} {sent sent' held held' : Option (List ℕ)}
-    (r : IsRecording part job sound block at frames row told wire sent sent' held held') (some : 0 < block) where
+module _ {part : ToolPart ℕ} {job : RecordJob} {sound : RecordedSound} {block at frames row : ℕ} {o p : ToolSight} (r : IsRecording part job sound block at frames row o p) (some : 0 < block) where
   -- none is left
-  pub record_done : frames ≡ 0 → ObservedPart part (Ok job.frames) told wire sent sent' held held'
+  pub record_done : frames ≡ 0 → Goes (tooling refused) part (Ok job.frames) o p
   unfolding records
   record_done none =
       let all : r.before ≡ job.frames = omega (arith, r.is_before) in
       let over : block_lengths block frames ≡ [] = ap (block_lengths block) none ∙ lengths_none block in
-      rw (← all) (part_reaches r.reaches (part_is_done r.is_told (λ next. rw over refl)))
+      rw (← all) (reached_goes is_tool _ r.reached (rw over (goes_value is_tool _)))
 
   module _ (more : 0 < frames) {n size : ℕ} (is_least : n ≡ min frames block) (is_size : size ≡ n * recorded_frame sound) where
-    abbrev after_one_block : ℕ → ClientState → TracePart ℕ
-    after_one_block p v = after_block job sound block at n r.before (frames - n) r.peaks (ends_row job (p ∷ r.peaks)) p v
+    abbrev after_one_block : ℕ → ToolPart ℕ
+    after_one_block x = after_block job sound block at n r.before (frames - n) r.peaks (ends_row job (x ∷ r.peaks)) x
 
-    next_block : (next : ℕ → ClientState → Trace) → left_to_record job sound block at r.before r.peaks frames (wire r.input) next
-        ≡ takes_block sound at size (wire r.input) (λ p v. after_one_block p v next)
+    next_block : records job sound at r.before r.peaks (block_lengths block frames) ≡ goes_on doing (takes_block sound at size) after_one_block
     unfolding records
-    next_block next = rw (is_size, is_least, lengths_some block frames some more) refl
+    next_block = rw (is_size, is_least, lengths_some block frames some more) refl
 
-    module _ {told' : Option (List ℕ)} {wire' : List ℕ → ClientState} {sent'' held'' : Option (List ℕ)} where
+    module _ {q : ToolSight} where
       -- the tool ended within the block
-      pub record_stopped : {how : ToolEnd} {result : Result ℕ ToolEnd} → result ≡ Err how → ((input : List ℕ) → told ≡ Some input → ObservedPart {X = ℕ} (takes_block sound at size (wire input)) (Err how) told' wire' sent' sent'' held' held'') → ObservedPart part result told' wire' sent sent'' held held''
-      record_stopped same goes = part_reaches (reaches_as r.reaches next_block) (part_stops {second = after_one_block} same (goes r.input r.is_told))
+      pub record_stopped : {how : ToolEnd} {result : Result ℕ ToolEnd} → result ≡ Err how → Goes {X = ℕ} (tooling refused) (takes_block sound at size) (Err how) p q → Goes (tooling refused) part result o q
+      record_stopped same goes = reached_goes is_tool _ r.reached (rw next_block (goes_stop is_tool after_one_block same goes))
 
-      module _ {p : ℕ} (goes : (input : List ℕ) → told ≡ Some input → ObservedPart (takes_block sound at size (wire input)) (Ok p) told' wire' sent' sent'' held' held'') {row' : ℕ} (is_row : row' ≡ (if nat_lt p job.stop_peak then row + 1 else 0)) where
-        row_grown : row' ≡ row_below job.stop_peak (p ∷ r.peaks)
-        row_grown = is_row ∙ ap (λ (k : ℕ). if nat_lt p job.stop_peak then k else 0) (ap (λ (k : ℕ). k + 1) r.is_row ∙ (let e : row_below job.stop_peak r.peaks + 1 ≡ suc (row_below job.stop_peak r.peaks) = omega arith in e))
+      module _ {x : ℕ} (goes : Goes (tooling refused) (takes_block sound at size) (Ok x) p q) {row' : ℕ} (is_row : row' ≡ (if nat_lt x job.stop_peak then row + 1 else 0)) where
+        row_grown : row' ≡ row_below job.stop_peak (x ∷ r.peaks)
+        row_grown = is_row ∙ ap (λ (k : ℕ). if nat_lt x job.stop_peak then k else 0) (ap (λ (k : ℕ). k + 1) r.is_row ∙ (let e : row_below job.stop_peak r.peaks + 1 ≡ suc (row_below job.stop_peak r.peaks) = omega arith in e))
 
-        reached : (input : List ℕ) × (told' ≡ Some input) × Reaches part (after_one_block p (wire' input)) sent sent'' held held''
-        reached = reaches_on after_one_block r.reaches next_block (goes r.input r.is_told)
-
-        decided : {b : Bool} → ends_row job (p ∷ r.peaks) ≡ b → Reaches part (after_block job sound block at n r.before (frames - n) r.peaks b p (wire' reached.0)) sent sent'' held held''
-        decided is = subst (λ (b : Bool). Reaches part (after_block job sound block at n r.before (frames - n) r.peaks b p (wire' reached.0)) sent sent'' held held'') is reached.2
+        decided : {b : Bool} → ends_row job (x ∷ r.peaks) ≡ b → Reached (tooling refused) part (after_block job sound block at n r.before (frames - n) r.peaks b x) o q
+        decided is =
+            subst (λ (b : Bool). Reached (tooling refused) part (after_block job sound block at n r.before (frames - n) r.peaks b x) o q) is (reached_on is_tool after_one_block (rw next_block at r.reached) goes)
 
         -- the block ends a row of quiet ones
-        pub record_quiet : job.stop_blocks ≤ row' → {all : ℕ} → all ≡ job.frames - (frames - n) → ObservedPart part (Ok all) told' wire' sent sent'' held held''
+        pub record_quiet : job.stop_blocks ≤ row' → {all : ℕ} → all ≡ job.frames - (frames - n) → Goes (tooling refused) part (Ok all) o q
         record_quiet long {all} is_all =
-            let k = reached in
             let sum : r.before + n ≡ all = omega (arith, r.is_before) in
-            let ends : ends_row job (p ∷ r.peaks) ≡ true = rw (← row_grown) (grind (arith, nat_tests)) in
-            rw (← sum) (part_reaches (decided ends) (part_is_done k.1 (λ next. refl)))
+            let ends : ends_row job (x ∷ r.peaks) ≡ true = rw (← row_grown) (grind (arith, nat_tests)) in
+            rw (← sum) (reached_goes is_tool _ (decided ends) (goes_value is_tool _))
 
         -- recording goes on
-        pub record_on : row' < job.stop_blocks → {at' : ℕ} → at' ≡ (at + n) % 2 ^ 32 → IsRecording part job sound block at' (frames - n) row' told' wire' sent sent'' held held''
+        pub record_on : row' < job.stop_blocks → {at' : ℕ} → at' ≡ (at + n) % 2 ^ 32 → IsRecording part job sound block at' (frames - n) row' o q
         record_on short place =
-            let k = reached in
-            let goes_on : ends_row job (p ∷ r.peaks) ≡ false = rw (← row_grown) (grind (arith, nat_tests)) in
-            record {
-              peaks = p ∷ r.peaks;
-              input = k.0;
-              before = r.before + n;
-              is_told = k.1;
-              is_row = row_grown;
-              is_before = omega (arith, r.is_before);
-              reaches = rw place (decided goes_on);
-            }
+            let more : ends_row job (x ∷ r.peaks) ≡ false = rw (← row_grown) (grind (arith, nat_tests)) in
+            record { peaks = x ∷ r.peaks; before = r.before + n; is_row = row_grown; is_before = omega (arith, r.is_before); reached = rw place (decided more) }
 
-pub record_begin : (job : RecordJob) (sound : RecordedSound) {block : ℕ} (start : ℕ) (input : List ℕ) {told : Option (List ℕ)} (wire : List ℕ → ClientState) {sent held : Option (List ℕ)} → block ≡ block_frames job.block (recorded_frame sound) → told ≡ Some input →
-    IsRecording (records_all job sound start (wire input)) job sound block start job.frames 0 told wire sent sent held held
-record_begin job sound start input wire {sent} {held} same is_told = record {
-  peaks = [];
-  input = input;
-  before = 0;
-  is_told = is_told;
-  is_row = refl;
-  is_before = omega arith;
-  reaches = rw same reaches_none;
-}
+pub record_begin : (job : RecordJob) (sound : RecordedSound) {block : ℕ} (start : ℕ) {o : ToolSight} → block ≡ block_frames job.block (recorded_frame sound) → IsRecording (records_all job sound start) job sound block start job.frames 0 o o
+record_begin job sound start same = record { peaks = []; before = 0; is_row = refl; is_before = omega arith; reached = rw same (reached_here is_tool) }
 
 -- a block has a frame
 pub some_recorded : (sound : RecordedSound) (asked : ℕ) → IsChannelCount sound.channels → 1 ≤ asked → 1 ≤ block_frames asked (recorded_frame sound)
@@ -186,9 +157,3 @@ whole_frames sound n size filed is = by sound.coding sound.ty filed is where
   by (Some coding.Lin16Big) t f is = absurd (cc f.0)
   by (Some coding.Lin16Little) t f is = absurd (cc f.0)
   by c t f is = tt
-
--- the beginning of a tool, by other names of its context
-pub begins_named : {asked asked' : Asked} {device device' : ℕ} (w : ClientState) {r : Result DevTime ToolEnd} {left : Option (List ℕ)} {wire : List ℕ → ClientState} {s s' h h' : Option (List ℕ)} →
-    asked ≡ asked' → device ≡ device' → ObservedPart (begins asked device w) r left wire s s' h h' → ObservedPart (begins asked' device' w) r left wire s s' h h'
-begins_named {asked} {device'} w {r} {left} {wire} {s} {s'} {h} {h'} e f g =
-    subst (λ (x : Asked). ObservedPart (begins x device' w) r left wire s s' h h') e (subst (λ (x : ℕ). ObservedPart (begins asked x w) r left wire s s' h h') f g)

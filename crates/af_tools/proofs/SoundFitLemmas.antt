@@ -14,7 +14,7 @@ use Rattle.af_cli.specs.declared.job.PlayJob.{PlayJob}
 use Rattle.af_toolkit.specs.declared.end.ToolEnd.{ToolEnd}
 use Rattle.af_toolkit.specs.Trace.{Trace, Finish, bad_sound, channel_mismatch, done, ends, mismatch, sound_cut, tool_end, too_long}
 use Rattle.af_toolkit.specs.Ends.{ObservedTrace}
-use Rattle.af_toolkit.proofs.TracePartLemmas.{followed_end, followed_early}
+use Rattle.af_toolkit.proofs.ToolPartLemmas.{followed_end, followed_early}
 use Rattle.af_tools.specs.declared.sound.SourceSound.{SourceSound}
 use Rattle.af_tools.proofs.DeviceChoiceLemmas.{followed_same}
 use Rattle.af_tools.specs.Sounds.{most_bytes, after_header, as_served, at_one_shape, file_sound, raw_sound, reads_front, reads_sound, stated_part, GivesSamples, IsServedAs}

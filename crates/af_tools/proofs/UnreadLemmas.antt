@@ -1,5 +1,5 @@
 -- When aplay reads its source.
-use Rattle.std.proofs.Common.{◌≡◌, slice_get, unwrap_or, ◌⊎◌, inl, inr, ℕ, List, [], ◌∷◌, refl, sym, ap, ap₂, ◌∙◌, subst, Result, Ok, Err, IfOk, Option, None, Some}
+use Rattle.std.proofs.Common.{◌≡◌, slice_get, unwrap_or, ◌⊎◌, inl, inr, ℕ, List, [], ◌∷◌, refl, sym, ap₂, ◌∙◌, subst, Result, Ok, Err, IfOk, IsOk, Option, None, Some}
 use Rattle.af_io.specs.Dial.{IsFirstOf, ToldLink}
 use Rattle.af_wire.specs.declared.order.Order.{Order}
 use Rattle.af_request.specs.Asked.{Asked}
@@ -7,24 +7,23 @@ use Rattle.af_request.specs.declared.reply.DeviceInfo.{DeviceInfo}
 use Rattle.af_sample.specs.declared.sample_type.SampleType.{SampleType}
 use Rattle.af_tools.specs.Play.{play_context}
 use Rattle.af_lib.specs.Calls.{ConnState, IsSetUp, as_done}
-use Rattle.af_toolkit.specs.Trace.{Trace, ClientState, asks, done, ends}
+use Rattle.af_toolkit.specs.Trace.{ClientState}
+use Rattle.af_toolkit.specs.ToolParts.{GoesOver, asks}
 use Rattle.af_toolkit.specs.declared.end.ToolEnd.{ToolEnd}
-use Rattle.af_toolkit.specs.Ends.{PartCompletes, client_of, ObservedPartOver}
-use Rattle.af_toolkit.proofs.TracePartLemmas.{client_begun, setup_known}
+use Rattle.af_toolkit.specs.Ends.{client_of}
+use Rattle.af_toolkit.proofs.ToolPartLemmas.{client_begun, setup_known}
 use Rattle.af_cli.specs.declared.job.PlayJob.{PlayJob}
-use Rattle.af_toolkit.proofs.ToolEndLemmas.{asks_done}
+use Rattle.af_toolkit.proofs.ToolEndLemmas.{asks_answered}
 use Rattle.af_tools.specs.Reading.{DialGivesContext, GivesContext, GivesReply, LinkGivesContext}
 
--- if the request for a context came to its value, the context was made
-asks_replied : (context : Asked) (w w' : ClientState) (u : Unit {0}) (s o : List ℕ) → PartCompletes (asks context as_done w) u w' s o → GivesReply context w
-asks_replied context w w' u s o passed = (asks_done context as_done w (λ _ _. ends done) (ap (λ (t : Trace). t.finish) (passed (λ _ _. ends done)))).1
-
 -- a context that was made, by its name in a job
-pub context_made : {L : Type 0} (left sent : L → Option (List ℕ)) (old new : ConnState L) {asked context : Asked} → asked ≡ context → (r : Result (Unit {0}) ToolEnd) → ObservedPartOver left sent old new (λ w. asks asked as_done w) r →
+pub context_made : {L : Type 0} (left sent : L → Option (List ℕ)) (old new : ConnState L) {asked context : Asked} → asked ≡ context → (r : Result (Unit {0}) ToolEnd) → GoesOver left sent old new (asks asked as_done) r →
     IfOk r (λ _. (input : List ℕ) → left old.link ≡ Some input → GivesReply context (client_of old input))
 context_made left sent old new {asked} same (Ok u) goes = λ input told.
-    let g = goes input None told in
-    subst (λ (a : Asked). GivesReply a (client_of old input)) same (asks_replied asked (client_of old input) (client_of new g.came.0) u g.sends g.output g.came.2)
+    let w = client_of old input in
+    let c = (goes None).came w (input, told, refl) in
+    let ok : IsOk (asks asked as_done w).end = rw c.3 refl in
+    subst (λ (a : Asked). GivesReply a w) same (asks_answered asked as_done w ok).1
 context_made left sent old new same (Err how) goes = tt
 
 -- aplay reads a source without a header only after the reply, since what follows the header does

@@ -1,7 +1,7 @@
 -- What aplay does: the bytes of its source are cut into blocks, and each block is played at its time. And what is heard of it.
 use Rattle.std.specs.Prelude.{◌≤◌, ℕ, zero, suc, ◌+◌, ◌*◌, ◌/◌, ◌%◌, ◌^◌, nat_lt, if◌then◌else◌, pos, Option, None, Some, false}
 use Rattle.std.specs.Prelude.{List, [], ◌∷◌, ◌++◌, length, take, drop, codes, decimal, ◌≡◌, ◌<◌, true, ℤ, map, slice_get}
-use Rattle.std.specs.Prelude.{slice_index_or, Ok, flat_map}
+use Rattle.std.specs.Prelude.{slice_index_or, Ok, Err, flat_map}
 use Rattle.af_time.specs.DeviceTime.{frames_lasting}
 use Rattle.af_sample.specs.declared.sample_type.SampleType.{SampleType}
 use Rattle.af_sample.specs.Channels.{IsChannelCount}
@@ -13,7 +13,13 @@ use Rattle.af_request.specs.Fields.{flag_byte}
 use Rattle.af_lib.specs.Calls.{as_done, as_time}
 use Rattle.af_cli.specs.declared.job.PlayJob.{PlayJob}
 use Rattle.af_cli.specs.Sizes.{block_frames, greatest_block}
-use Rattle.af_toolkit.specs.Trace.{Trace, ClientState, asks, begins, done, ends, too_long, with_job_device, writes_first, answer_on, after_reply}
+use Rattle.af_dialogue.specs.Parts.{Part, goes_on, has_value, outcome, part_among}
+use Rattle.af_request.specs.Answer.{Answer}
+use Rattle.af_lib.specs.declared.fault.ConnFault.{ConnFault}
+use Rattle.af_toolkit.specs.Trace.{Trace, ClientState, Finish, after_reply, answer_on}
+use Rattle.af_toolkit.specs.Trace.{done, ends, refused, too_long, with_job_device, writes_first}
+use Rattle.af_toolkit.specs.ToolParts.{ToolDeeds, asks, doing, trace_of}
+use Rattle.af_tools.specs.declared.player.Played.{Played}
 use Rattle.af_tools.specs.declared.sound.SourceSound.{SourceSound}
 use Rattle.af_tools.specs.Sounds.{most_bytes, as_served, reads_sound, source_width, stated_part, GivesSamples}
 use Rattle.af_sample.specs.Samples.{samples}
@@ -44,22 +50,42 @@ whole_frames width block = take (frames_in width block * width) block
 abbrev pub block_time : (start sent : ℕ) → ℕ
 block_time start sent = (start + sent) % 2 ^ 32
 
+-- why playing ends early: a request was answered with a fault, or the source gave too much
+pub data PlayFault : Type 0 where
+  of_reply : (fault : ConnFault) → PlayFault
+  of_source : PlayFault
+
+abbrev pub play_finish : PlayFault → Finish
+play_finish (of_reply fault) = refused fault
+play_finish of_source = too_long
+
+abbrev pub PlayPart : Type 0 → Type 0
+PlayPart X = Part ClientState ToolDeeds PlayFault X
+
+-- a request is sent, and its answer is the value
+abbrev pub play_asks : {X : Type 0} → Asked → (Answer → Option X) → PlayPart X
+play_asks asked value_of = part_among of_reply (asks asked value_of)
+
+-- the source gave too much
+abbrev pub gives_too_much : PlayPart ℕ
+gives_too_much w = outcome doing.nothing (Err of_source)
+
 -- each block is played after those before it, as a server takes it, until one has no whole frame or the source gave too much
-unfoldable pub plays : Option Coding → (width start sent given : ℕ) → List (List ℕ) → ClientState → (ℕ → ClientState → Trace) →
-    Trace
-plays coding width start sent given [] w next = next sent w
-plays coding width start sent given (block ∷ more) w next =
-    if nat_lt most_bytes (given + length block) then ends too_long
+unfoldable pub plays : Option Coding → (width start sent given : ℕ) → List (List ℕ) → PlayPart ℕ
+plays coding width start sent given [] = has_value doing sent
+plays coding width start sent given (block ∷ more) =
+    if nat_lt most_bytes (given + length block) then gives_too_much
     else if nat_lt 0 (frames_in width block)
-    then asks (play_run false 1 (block_time start sent) (as_served coding (whole_frames width block))) as_time w
-    (λ _ v. plays coding width start (sent + frames_in width block) (given + length block) more v next)
-    else next sent w
+    then goes_on doing
+    (play_asks (play_run false 1 (block_time start sent) (as_served coding (whole_frames width block))) as_time) (λ _.
+    plays coding width start (sent + frames_in width block) (given + length block) more)
+    else has_value doing sent
 
 -- the blocks of a sound, each of n frames, are played from a start on; the header of a file was read before
-unfoldable pub plays_sound : SourceSound → (frames start : ℕ) → List ℕ → ClientState → (ℕ → ClientState → Trace) → Trace
-plays_sound sound frames start bytes w next =
+unfoldable pub plays_sound : SourceSound → (frames start : ℕ) → List ℕ → PlayPart ℕ
+plays_sound sound frames start bytes =
     let width = source_width sound.coding sound.ty sound.channels in
-    plays sound.coding width start 0 sound.head (blocks (frames * width) (stated_part sound.length bytes)) w next
+    plays sound.coding width start 0 sound.head (blocks (frames * width) (stated_part sound.length bytes))
 
 -- a block of n frames that fits one Play: at least one frame, and at most the bytes of the greatest block
 pub record IsBlock (ty : SampleType) (channels frames : ℕ) : Type 0 where
@@ -85,18 +111,21 @@ abbrev pub played_frames : PlayJob → SampleType → (channels : ℕ) → ℕ
 played_frames job ty channels = block_frames job.block (frame_bytes ty channels)
 
 -- a context is made, the device's time asked for, the blocks played, and the context freed: how many frames, and from when on
-unfoldable pub plays_on : PlayJob → SourceSound → DeviceInfo → List ℕ → ClientState → (ℕ → ℕ → ClientState → Trace) → Trace
-plays_on job sound device bytes w next =
-    begins (play_context job sound.ty sound.channels) job.device w (λ now w.
+abbrev pub plays_on : PlayJob → SourceSound → DeviceInfo → List ℕ → PlayPart Played
+plays_on job sound device bytes =
+    goes_on doing (play_asks (play_context job sound.ty sound.channels) as_done) (λ _.
+    goes_on doing (play_asks (get_time job.device) as_time) (λ now.
     let start = start_at job.time now.0 (frames_lasting device.rate job.lead) in
-    plays_sound sound (played_frames job sound.ty sound.channels) start bytes w (λ frames w.
-    asks (free_ac 1) as_done w (λ _ w. next frames start w)))
+    goes_on doing (plays_sound sound (played_frames job sound.ty sound.channels) start bytes) (λ frames.
+    goes_on doing (play_asks (free_ac 1) as_done) (λ _.
+    has_value doing (record { frames = frames; start = record { 0 = start } })))))
 
 -- the trace of aplay: it reads a header, if the source has one, plays all, and then writes how much, and from when on
 unfoldable pub aplay_trace : PlayJob → List DeviceInfo → List ℕ → ClientState → Trace
 aplay_trace job devices bytes w = with_job_device job.device devices (λ device.
     reads_sound job.form job device bytes (λ sound rest.
-    plays_on job sound device rest w (λ frames start _. writes_first (played_text frames start) (ends done))))
+    trace_of play_finish (plays_on job sound device rest w) (λ played.
+    writes_first (played_text played.frames played.start.0) (ends done))))
 
 -- a block that is sent: how many frames were sent before it, and its bytes
 pub record Block : Type 0 where

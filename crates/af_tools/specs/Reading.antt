@@ -14,7 +14,9 @@ use Rattle.af_tools.specs.declared.fill.FillFault.TheVariants as fill
 use Rattle.af_tools.specs.Sounds.{most_bytes, stated_room, FitsStated, reads_front, reads_sound}
 use Rattle.af_lib.specs.Calls.{ConnState, as_done}
 use Rattle.af_toolkit.specs.Trace.{Trace, ClientState, Finish, ends, tool_end, answer_on, client_after_setup, setup_answer}
-use Rattle.af_toolkit.specs.Ends.{client_of, ObservedTrace, ObservedPart, TracePart, is_outer}
+use Rattle.af_toolkit.specs.Ends.{client_of, ObservedTrace, is_outer}
+use Rattle.af_toolkit.specs.ToolParts.{tool_sight, tooling}
+use Rattle.af_dialogue.specs.Parts.{Goes}
 use Rattle.af_sound.specs.declared.head.HeadStep.TheVariants as step
 use Rattle.af_sound.specs.Fronts.{front_of}
 use Rattle.af_request.specs.declared.reply.DeviceInfo.{DeviceInfo}
@@ -28,7 +30,7 @@ use Rattle.af_request.specs.Asked.{Asked}
 use Rattle.af_cli.specs.declared.job.Task.{Task}
 use Rattle.af_cli.specs.declared.job.Task.TheVariants as task
 use Rattle.af_cli.specs.Words.{Job, one}
-use Rattle.af_tools.specs.Play.{play_context}
+use Rattle.af_tools.specs.Play.{PlayPart, play_context, play_finish}
 
 -- how aplay ends if its source gave no block
 abbrev pub fill_end : FillFault → ToolEnd
@@ -136,14 +138,12 @@ pub record UsesSource {S : Type 0} (left : S → Option (List ℕ)) (faults : S 
 abbrev pub TellsIfRead : {S : Type 0} → (gives : S → Option (List ℕ)) → (reads : Bool) → List ℕ → (source source' : S) → Type 0
 TellsIfRead gives reads bytes source source' = reads ≡ true → (gives source ≡ Some bytes) × IsSome (gives source')
 
--- how a part went that also reads, over an observable link and source; the source stays observable
-abbrev pub ObservedPartReading : {L S X : Type 0} → (left sent : L → Option (List ℕ)) → (gives : S → Option (List ℕ)) →
-    (conn conn' : ConnState L) → (source source' : S) → (List ℕ → ClientState → TracePart X) → Result X ToolEnd → Type 0
-ObservedPartReading left sent gives conn conn' source source' part result =
-    (input bytes : List ℕ) (held : Option (List ℕ)) → left conn.link ≡ Some input → gives source ≡ Some bytes →
-    IsSome (gives source') →
-    ObservedPart (part bytes (client_of conn input)) result (left conn'.link) (client_of conn') (sent conn.link) (sent conn'.link)
-    held held
+-- how a part of aplay went that also reads, over an observable source, which stays observable
+abbrev pub GoesReading : {L S X : Type 0} → (left sent : L → Option (List ℕ)) → (gives : S → Option (List ℕ)) →
+    (conn conn' : ConnState L) → (source source' : S) → (List ℕ → PlayPart X) → Result X ToolEnd → Type 0
+GoesReading left sent gives conn conn' source source' part result =
+    (bytes : List ℕ) (held : Option (List ℕ)) → gives source ≡ Some bytes → IsSome (gives source') →
+    Goes (tooling play_finish) (part bytes) result (tool_sight left sent conn held) (tool_sight left sent conn' held)
 
 -- how a tool followed its trace, over an observable link, and an observable source if the tool reads it
 abbrev pub FollowsTrace : {L S K : Type 0} → (left sent : L → Option (List ℕ)) → (gives : S → Option (List ℕ)) →

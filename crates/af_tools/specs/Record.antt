@@ -21,7 +21,9 @@ use Rattle.af_sample.specs.Samples.{samples}
 use Rattle.af_request.specs.Asked.{Asked, create_ac, free_ac, record_run}
 use Rattle.af_lib.specs.Calls.{as_done, as_recorded, ConnState}
 use Rattle.af_cli.specs.Sizes.{block_frames}
-use Rattle.af_toolkit.specs.Trace.{Trace, ClientState, asks, begins, done, ends, with_job_device, writes_first}
+use Rattle.af_dialogue.specs.Parts.{goes_on, has_value}
+use Rattle.af_toolkit.specs.Trace.{Trace, ClientState, done, ends, refused, with_job_device}
+use Rattle.af_toolkit.specs.ToolParts.{ToolPart, asks, begins, doing, trace_of, writes}
 use Rattle.af_io.specs.Observed.{Appended}
 use Rattle.af_toolkit.specs.declared.end.ToolEnd.{ToolEnd}
 use Rattle.af_toolkit.specs.declared.end.ToolEnd.TheVariants as end
@@ -117,46 +119,48 @@ ends_row job peaks = nat_le job.stop_blocks (row_below job.stop_peak peaks)
 abbrev pub recorded_frame : RecordedSound → ℕ
 recorded_frame sound = frame_bytes sound.ty sound.channels
 
--- a block of n bytes is recorded and written, and what follows goes by its peak
-abbrev pub takes_block : RecordedSound → (at size : ℕ) → ClientState → (ℕ → ClientState → Trace) → Trace
-takes_block sound at size w next = asks (record_run true 1 at size) (as_recorded true size) w (λ r v.
-    writes_first (as_filed sound.coding r.samples) (next (peak sound.ty r.samples) v))
+-- a block of n bytes is recorded and written, and its peak is the value
+abbrev pub takes_block : RecordedSound → (at size : ℕ) → ToolPart ℕ
+takes_block sound at size =
+    goes_on doing (asks (record_run true 1 at size) (as_recorded true size)) (λ r.
+    goes_on doing (writes (as_filed sound.coding r.samples)) (λ _.
+    has_value doing (peak sound.ty r.samples)))
 
 -- blocks of these lengths are recorded and written, until a row of quiet ones: how many frames there were in all
-unfoldable pub records : RecordJob → RecordedSound → (at before : ℕ) (peaks : List ℕ) → List ℕ → ClientState →
-    (ℕ → ClientState → Trace) → Trace
-records job sound at before peaks [] w next = next before w
-records job sound at before peaks (n ∷ more) w next = takes_block sound at (n * recorded_frame sound) w (λ peak v.
-    if ends_row job (peak ∷ peaks) then next (before + n) v
-    else records job sound ((at + n) % 2 ^ 32) (before + n) (peak ∷ peaks) more v next)
+unfoldable pub records : RecordJob → RecordedSound → (at before : ℕ) (peaks : List ℕ) → List ℕ → ToolPart ℕ
+records job sound at before peaks [] = has_value doing before
+records job sound at before peaks (n ∷ more) = goes_on doing (takes_block sound at (n * recorded_frame sound)) (λ peak.
+    if ends_row job (peak ∷ peaks) then has_value doing (before + n)
+    else records job sound ((at + n) % 2 ^ 32) (before + n) (peak ∷ peaks) more)
 
 -- all blocks of a job
-abbrev pub records_all : RecordJob → RecordedSound → (start : ℕ) → ClientState → (ℕ → ClientState → Trace) → Trace
-records_all job sound start w next =
-    records job sound start 0 [] (block_lengths (block_frames job.block (recorded_frame sound)) job.frames) w next
+abbrev pub records_all : RecordJob → RecordedSound → (start : ℕ) → ToolPart ℕ
+records_all job sound start =
+    records job sound start 0 [] (block_lengths (block_frames job.block (recorded_frame sound)) job.frames)
 
 -- the context of a job on a device
 abbrev pub record_context : RecordJob → DeviceInfo → Asked
 record_context job device = create_ac job.device 1 (code_of (recorded_sound job device).ty) device.channels 0 (pos 0) job.gain
 
 -- the blocks are recorded from a start on, between the header of a file and the byte that makes the sound of a WAVE file even
-unfoldable pub writes_recording : RecordJob → DeviceInfo → (start : ℕ) → ClientState → (Unit {0} → ClientState → Trace) → Trace
-writes_recording job device start w next =
+abbrev pub writes_recording : RecordJob → DeviceInfo → (start : ℕ) → ToolPart (Unit {0})
+writes_recording job device start =
     let sound = recorded_sound job device in
-    writes_first (front_of_recording job device) (
-    records_all job sound start w (λ frames w.
-    writes_first (pad_after job.form (frames * recorded_frame sound)) (next tt w)))
+    goes_on doing (writes (front_of_recording job device)) (λ _.
+    goes_on doing (records_all job sound start) (λ frames.
+    writes (pad_after job.form (frames * recorded_frame sound))))
 
 -- a context is made, all is recorded from the stated start or else from the device's time on, and the context is freed
-unfoldable pub records_on : RecordJob → DeviceInfo → ClientState → (Unit {0} → ClientState → Trace) → Trace
-records_on job device w next =
-    begins (record_context job device) job.device w (λ now w.
-    writes_recording job device (unwrap_or job.time now.0) w (λ _ w.
-    asks (free_ac 1) as_done w next))
+abbrev pub records_on : RecordJob → DeviceInfo → ToolPart (Unit {0})
+records_on job device =
+    goes_on doing (begins (record_context job device) job.device) (λ now.
+    goes_on doing (writes_recording job device (unwrap_or job.time now.0)) (λ _.
+    asks (free_ac 1) as_done))
 
 -- the trace of arecord, by the devices of the server and what the link gives
 unfoldable pub arecord_trace : RecordJob → List DeviceInfo → ClientState → Trace
-arecord_trace job devices w = with_job_device job.device devices (λ device. records_on job device w (λ _ _. ends done))
+arecord_trace job devices w =
+    with_job_device job.device devices (λ device. trace_of refused (records_on job device w) (λ _. ends done))
 
 -- A job is done: it sent the requests of a raw recording, and wrote that recording, as a sound file if it writes one.
 pub record IsRecorded (job : RecordJob) (devices : List DeviceInfo) (w : ClientState)

@@ -5,7 +5,9 @@ use Rattle.af_request.specs.Asked.{Asked, hook_switch}
 use Rattle.af_request.specs.Fields.{flag_byte}
 use Rattle.af_lib.specs.Calls.{as_done, controls_request}
 use Rattle.af_cli.specs.declared.job.SetJob.{SetJob}
-use Rattle.af_toolkit.specs.Trace.{Trace, ClientState, asks, done, ends, with_job_device, writes_first}
+use Rattle.af_dialogue.specs.Parts.{goes_on, has_value}
+use Rattle.af_toolkit.specs.Trace.{Trace, ClientState, done, ends, refused, with_job_device, writes_first}
+use Rattle.af_toolkit.specs.ToolParts.{ToolPart, asks, doing, trace_of}
 use Rattle.af_standing.specs.declared.controls_report.ControlsReport.{ControlsReport}
 use Rattle.af_standing.specs.ControlsReport.{asks_controls_report, controls_report_text}
 
@@ -24,18 +26,18 @@ abbrev pub hook_request : SetJob → Option Asked
 hook_request job = option_map (λ off. hook_switch job.device (flag_byte off)) job.hook_off
 
 -- a request that is sent only if it is needed
-abbrev pub asks_if : Option Asked → ClientState → (Unit {0} → ClientState → Trace) → Trace
-asks_if (Some asked) w next = asks asked as_done w next
-asks_if None w next = next tt w
+abbrev pub asks_if : Option Asked → ToolPart (Unit {0})
+asks_if (Some asked) = asks asked as_done
+asks_if None = has_value doing tt
 
 -- the controls and the hook are set, and then the device is asked for its state
-unfoldable pub sets_on : SetJob → DeviceInfo → ClientState → (ControlsReport → ClientState → Trace) → Trace
-sets_on job device w next =
-    asks_if (control_request job) w (λ _ w.
-    asks_if (hook_request job) w (λ _ w.
-    asks_controls_report device.line job.device w next))
+abbrev pub sets_on : SetJob → DeviceInfo → ToolPart ControlsReport
+sets_on job device =
+    goes_on doing (asks_if (control_request job)) (λ _.
+    goes_on doing (asks_if (hook_request job)) (λ _.
+    asks_controls_report device.line job.device))
 
 -- the trace of aset, by the devices of the server and what the link gives
 unfoldable pub aset_trace : SetJob → List DeviceInfo → ClientState → Trace
 aset_trace job devices w = with_job_device job.device devices (λ device.
-    sets_on job device w (λ controls_report _. writes_first (controls_report_text controls_report) (ends done)))
+    trace_of refused (sets_on job device w) (λ controls_report. writes_first (controls_report_text controls_report) (ends done)))

@@ -6,13 +6,13 @@ ghost use Rattle.af_io.specs.Observed.{CountsFault};
 ghost use Rattle.af_io.specs.Flow.{ConsumedWithin};
 ghost use Rattle.af_request.specs.Asked.{play_run};
 ghost use Rattle.af_lib.specs.Calls.{as_time};
-ghost use Rattle.af_toolkit.specs.Trace.{asks};
-ghost use Rattle.af_toolkit.specs.Ends.{is_of_link, KeepsConnection, ObservedPartOver};
+ghost use Rattle.af_toolkit.specs.Ends.{is_of_link, KeepsConnection};
+ghost use Rattle.af_toolkit.specs.ToolParts.{asks, GoesOver};
 ghost use Rattle.af_sound.specs.Served.{served_length};
 ghost use Rattle.af_tools.specs.Sounds.{most_bytes, as_served, block_bytes, served_room, AreWhole, IsServedAs};
 ghost use Rattle.af_tools.specs.Play.{plays_sound, IsBlock};
 ghost use Rattle.af_tools.specs.Results.{is_of_blocks};
-ghost use Rattle.af_tools.specs.Reading.{left_before, FillsBlock, IsEarlyBlock, IsNextBlock, TakesSound, ObservedPartReading};
+ghost use Rattle.af_tools.specs.Reading.{left_before, FillsBlock, IsEarlyBlock, IsNextBlock, GoesReading, TakesSound};
 ghost use Rattle.af_cli.specs.Sizes.{greatest_block};
 
 use crate::fill::{FillFault, fill_stated, still_left};
@@ -55,8 +55,7 @@ fn play_samples<L: Link + Drop>(
 ) -> Result<DevTime, ToolEnd>
     requires usable { conn.old.cause ≡ None }
     requires block { length samples.now ≤ greatest_block }
-    ensures goes { ObservedPartOver L.left L.sent conn.old conn.new
-        (λ w. asks (play_run false 1 at.0 samples.now) as_time w) result }
+    ensures goes { GoesOver L.left L.sent conn.old conn.new (asks (play_run false 1 at.0 samples.now) as_time) result }
     ensures holds { KeepsConnection L.left L.faults conn.old conn.new result }
     ensures end { IfErr result (λ how. is_of_link how ≡ true) }
 {
@@ -75,8 +74,8 @@ fn play_block<L: Link + Drop>(
     requires block { (length block.now ≤ greatest_block) × AreWhole coding (length block.now) }
     requires room { (served_room coding (length block.now) ≤ length room.old)
         × (served_room coding (length block.now) ≤ greatest_block) }
-    ensures goes { ObservedPartOver L.left L.sent conn.old conn.new
-        (λ w. asks (play_run false 1 at.0 (as_served coding block.now)) as_time w) result }
+    ensures goes { GoesOver L.left L.sent conn.old conn.new
+        (asks (play_run false 1 at.0 (as_served coding block.now)) as_time) result }
     ensures room { length room.new ≡ length room.old }
     ensures holds { KeepsConnection L.left L.faults conn.old conn.new result }
     ensures end { IfErr result (λ how. is_of_link how ≡ true) }
@@ -181,8 +180,8 @@ pub fn play_blocks<L: Link + Drop, S: Source>(
     requires first { IsNextBlock (block_bytes playback.sound playback.block) (most_bytes - playback.sound.head)
         playback.sound.length first (S.left source.old) }
     requires room { greatest_block ≤ length room.old }
-    ensures goes { ObservedPartReading L.left L.sent S.left conn.old conn.new source.old source.new
-        (λ bytes w. plays_sound playback.sound playback.block playback.start.0 (take first room.old ++ bytes) w) result }
+    ensures goes { GoesReading L.left L.sent S.left conn.old conn.new source.old source.new
+        (λ bytes. plays_sound playback.sound playback.block playback.start.0 (take first room.old ++ bytes)) result }
     ensures takes { TakesSound playback.sound.length (most_bytes - playback.sound.head) result
         (left_before (take first room.old) (S.left source.old)) (S.left source.new) }
     ensures holds { KeepsConnection L.left L.faults conn.old conn.new result }

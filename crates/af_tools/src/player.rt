@@ -6,11 +6,11 @@ ghost use Rattle.af_io.specs.Observed.{CountsFault};
 ghost use Rattle.af_sample.specs.Channels.{IsChannelCount};
 ghost use Rattle.af_lib.specs.Calls.{as_done, device_channels};
 ghost use Rattle.af_toolkit.specs.Talk.{creates};
-ghost use Rattle.af_toolkit.specs.Trace.{asks};
-ghost use Rattle.af_toolkit.specs.Ends.{client_of, is_of_link, KeepsConnection, ObservedPartOver};
+ghost use Rattle.af_toolkit.specs.Ends.{client_of, is_of_link, KeepsConnection};
+ghost use Rattle.af_toolkit.specs.ToolParts.{asks, GoesOver};
 ghost use Rattle.af_tools.specs.Play.{play_context, played_frames, plays_on, start_at, IsBlock};
 ghost use Rattle.af_tools.specs.Results.{is_of_blocks, is_of_play, LacksDevice, RunsAplay};
-ghost use Rattle.af_tools.specs.Reading.{TakesSound, ObservedPartReading, UsesSource, GivesReply, ReadsAfterContext};
+ghost use Rattle.af_tools.specs.Reading.{GoesReading, TakesSound, UsesSource, GivesReply, ReadsAfterContext};
 ghost use Rattle.af_tools.specs.Sounds.{most_bytes, IsServedAs};
 ghost use Rattle.af_cli.specs.Sizes.{greatest_block};
 
@@ -66,8 +66,8 @@ fn make_play_context<L: Link + Drop>(
 ) -> Result<(), ToolEnd>
     requires usable { conn.old.cause ≡ None }
     requires channels { device_channels conn.old.devices job.now.device ≡ sound.channels }
-    ensures goes { ObservedPartOver L.left L.sent conn.old conn.new
-        (λ w. asks (play_context job.now sound.ty sound.channels) as_done w) result }
+    ensures goes { GoesOver L.left L.sent conn.old conn.new
+        (asks (play_context job.now sound.ty sound.channels) as_done) result }
     ensures made { IfOk result (λ _. (input : List ℕ) → L.left conn.old.link ≡ Some input →
         GivesReply (play_context job.now sound.ty sound.channels) (client_of conn.old input)) }
     ensures holds { KeepsConnection L.left L.faults conn.old conn.new result }
@@ -108,9 +108,8 @@ fn play_on<L: Link + Drop, S: Source>(
     requires channels { device_channels conn.old.devices plan.job.device ≡ plan.sound.channels }
     requires count { IsChannelCount plan.sound.channels }
     requires room { greatest_block ≤ length room.old }
-    ensures goes { ObservedPartReading L.left L.sent S.left conn.old conn.new source.old source.new
-        (λ bytes w next. plays_on plan.job plan.sound plan.device bytes w
-        (λ frames start. next (record { frames = frames; start = record { 0 = start } }))) result }
+    ensures goes { GoesReading L.left L.sent S.left conn.old conn.new source.old source.new
+        (λ bytes. plays_on plan.job plan.sound plan.device bytes) result }
     ensures takes { TakesSound plan.sound.length (most_bytes - plan.sound.head) result (S.left source.old) (S.left source.new) }
     ensures unread { (source.new ≡ source.old) ⊎ ((input : List ℕ) → L.left conn.old.link ≡ Some input →
         GivesReply (play_context plan.job plan.sound.ty plan.sound.channels) (client_of conn.old input)) }

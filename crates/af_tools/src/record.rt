@@ -1,10 +1,11 @@
 // Blocks are recorded, one after another, and written to the sink.
-ghost use Rattle.std.specs.Prelude.{◌≡◌, ◌<◌, ◌≤◌, ◌+◌, ◌*◌, ◌^◌, length, nat_lt, if◌then◌else◌, true, Err, IfErr, IfOk};
+ghost use Rattle.std.specs.Prelude.{◌≡◌, ◌<◌, ◌≤◌, ◌+◌, ◌*◌, ◌^◌, length, nat_lt, if◌then◌else◌, true, Err, IfErr};
 ghost use Rattle.std.specs.declared.option.Option.{Option};
 ghost use Rattle.std.specs.declared.option.Option.TheVariants.{None};
 ghost use Rattle.af_io.specs.Observed.{CountsFault};
 ghost use Rattle.af_sample.specs.Channels.{IsChannelCount};
-ghost use Rattle.af_toolkit.specs.Ends.{is_of_link_or_sink, KeepsConnection, ObservedPartWriting};
+ghost use Rattle.af_toolkit.specs.Ends.{is_of_link_or_sink, KeepsConnection};
+ghost use Rattle.af_toolkit.specs.ToolParts.{GoesWriting};
 ghost use Rattle.af_tools.specs.Record.{IsFiledAs, peak, recorded_frame, records_all, takes_block};
 ghost use Rattle.af_tools.specs.Sounds.{AreWhole};
 ghost use Rattle.af_cli.specs.Sizes.{greatest_block};
@@ -69,8 +70,8 @@ fn record_block<L: Link + Drop, K: Sink>(
     requires usable { conn.old.cause ≡ None }
     requires filed { IsFiledAs sound.coding sound.ty }
     requires block { (0 < length block.old) × (length block.old ≤ greatest_block) × AreWhole sound.coding (length block.old) }
-    ensures goes { ObservedPartWriting L.left L.sent K.held conn.old conn.new sink.old sink.new
-        (λ w. takes_block sound at.0 (length block.old) w) result }
+    ensures goes { GoesWriting L.left L.sent K.held conn.old conn.new sink.old sink.new
+        (takes_block sound at.0 (length block.old)) result }
     ensures holds { KeepsConnection L.left L.faults conn.old conn.new result }
     ensures end { IfErr result (λ how. is_of_link_or_sink how ≡ true) }
     ensures fault { CountsFault (result ≡ Err ToolEnd.SinkFault) (K.faults sink.old) (K.faults sink.new) }
@@ -100,8 +101,8 @@ pub fn record_blocks<L: Link + Drop, K: Sink>(
     requires block { (1 ≤ job.now.block) × (job.now.block ≤ 4000) }
     requires stop { (1 ≤ job.now.stop_blocks) × (job.now.stop_blocks ≤ 1000000) }
     requires room { greatest_block ≤ length room.old }
-    ensures goes { ObservedPartWriting L.left L.sent K.held conn.old conn.new sink.old sink.new
-        (λ w. records_all job.now sound start.0 w) result }
+    ensures goes { GoesWriting L.left L.sent K.held conn.old conn.new sink.old sink.new
+        (records_all job.now sound start.0) result }
     ensures holds { KeepsConnection L.left L.faults conn.old conn.new result }
     ensures end { IfErr result (λ how. is_of_link_or_sink how ≡ true) }
     ensures fault { CountsFault (result ≡ Err ToolEnd.SinkFault) (K.faults sink.old) (K.faults sink.new) }

@@ -5,7 +5,8 @@ ghost use Rattle.af_io.specs.Observed.{CountsFault};
 ghost use Rattle.af_request.specs.Replies.{IsDeviceInfo};
 ghost use Rattle.af_lib.specs.Calls.{device_channels};
 ghost use Rattle.af_toolkit.specs.Talk.{creates};
-ghost use Rattle.af_toolkit.specs.Ends.{is_of_link_or_sink, KeepsConnection, ObservedPartWriting};
+ghost use Rattle.af_toolkit.specs.Ends.{is_of_link_or_sink, KeepsConnection};
+ghost use Rattle.af_toolkit.specs.ToolParts.{GoesWriting};
 ghost use Rattle.af_tools.specs.Record.{arecord_trace, record_context, records_on, writes_recording, LeavesRecording};
 ghost use Rattle.af_tools.specs.Results.{is_of_writer, LacksDevice, RunsTool};
 ghost use Rattle.af_cli.specs.Sizes.{greatest_block};
@@ -58,8 +59,8 @@ fn write_recording<L: Link + Drop, K: Sink>(
     requires block { (1 ≤ job.now.block) × (job.now.block ≤ 4000) }
     requires stop { (1 ≤ job.now.stop_blocks) × (job.now.stop_blocks ≤ 1000000) }
     requires room { greatest_block ≤ length room.old }
-    ensures goes { ObservedPartWriting L.left L.sent K.held conn.old conn.new sink.old sink.new
-        (λ w. writes_recording job.now device start.0 w) result }
+    ensures goes { GoesWriting L.left L.sent K.held conn.old conn.new sink.old sink.new
+        (writes_recording job.now device start.0) result }
     ensures holds { KeepsConnection L.left L.faults conn.old conn.new result }
     ensures end { IfErr result (λ how. is_of_link_or_sink how ≡ true) }
     ensures fault { CountsFault (result ≡ Err ToolEnd.SinkFault) (K.faults sink.old) (K.faults sink.new) }
@@ -85,8 +86,8 @@ fn record_on<L: Link + Drop, K: Sink>(
     requires block { (1 ≤ job.now.block) × (job.now.block ≤ 4000) }
     requires stop { (1 ≤ job.now.stop_blocks) × (job.now.stop_blocks ≤ 1000000) }
     requires room { greatest_block ≤ length room.old }
-    ensures goes { ObservedPartWriting L.left L.sent K.held conn.old conn.new sink.old sink.new
-        (λ w. records_on job.now device w) result }
+    ensures goes { GoesWriting L.left L.sent K.held conn.old conn.new sink.old sink.new
+        (records_on job.now device) result }
     ensures holds { KeepsConnection L.left L.faults conn.old conn.new result }
     ensures end { IfErr result (λ how. is_of_link_or_sink how ≡ true) }
     ensures fault { CountsFault (result ≡ Err ToolEnd.SinkFault) (K.faults sink.old) (K.faults sink.new) }

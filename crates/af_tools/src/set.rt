@@ -1,7 +1,8 @@
 // What aset asks.
 ghost use Rattle.std.specs.Prelude.{◌≡◌, true, IfErr};
 ghost use Rattle.std.specs.declared.option.Option.TheVariants.{None};
-ghost use Rattle.af_toolkit.specs.Ends.{is_of_link, ObservedPartOver, KeepsConnection};
+ghost use Rattle.af_toolkit.specs.Ends.{is_of_link, KeepsConnection};
+ghost use Rattle.af_toolkit.specs.ToolParts.{GoesOver};
 ghost use Rattle.af_tools.specs.Set.{asks_if, control_request, hook_request, sets_on, states_controls};
 
 use af_cli::SetJob;
@@ -24,8 +25,7 @@ fn states_controls(job: &SetJob) -> bool
 // Sets the controls that a job states.
 fn set_controls<L: Link + Drop>(job: &SetJob, conn: &mut Conn<L>) -> Result<(), ToolEnd>
     requires { conn.old.cause ≡ None }
-    ensures goes { ObservedPartOver L.left L.sent conn.old conn.new
-        (λ w. asks_if (control_request job.now) w) result }
+    ensures goes { GoesOver L.left L.sent conn.old conn.new (asks_if (control_request job.now)) result }
     ensures holds { KeepsConnection L.left L.faults conn.old conn.new result }
     ensures end { IfErr result (λ how. is_of_link how ≡ true) }
 {
@@ -44,7 +44,7 @@ fn set_controls<L: Link + Drop>(job: &SetJob, conn: &mut Conn<L>) -> Result<(), 
 // Takes the hook off or puts it on, if a job states that.
 fn set_hook<L: Link + Drop>(job: &SetJob, conn: &mut Conn<L>) -> Result<(), ToolEnd>
     requires { conn.old.cause ≡ None }
-    ensures goes { ObservedPartOver L.left L.sent conn.old conn.new (λ w. asks_if (hook_request job.now) w) result }
+    ensures goes { GoesOver L.left L.sent conn.old conn.new (asks_if (hook_request job.now)) result }
     ensures holds { KeepsConnection L.left L.faults conn.old conn.new result }
     ensures end { IfErr result (λ how. is_of_link how ≡ true) }
 {
@@ -61,7 +61,7 @@ pub fn set_on<L: Link + Drop>(
     conn: &mut Conn<L>,
 ) -> Result<ControlsReport, ToolEnd>
     requires { conn.old.cause ≡ None }
-    ensures goes { ObservedPartOver L.left L.sent conn.old conn.new (λ w. sets_on job.now device w) result }
+    ensures goes { GoesOver L.left L.sent conn.old conn.new (sets_on job.now device) result }
     ensures holds { KeepsConnection L.left L.faults conn.old conn.new result }
     ensures end { IfErr result (λ how. is_of_link how ≡ true) }
 {

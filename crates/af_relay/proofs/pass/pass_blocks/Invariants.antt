@@ -2,7 +2,8 @@ use Rattle.std.proofs.Common.{◌≡◌, ◌≤◌, ◌+◌, length, IsSome}
 use Rattle.std.specs.declared.option.Option.TheVariants.{None}
 use Rattle.af_dialogue.proofs.PartLemmas.{Reached}
 use Rattle.af_relay.specs.Pass.{both, passes}
-use Rattle.af_relay.specs.RelayParts.{link_sight, relaying}
+use Rattle.af_toolkit.specs.ToolParts.{link_sight}
+use Rattle.af_relay.specs.RelayParts.{relaying}
 use Rattle.af_relay.proofs.pass.pass_blocks.Given as goal
 
 abbrev pub invariant-loop-left : goal.invariant-loop-left

@@ -1,7 +1,7 @@
 use Rattle.std.proofs.Common.{refl}
-use Rattle.af_toolkit.specs.Trace.{done, ends}
+use Rattle.af_toolkit.specs.Trace.{done, ends, refused}
 use Rattle.af_toolkit.specs.Ends.{client_of}
-use Rattle.af_toolkit.proofs.TracePartLemmas.{followed_end, trace_goes_on, trace_stops}
+use Rattle.af_toolkit.proofs.ToolPartLemmas.{followed_end, trace_goes_on, trace_stops}
 use Rattle.af_standing.specs.List.{list_trace}
 use Rattle.af_standing.proofs.ListLemmas.{list_ran}
 use Rattle.af_standing.proofs.lister.list.Goals as goal
@@ -9,9 +9,9 @@ use Rattle.af_standing.proofs.lister.list.Goals as goal
 pub returns-in-Ok-clause-ran : goal.returns-in-Ok-clause-ran
 unfolding list_trace
 returns-in-Ok-clause-ran g c input told =
-    list_ran c.args.conn.now.devices (client_of c.args.conn.now input) _ _ _ _ _ (trace_goes_on (λ _ _. ends done) (c.in-Ok.ensures.goes input told) (λ i t. followed_end done refl))
+    list_ran c.args.conn.now.devices (client_of c.args.conn.now input) _ _ _ _ _ (trace_goes_on refused (λ _. ends done) (input, told, refl) c.in-Ok.ensures.goes (followed_end done refl))
 
 pub returns-in-Err-clause-ran : goal.returns-in-Err-clause-ran
 unfolding list_trace
 returns-in-Err-clause-ran g c input told =
-    list_ran c.args.conn.now.devices (client_of c.args.conn.now input) _ _ _ _ _ (trace_stops (λ _ _. ends done) (c.in-Err.ensures.goes input told))
+    list_ran c.args.conn.now.devices (client_of c.args.conn.now input) _ _ _ _ _ (trace_stops refused (λ _. ends done) (input, told, refl) c.in-Err.ensures.goes)

@@ -1,21 +1,15 @@
 use Rattle.std.proofs.Common.{rules}
-use Rattle.af_standing.specs.List.{tells_device}
-use Rattle.af_toolkit.proofs.TracePartLemmas.{part_goes_on, part_stops, part_written}
+use Rattle.af_dialogue.proofs.PartLemmas.{goes_stop, goes_through}
+use Rattle.af_toolkit.proofs.ToolPartLemmas.{is_tool, writes_go}
 use Rattle.af_standing.proofs.lister.tell_device.Goals as goal
 
 pub returns-in_err-controls_report-clause-goes : goal.returns-in_err-controls_report-clause-goes
-unfolding tells_device
-returns-in_err-controls_report-clause-goes g c input told = part_stops (search rules) (c.in_err-controls_report.ensures.goes input (g.K.Sink.held c.args.sink.now) told)
+returns-in_err-controls_report-clause-goes g c = goes_stop is_tool _ (search rules) (c.in_err-controls_report.ensures.goes _)
 
 pub returns-in_err-now-clause-goes : goal.returns-in_err-now-clause-goes
-unfolding tells_device
-returns-in_err-now-clause-goes g c input told =
-    let held = g.K.Sink.held c.args.sink.now in
-    part_goes_on (c.in_ok-controls_report.ensures.goes input held told) (λ i t. part_stops (search rules) (c.in_err-now.ensures.goes i held t))
+returns-in_err-now-clause-goes g c = goes_through is_tool _ (c.in_ok-controls_report.ensures.goes _) (goes_stop is_tool _ (search rules) (c.in_err-now.ensures.goes _))
 
 pub returns-clause-goes : goal.returns-clause-goes
-unfolding tells_device
-returns-clause-goes g c input told =
-    let held = g.K.Sink.held c.args.sink.now in
-    part_goes_on (c.in_ok-controls_report.ensures.goes input held told) (λ i t.
-    part_goes_on (c.in_ok-now.ensures.goes i held t) (λ j u. part_written g.K.Sink.held _ c.report.result c.args.sink.now c.report.new.sink u c.report.ensures.written))
+returns-clause-goes g c =
+    goes_through is_tool _ (c.in_ok-controls_report.ensures.goes _) (goes_through is_tool _ (c.in_ok-now.ensures.goes _)
+    (writes_go g.K.Sink.held _ c.report.result c.args.sink.now c.report.new.sink c.report.ensures.written))

@@ -6,7 +6,7 @@ use Rattle.af_toolkit.specs.declared.end.ToolEnd.TheVariants as end
 use Rattle.af_toolkit.specs.Trace.{done, ends, writes_first}
 use Rattle.af_toolkit.specs.Ends.{ObservedTrace}
 use Rattle.af_io.proofs.AppendedLemmas.{appended_none}
-use Rattle.af_toolkit.proofs.TracePartLemmas.{ended_at_once, ended_early}
+use Rattle.af_toolkit.proofs.ToolPartLemmas.{ended_at_once, ended_early}
 use Rattle.af_toolkit.proofs.text.write_text.Goals as goal
 
 -- the line was written

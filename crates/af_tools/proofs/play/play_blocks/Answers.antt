@@ -2,11 +2,10 @@ use Rattle.std.proofs.Common.{rules, arith, ◌≡◌, ◌≤◌, ◌<◌, ◌+�
 use Rattle.std.proofs.Math.Nat.{div-le_self}
 use Rattle.std.proofs.lemmas.List.{take-take}
 use Rattle.af_io.specs.Observed.{Consumed}
-use Rattle.af_toolkit.specs.Ends.{client_of}
 use Rattle.af_tools.specs.Reading.{fill_end, left_before}
 use Rattle.af_tools.specs.Sounds.{block_bytes}
 use Rattle.af_io.proofs.ConsumedLemmas.{consumed_told}
-use Rattle.af_toolkit.proofs.TracePartLemmas.{keeps_all, keeps_on}
+use Rattle.af_toolkit.proofs.ToolPartLemmas.{keeps_all, keeps_on}
 use Rattle.af_tools.proofs.PlayStepLemmas.{play_begin, play_filled, play_last, play_next, play_over, play_refused, play_unfilled, told_unfilled}
 use Rattle.af_tools.proofs.SourceFrameLemmas.{block_fits, block_short, size_fits}
 use Rattle.af_tools.proofs.SourceCountLemmas.{fits_begin, fits_on, given_on, given_within, read_before, rest_begin, rest_on, takes_ended, takes_fault, takes_link}
@@ -44,15 +43,15 @@ loop-block-init g c =
       rest = rest_begin sound.length;
       given = record { bytes = read; consumed = read_before read gives; all = omega arith };
       block_fits = block_fits sound.coding 0 c.requires.block c.width-width.ensures low within (omega arith);
-      playing = λ input bytes held told is tells.
-          play_filled (play_begin sound c.args.playback.block c.args.playback.start.0 width (read ++ bytes) input (left_before read gives) (g.L.Link.left c.args.conn.now.link) (client_of c.args.conn.now) (g.L.Link.sent c.args.conn.now.link) held (omega arith) c.width-width.ensures (ap (left_before read) is) told)
+      playing = λ bytes held is tells.
+          play_filled (play_begin sound c.args.playback.block c.args.playback.start.0 width (read ++ bytes) (left_before read gives) (omega arith) c.width-width.ensures (ap (left_before read) is))
           (subst (λ (b : List ℕ). Consumed (left_before read gives) b gives) (sym same) (read_before read gives)) tells sized within next.stated (λ short. next.ended (subst (λ (n : ℕ). first < n) sizes short));
     }
 
 pub returns-then-count-eq0-clause-goes : goal.returns-then-count-eq0-clause-goes
-returns-then-count-eq0-clause-goes g c input bytes held told is tells =
+returns-then-count-eq0-clause-goes g c bytes held is tells =
     let i = c.loop-block.invariant in
-    play_over (i.playing input bytes held told is tells) i.block_fits c.if-count-eq0.true
+    play_over (i.playing bytes held is tells) i.block_fits c.if-count-eq0.true
 
 pub returns-then-count-eq0-clause-takes : goal.returns-then-count-eq0-clause-takes
 returns-then-count-eq0-clause-takes g c =
@@ -60,9 +59,9 @@ returns-then-count-eq0-clause-takes g c =
     takes_ended c.loop-block.given c.loop-block.filled i.given i.permitted i.rest i.fits (i.ended (block_short i.block_fits c.if-count-eq0.true))
 
 pub returns-in_err-play_block-clause-goes : goal.returns-in_err-play_block-clause-goes
-returns-in_err-play_block-clause-goes g c input bytes held told is tells =
+returns-in_err-play_block-clause-goes g c bytes held is tells =
     let i = c.loop-block.invariant in
-    play_refused (i.playing input bytes held told is tells) i.block_fits c.time_after_frames-at.ensures (omega arith) (search rules) (λ j t. c.in_err-play_block.ensures.goes j held t)
+    play_refused (i.playing bytes held is tells) i.block_fits c.time_after_frames-at.ensures (omega arith) (search rules) (c.in_err-play_block.ensures.goes held)
 
 pub returns-in_err-play_block-clause-takes : goal.returns-in_err-play_block-clause-takes
 returns-in_err-play_block-clause-takes g c =
@@ -70,10 +69,10 @@ returns-in_err-play_block-clause-takes g c =
     takes_link (search rules) (given_within i.given i.permitted) c.in_err-play_block.ensures.end
 
 pub returns-then-filled-size-clause-goes : goal.returns-then-filled-size-clause-goes
-returns-then-filled-size-clause-goes g c input bytes held told is tells =
+returns-then-filled-size-clause-goes g c bytes held is tells =
     let i = c.loop-block.invariant in
     let short = c.if-filled-size.true in
-    play_last (i.playing input bytes held told is tells) i.block_fits c.time_after_frames-at.ensures (omega arith) (λ j t. c.in_ok-play_block.ensures.goes j held t) (omega arith)
+    play_last (i.playing bytes held is tells) i.block_fits c.time_after_frames-at.ensures (omega arith) (c.in_ok-play_block.ensures.goes held) (omega arith)
 
 pub returns-then-filled-size-clause-takes : goal.returns-then-filled-size-clause-takes
 returns-then-filled-size-clause-takes g c =
@@ -82,14 +81,14 @@ returns-then-filled-size-clause-takes g c =
     takes_ended c.loop-block.given c.loop-block.filled i.given i.permitted i.rest i.fits (i.ended (omega arith))
 
 pub returns-in_err-filled-clause-goes : goal.returns-in_err-filled-clause-goes
-returns-in_err-filled-clause-goes g c input bytes held told is tells =
+returns-in_err-filled-clause-goes g c bytes held is tells =
     let i = c.loop-block.invariant in
     let e = c.in_err-filled.ensures in
     let fault = c.in_err-filled.field-0.0 in
     let low = c.requires.sound.1 in
     let permitted = i.permitted in
     let same : c.from_residual-in_err-filled.result ≡ Err (fill_end fault) = search rules in
-    rw same (play_unfilled (i.playing input bytes held told is (told_unfilled fault e.fills tells)) i.block_fits c.time_after_frames-at.ensures (omega arith) (λ j t. c.in_ok-play_block.ensures.goes j held t) fault c.still_left-left.ensures e.fills (e.room ∙ i.block) tells (omega arith))
+    rw same (play_unfilled (i.playing bytes held is (told_unfilled fault e.fills tells)) i.block_fits c.time_after_frames-at.ensures (omega arith) (c.in_ok-play_block.ensures.goes held) fault c.still_left-left.ensures e.fills (e.room ∙ i.block) tells (omega arith))
 
 pub returns-in_err-filled-clause-takes : goal.returns-in_err-filled-clause-takes
 returns-in_err-filled-clause-takes g c =
@@ -126,7 +125,7 @@ loop-block-preserved g c =
       rest = rest_on sound.length c.loop-block.left c.still_left-left.result c.loop-block.given n i.rest c.still_left-left.ensures;
       given = given_on i.given had next.within;
       block_fits = block_fits sound.coding (c.loop-block.given + n) c.requires.block c.width-width.ensures c.requires.sound.1 (omega arith) (omega arith);
-      playing = λ input bytes held told is tells.
+      playing = λ bytes held is tells.
           let before = consumed_told (g.S.Source.left c.loop-block.source) (g.S.Source.left c.fill_stated.new.source) (take c.in_ok-filled.filled c.fill_stated.new.block) had.consumed tells in
-          play_next (i.playing input bytes held told is before) i.block_fits c.time_after_frames-at.ensures (omega arith) (λ j t. c.in_ok-play_block.ensures.goes j held t) (omega arith) c.still_left-left.ensures had tells filled;
+          play_next (i.playing bytes held is before) i.block_fits c.time_after_frames-at.ensures (omega arith) (c.in_ok-play_block.ensures.goes held) (omega arith) c.still_left-left.ensures had tells filled;
     }

@@ -1,6 +1,7 @@
 use Rattle.std.proofs.Common.{Ok, ◌≡◌, ◌<◌, ◌≤◌, ◌⊎◌, ◌+◌, ◌-◌, ◌^◌, ◌++◌, ℕ, List, length, take, IsSome, Option, Some}
 use Rattle.af_io.specs.Flow.{IsSpent}
-use Rattle.af_toolkit.specs.Ends.{client_of, KeepsConnection}
+use Rattle.af_toolkit.specs.Ends.{KeepsConnection}
+use Rattle.af_toolkit.specs.ToolParts.{tool_sight}
 use Rattle.af_tools.specs.Reading.{left_before}
 use Rattle.af_tools.specs.Play.{plays_sound}
 use Rattle.af_tools.specs.Sounds.{stated_after, FitsStated}
@@ -25,9 +26,9 @@ invariant-loop-block g l = record {
   rest : l.left ≡ stated_after l.sound.length l.given;
   given : ConsumedAll (l.given + l.filled) (left_before (take l.first l.fn.room) (g.S.Source.left l.initial.source)) (g.S.Source.left l.source);
   block_fits : BlockFits l.filled l.size l.width (l.sound.head + l.given);
-  playing : (input bytes : List ℕ) (held : Option (List ℕ)) → g.L.Link.left l.initial.conn.link ≡ Some input → g.S.Source.left l.initial.source ≡ Some bytes → IsSome (g.S.Source.left l.source) →
-      IsFilled (plays_sound l.sound l.fn.playback.block l.start.0 (take l.first l.fn.room ++ bytes) (client_of l.initial.conn input)) l.sound.coding l.width l.start.0 l.size l.frames (l.sound.head + l.given) l.filled l.left l.block
-      (g.S.Source.left l.source) (g.L.Link.left l.conn.link) (client_of l.conn) (g.L.Link.sent l.initial.conn.link) (g.L.Link.sent l.conn.link) held;
+  playing : (bytes : List ℕ) (held : Option (List ℕ)) → g.S.Source.left l.initial.source ≡ Some bytes → IsSome (g.S.Source.left l.source) →
+      IsFilled (plays_sound l.sound l.fn.playback.block l.start.0 (take l.first l.fn.room ++ bytes)) l.sound.coding l.width l.start.0 l.size l.frames (l.sound.head + l.given) l.filled l.left l.block (g.S.Source.left l.source)
+      (tool_sight g.L.Link.left g.L.Link.sent l.initial.conn held) (tool_sight g.L.Link.left g.L.Link.sent l.conn held);
 }
 
 abbrev pub decreases-loop-block : goal.decreases-loop-block

@@ -3,15 +3,14 @@ use Rattle.af_io.proofs.ConsumedLemmas.{consumed_told}
 use Rattle.af_toolkit.specs.declared.end.ToolEnd.TheVariants as end
 use Rattle.af_sample.specs.Channels.{IsChannelCount}
 use Rattle.af_lib.specs.Calls.{channels_or_one}
-use Rattle.af_toolkit.specs.Trace.{done, ends, writes_first}
 use Rattle.af_toolkit.specs.Ends.{client_of, is_of_report}
-use Rattle.af_tools.specs.Play.{played_text}
+use Rattle.af_tools.specs.Play.{play_finish}
 use Rattle.af_tools.specs.Results.{is_of_blocks}
 use Rattle.af_tools.specs.Reading.{is_of_sound}
 use Rattle.af_tools.proofs.HavingRun.{aplay_missing_ran, aplay_there_ran}
 use Rattle.af_tools.proofs.DeviceChoiceLemmas.{followed_same, is_missing, is_there, missing_iff, reported, there_iff}
 use Rattle.af_tools.proofs.EndLemmas.{never}
-use Rattle.af_toolkit.proofs.TracePartLemmas.{trace_goes_on, trace_stops}
+use Rattle.af_toolkit.proofs.ToolPartLemmas.{trace_goes_on, trace_stops}
 use Rattle.af_tools.proofs.SoundFitLemmas.{followed_unsound}
 use Rattle.af_tools.proofs.UnreadLemmas.{read_late}
 use Rattle.af_tools.proofs.SourceCountLemmas.{played_use, refused_use, unsound_use}
@@ -43,7 +42,7 @@ returns-in-Ok-play_on-clause-ran g c input bytes told is tells =
     let came = c.in-Ok-sound_of.ensures.brings bytes is before in
     aplay_there_ran job c.requires.block.0 (is_there _ _ device c.in-Ok.ensures.value) c.in-Ok.ensures.stated
     (followed_same _ _ _ _ _ _ _ (came.2 (reported job device w))
-    (trace_goes_on (λ p _. writes_first (played_text p.frames p.start.0) (ends done)) (c.in-Ok-play_on.ensures.goes input came.0 (g.K.Sink.held c.args.sink.now) told came.1 tells) (λ i t. c.report.ensures.followed _)))
+    (trace_goes_on play_finish _ (input, told, refl) (c.in-Ok-play_on.ensures.goes came.0 (g.K.Sink.held c.args.sink.now) came.1 tells) (c.report.ensures.followed _)))
 
 pub returns-in-Ok-play_on-clause-no_device : goal.returns-in-Ok-play_on-clause-no_device
 returns-in-Ok-play_on-clause-no_device g c n =
@@ -59,7 +58,7 @@ returns-in-Err-play_on-clause-ran g c input bytes told is tells =
     let came = c.in-Ok-sound_of.ensures.brings bytes is before in
     aplay_there_ran job c.requires.block.0 (is_there _ _ device c.in-Ok.ensures.value) c.in-Ok.ensures.stated
     (followed_same _ _ _ _ _ _ _ (came.2 (reported job device w))
-    (trace_stops (λ p _. writes_first (played_text p.frames p.start.0) (ends done)) (e.goes input came.0 (g.K.Sink.held c.args.sink.now) told came.1 tells)))
+    (trace_stops play_finish _ (input, told, refl) (e.goes came.0 (g.K.Sink.held c.args.sink.now) came.1 tells)))
 
 pub returns-in-Err-play_on-clause-no_device : goal.returns-in-Err-play_on-clause-no_device
 returns-in-Err-play_on-clause-no_device g c n =

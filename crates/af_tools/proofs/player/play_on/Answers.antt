@@ -1,28 +1,28 @@
 use Rattle.std.proofs.Common.{rules, arith, ◌≡◌, ◌-◌, refl, Err}
 use Rattle.af_toolkit.specs.declared.end.ToolEnd.TheVariants as end
-use Rattle.af_toolkit.proofs.TracePartLemmas.{part_cut, part_goes_on, part_is_done, part_stops}
+use Rattle.af_dialogue.proofs.PartLemmas.{goes_stop, goes_through, goes_value}
+use Rattle.af_toolkit.proofs.ToolPartLemmas.{cut_goes}
+use Rattle.af_tools.proofs.PlayStepLemmas.{is_play, play_goes}
 use Rattle.af_tools.specs.Reading.{fill_end}
 use Rattle.af_tools.specs.Sounds.{most_bytes}
-use Rattle.af_tools.specs.Play.{plays_on}
-use Rattle.af_tools.proofs.PlayTailLemmas.{early_fault, early_within, first_known, first_unfilled, tail_named}
+use Rattle.af_tools.specs.Play.{play_finish}
+use Rattle.af_tools.proofs.PlayTailLemmas.{early_fault, early_within, first_known, first_unfilled}
 use Rattle.af_tools.proofs.SourceCountLemmas.{given_none, given_within, takes_end, takes_fault, takes_first, takes_link, takes_some, takes_value, takes_within}
 use Rattle.af_tools.proofs.player.play_on.Goals as goal
 
 pub returns-in_err-make_play_context-clause-goes : goal.returns-in_err-make_play_context-clause-goes
-unfolding plays_on
-returns-in_err-make_play_context-clause-goes g c input bytes held told is tells =
-    part_stops (search rules) (c.in_err-make_play_context.ensures.goes input held told)
+returns-in_err-make_play_context-clause-goes g c bytes held is tells =
+    goes_stop is_play _ (search rules) (play_goes (c.in_err-make_play_context.ensures.goes held))
 
 pub returns-in_err-make_play_context-clause-takes : goal.returns-in_err-make_play_context-clause-takes
 returns-in_err-make_play_context-clause-takes g c =
     takes_link (search rules) (given_within (given_none (g.S.Source.left c.args.source.now)) (omega arith)) c.in_err-make_play_context.ensures.end
 
 pub returns-in_err-early-clause-goes : goal.returns-in_err-early-clause-goes
-unfolding plays_on
-returns-in_err-early-clause-goes g c input bytes held told is tells =
+returns-in_err-early-clause-goes g c bytes held is tells =
     let same : c.from_residual-in_err-early.result ≡ Err (fill_end c.in_err-early.field-0.0) = search rules in
     let fault = early_fault c.in_err-early.field-0.0 c.in_err-early.ensures.only in
-    rw (same, fault.1) (part_goes_on (c.in_ok-make_play_context.ensures.goes input held told) (λ i t. part_cut end.ReadFault refl))
+    rw (same, fault.1) (goes_through is_play _ (play_goes (c.in_ok-make_play_context.ensures.goes held)) (cut_goes play_finish end.ReadFault refl))
 
 pub returns-in_err-early-clause-takes : goal.returns-in_err-early-clause-takes
 returns-in_err-early-clause-takes g c =
@@ -31,9 +31,8 @@ returns-in_err-early-clause-takes g c =
     rw (same, fault.1) (takes_some refl (c.in_err-early.ensures.cut fault.0) (λ bad. cc bad))
 
 pub returns-in_err-now-clause-goes : goal.returns-in_err-now-clause-goes
-unfolding plays_on
-returns-in_err-now-clause-goes g c input bytes held told is tells =
-    part_goes_on (c.in_ok-make_play_context.ensures.goes input held told) (λ i t. part_stops (search rules) (c.in_err-now.ensures.goes i held t))
+returns-in_err-now-clause-goes g c bytes held is tells =
+    goes_through is_play _ (play_goes (c.in_ok-make_play_context.ensures.goes held)) (goes_stop is_play _ (search rules) (play_goes (c.in_err-now.ensures.goes held)))
 
 pub returns-in_err-now-clause-takes : goal.returns-in_err-now-clause-takes
 returns-in_err-now-clause-takes g c =
@@ -41,13 +40,11 @@ returns-in_err-now-clause-takes g c =
     takes_link (search rules) few c.in_err-now.ensures.end
 
 pub returns-in_err-first-clause-goes : goal.returns-in_err-first-clause-goes
-unfolding plays_on
-returns-in_err-first-clause-goes g c input bytes held told is tells =
+returns-in_err-first-clause-goes g c bytes held is tells =
     let unfilled = c.in_err-first.ensures.fills (g.S.Source.left c.args.source.now) c.in_ok-early.ensures.early in
-    part_goes_on (c.in_ok-make_play_context.ensures.goes input held told) (λ i t.
-    part_goes_on (c.in_ok-now.ensures.goes i held t) (λ j u.
-    tail_named _ _ refl c.block_of-block.ensures.value c.start_of-start.ensures
-    (part_stops (search rules) (first_unfilled c.args.plan.sound _ _ c.in_err-first.field-0.0 c.block_of-block.ensures.block c.requires.sound.1 is unfilled tells))))
+    goes_through is_play _ (play_goes (c.in_ok-make_play_context.ensures.goes held))
+    (goes_through is_play _ (play_goes (c.in_ok-now.ensures.goes held))
+    (rw (← c.block_of-block.ensures.value, ← c.start_of-start.ensures) (goes_stop is_play _ (search rules) (first_unfilled c.args.plan.sound _ c.in_err-first.field-0.0 c.block_of-block.ensures.block c.requires.sound.1 is unfilled tells))))
 
 pub returns-in_err-first-clause-takes : goal.returns-in_err-first-clause-takes
 returns-in_err-first-clause-takes g c =
@@ -55,14 +52,13 @@ returns-in_err-first-clause-takes g c =
     takes_fault c.in_err-first.field-0.0 (search rules) (given_none before) (c.in_err-first.ensures.fills before c.in_ok-early.ensures.early) (omega arith)
 
 pub returns-in_err-frames-clause-goes : goal.returns-in_err-frames-clause-goes
-unfolding plays_on
-returns-in_err-frames-clause-goes g c input bytes held told is tells =
+returns-in_err-frames-clause-goes g c bytes held is tells =
     let e = c.in_err-frames.ensures in
     let first = (c.in_ok-first.ensures.fills (g.S.Source.left c.args.source.now) c.in_ok-early.ensures.early).had in
     let k = first_known is first e.takes tells in
-    part_goes_on (c.in_ok-make_play_context.ensures.goes input held told) (λ i t.
-    part_goes_on (c.in_ok-now.ensures.goes i held t) (λ j u.
-    tail_named _ _ k.2 c.block_of-block.ensures.value c.start_of-start.ensures (part_stops (search rules) (e.goes j k.0 held u k.1 tells))))
+    goes_through is_play _ (play_goes (c.in_ok-make_play_context.ensures.goes held))
+    (goes_through is_play _ (play_goes (c.in_ok-now.ensures.goes held))
+    (rw (k.2, ← c.block_of-block.ensures.value, ← c.start_of-start.ensures) (goes_stop is_play _ (search rules) (e.goes k.0 held k.1 tells))))
 
 pub returns-in_err-frames-clause-takes : goal.returns-in_err-frames-clause-takes
 returns-in_err-frames-clause-takes g c =
@@ -70,15 +66,14 @@ returns-in_err-frames-clause-takes g c =
     takes_end (search rules) (takes_first first c.in_err-frames.ensures.takes)
 
 pub returns-in_err-finish-clause-goes : goal.returns-in_err-finish-clause-goes
-unfolding plays_on
-returns-in_err-finish-clause-goes g c input bytes held told is tells =
+returns-in_err-finish-clause-goes g c bytes held is tells =
     let e = c.in_ok-frames.ensures in
     let first = (c.in_ok-first.ensures.fills (g.S.Source.left c.args.source.now) c.in_ok-early.ensures.early).had in
     let k = first_known is first e.takes tells in
-    part_goes_on (c.in_ok-make_play_context.ensures.goes input held told) (λ i t.
-    part_goes_on (c.in_ok-now.ensures.goes i held t) (λ j u.
-    tail_named _ _ k.2 c.block_of-block.ensures.value c.start_of-start.ensures
-    (part_goes_on (e.goes j k.0 held u k.1 tells) (λ i' t'. part_stops (search rules) (c.in_err-finish.ensures.goes i' held t')))))
+    goes_through is_play _ (play_goes (c.in_ok-make_play_context.ensures.goes held))
+    (goes_through is_play _ (play_goes (c.in_ok-now.ensures.goes held))
+    (rw (k.2, ← c.block_of-block.ensures.value, ← c.start_of-start.ensures)
+    (goes_through is_play _ (e.goes k.0 held k.1 tells) (goes_stop is_play _ (search rules) (play_goes (c.in_err-finish.ensures.goes held))))))
 
 pub returns-in_err-finish-clause-takes : goal.returns-in_err-finish-clause-takes
 returns-in_err-finish-clause-takes g c =
@@ -86,16 +81,14 @@ returns-in_err-finish-clause-takes g c =
     takes_link (search rules) (takes_within (takes_first first c.in_ok-frames.ensures.takes)) c.in_err-finish.ensures.end
 
 pub returns-clause-goes : goal.returns-clause-goes
-unfolding plays_on
-returns-clause-goes g c input bytes held told is tells =
+returns-clause-goes g c bytes held is tells =
     let e = c.in_ok-frames.ensures in
     let first = (c.in_ok-first.ensures.fills (g.S.Source.left c.args.source.now) c.in_ok-early.ensures.early).had in
     let k = first_known is first e.takes tells in
-    part_goes_on (c.in_ok-make_play_context.ensures.goes input held told) (λ i t.
-    part_goes_on (c.in_ok-now.ensures.goes i held t) (λ j u.
-    tail_named _ _ k.2 c.block_of-block.ensures.value c.start_of-start.ensures
-    (part_goes_on (e.goes j k.0 held u k.1 tells) (λ i' t'.
-    part_goes_on (c.in_ok-finish.ensures.goes i' held t') (λ j' u'. part_is_done u' (λ next. refl))))))
+    goes_through is_play _ (play_goes (c.in_ok-make_play_context.ensures.goes held))
+    (goes_through is_play _ (play_goes (c.in_ok-now.ensures.goes held))
+    (rw (k.2, ← c.block_of-block.ensures.value, ← c.start_of-start.ensures)
+    (goes_through is_play _ (e.goes k.0 held k.1 tells) (goes_through is_play _ (play_goes (c.in_ok-finish.ensures.goes held)) (goes_value is_play _)))))
 
 pub returns-clause-takes : goal.returns-clause-takes
 returns-clause-takes g c =

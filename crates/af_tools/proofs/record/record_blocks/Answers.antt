@@ -1,8 +1,7 @@
 use Rattle.std.proofs.Common.{rules, arith, ◌≡◌, ◌≤◌, ◌*◌, ℕ, length, refl, ap, ◌∙◌, length-take-le}
-use Rattle.af_toolkit.specs.Ends.{client_of}
 use Rattle.af_cli.specs.Sizes.{block_frames}
 use Rattle.af_tools.specs.Record.{recorded_frame}
-use Rattle.af_toolkit.proofs.TracePartLemmas.{keeps_all, keeps_on}
+use Rattle.af_toolkit.proofs.ToolPartLemmas.{keeps_all, keeps_on}
 use Rattle.af_tools.proofs.RecordBlockLemmas.{record_begin, record_done, record_on, record_quiet, record_stopped, some_recorded}
 use Rattle.af_tools.proofs.record.record_blocks.Goals as goal
 
@@ -17,22 +16,22 @@ loop-left-init g c =
       some = omega (arith, is_block, some_recorded sound job.block c.requires.channels c.requires.block.0);
       going = omega arith;
       left = omega arith;
-      recording = λ input told. record_begin job sound c.args.start.0 input (client_of c.args.conn.now) is_block told;
+      recording = record_begin job sound c.args.start.0 is_block;
     }
 
 pub returns-in_err-peak-clause-goes : goal.returns-in_err-peak-clause-goes
-returns-in_err-peak-clause-goes g c input told =
+returns-in_err-peak-clause-goes g c =
     let i = c.loop-left.invariant in
     let fits : c.min-count.result * c.frame_bytes-frame.result ≤ length c.loop-left.room = search rules in
     let size = length-take-le _ c.loop-left.room fits ∙ ap (λ (w : ℕ). c.min-count.result * w) c.frame_bytes-frame.ensures in
-    record_stopped (i.recording input told) i.some (omega arith) c.min-count.ensures size (search rules) c.in_err-peak.ensures.goes
+    record_stopped i.recording i.some (omega arith) c.min-count.ensures size (search rules) c.in_err-peak.ensures.goes
 
 pub returns-then-row-job-clause-goes : goal.returns-then-row-job-clause-goes
-returns-then-row-job-clause-goes g c input told =
+returns-then-row-job-clause-goes g c =
     let i = c.loop-left.invariant in
     let fits : c.min-count.result * c.frame_bytes-frame.result ≤ length c.loop-left.room = search rules in
     let size = length-take-le _ c.loop-left.room fits ∙ ap (λ (w : ℕ). c.min-count.result * w) c.frame_bytes-frame.ensures in
-    record_quiet (i.recording input told) i.some (omega arith) c.min-count.ensures size c.in_ok-peak.ensures.goes c.row_after-row.ensures c.if-row-job.true refl
+    record_quiet i.recording i.some (omega arith) c.min-count.ensures size c.in_ok-peak.ensures.goes c.row_after-row.ensures c.if-row-job.true refl
 
 pub loop-left-preserved : goal.loop-left-preserved
 loop-left-preserved g c =
@@ -46,10 +45,10 @@ loop-left-preserved g c =
       some = i.some;
       going = c.if-row-job.false;
       left = omega (arith, i.left);
-      recording = λ input told. record_on (i.recording input told) i.some (omega arith) c.min-count.ensures size e.goes c.row_after-row.ensures c.if-row-job.false c.after-at.ensures;
+      recording = record_on i.recording i.some (omega arith) c.min-count.ensures size e.goes c.row_after-row.ensures c.if-row-job.false c.after-at.ensures;
     }
 
 pub returns-clause-goes : goal.returns-clause-goes
-returns-clause-goes g c input told =
+returns-clause-goes g c =
     let i = c.loop-left.invariant in
-    record_done (i.recording input told) i.some (omega arith)
+    record_done i.recording i.some (omega arith)

@@ -1,10 +1,10 @@
 use Rattle.std.proofs.Common.{◌≡◌, ◌∙◌, true, false, length, ap, refl, sym}
 use Rattle.af_toolkit.specs.declared.end.ToolEnd.TheVariants as end
 use Rattle.af_lib.specs.Calls.{channels_or_one}
-use Rattle.af_toolkit.specs.Trace.{done, ends}
+use Rattle.af_toolkit.specs.Trace.{done, ends, refused}
 use Rattle.af_toolkit.specs.Ends.{client_of, is_of_link_or_sink}
 use Rattle.af_tools.proofs.FiledLemmas.{is_recorded}
-use Rattle.af_toolkit.proofs.TracePartLemmas.{followed_end, trace_goes_on, trace_stops}
+use Rattle.af_toolkit.proofs.ToolPartLemmas.{followed_end, trace_goes_on, trace_stops}
 use Rattle.af_tools.proofs.HavingRun.{arecord_on, missing_ran, there_ran}
 use Rattle.af_tools.proofs.DeviceChoiceLemmas.{is_missing, is_there, missing_iff, there_iff}
 use Rattle.af_tools.proofs.EndLemmas.{never}
@@ -21,7 +21,7 @@ pub returns-in-Ok-record_on-clause-ran : goal.returns-in-Ok-record_on-clause-ran
 returns-in-Ok-record_on-clause-ran g c input told =
     let w = client_of c.args.conn.now input in
     there_ran _ _ _ _ (arecord_on c.args.job.now c.args.conn.now.devices w) c.in-Ok.device _ _ _ _ _ (is_there _ _ _ c.in-Ok.ensures.value)
-    (trace_goes_on (λ _ _. ends done) (c.in-Ok-record_on.ensures.goes input told) (λ i t. followed_end done refl))
+    (trace_goes_on refused (λ _. ends done) (input, told, refl) c.in-Ok-record_on.ensures.goes (followed_end done refl))
 
 pub returns-in-Ok-record_on-clause-no_device : goal.returns-in-Ok-record_on-clause-no_device
 returns-in-Ok-record_on-clause-no_device g c n = there_iff _ _ _ _ (is_there _ _ c.in-Ok.device c.in-Ok.ensures.value) (λ n e. cc) n
@@ -30,7 +30,7 @@ pub returns-in-Err-record_on-clause-ran : goal.returns-in-Err-record_on-clause-r
 returns-in-Err-record_on-clause-ran g c input told =
     let w = client_of c.args.conn.now input in
     there_ran _ _ _ _ (arecord_on c.args.job.now c.args.conn.now.devices w) c.in-Ok.device _ _ _ _ _ (is_there _ _ _ c.in-Ok.ensures.value)
-    (trace_stops (λ _ _. ends done) (c.in-Err-record_on.ensures.goes input told))
+    (trace_stops refused (λ _. ends done) (input, told, refl) c.in-Err-record_on.ensures.goes)
 
 pub returns-in-Err-record_on-clause-no_device : goal.returns-in-Err-record_on-clause-no_device
 returns-in-Err-record_on-clause-no_device g c n = there_iff _ _ _ _ (is_there _ _ c.in-Ok.device c.in-Ok.ensures.value) (λ k. never is_of_link_or_sink _ (end.NoDevice k) c.in-Err-record_on.ensures.end refl) n

@@ -6,7 +6,7 @@ use Rattle.af_relay.specs.RelayParts.{ObservedRelayTrace}
 use Rattle.af_relay.specs.Pair.{is_of_pass}
 use Rattle.af_relay.specs.Pass.{apass_trace, sends_first_to}
 use Rattle.af_tools.specs.Run.{connects_by}
-use Rattle.af_toolkit.proofs.TracePartLemmas.{client_begun}
+use Rattle.af_toolkit.proofs.ToolPartLemmas.{client_begun}
 use Rattle.af_tools.proofs.DialLemmas.{over_answered, over_none, over_refused, setup_memory}
 use Rattle.af_tools.proofs.relay.pass_over.Goals as goal
 

@@ -8,7 +8,7 @@ use Rattle.af_tools.specs.Run.{RelayRanTo}
 use Rattle.af_cli.specs.Words.{relay}
 use Rattle.af_io.proofs.AppendedLemmas.{appended_on}
 use Rattle.af_toolkit.proofs.ToolEndLemmas.{fault_undone}
-use Rattle.af_toolkit.proofs.TracePartLemmas.{client_begun}
+use Rattle.af_toolkit.proofs.ToolPartLemmas.{client_begun}
 use Rattle.af_tools.proofs.DialLemmas.{ran_none, ran_over_both, ran_refused, ran_unset}
 use Rattle.af_tools.proofs.relay.run_relay.Goals as goal
 

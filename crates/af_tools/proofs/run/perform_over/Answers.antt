@@ -2,7 +2,7 @@ use Rattle.std.proofs.Common.{◌≡◌, ap, ◌∙◌, refl, inl, inr}
 use Rattle.af_toolkit.specs.declared.end.ToolEnd.TheVariants as end
 use Rattle.af_toolkit.specs.Trace.{connects, fault_end}
 use Rattle.af_tools.specs.Run.{task_trace}
-use Rattle.af_toolkit.proofs.TracePartLemmas.{client_begun, followed_early, setup_goes, trace_goes_on, trace_stops}
+use Rattle.af_toolkit.proofs.ToolPartLemmas.{client_begun, followed_early, setup_goes_on, setup_stops}
 use Rattle.af_tools.proofs.UnreadLemmas.{link_gives}
 use Rattle.af_tools.proofs.run.perform_over.Goals as goal
 
@@ -11,7 +11,7 @@ returns-in-Ok-clause-followed g c input bytes told tells =
     let e = c.in-Ok.ensures in
     let conn = c.in-Ok.conn in
     let same : c.into_link.result ≡ c.perform-end.new.conn.link = c.into_link.ensures in
-    rw same (trace_goes_on (λ devices w. task_trace c.args.task.now devices bytes w) (setup_goes c.args.order e.3 told) (λ i t.
+    rw same (setup_goes_on c.args.order _ e.3 told (λ i t.
     rw (client_begun c.args.order conn i e.0 e.1) at (c.perform-end.ensures.followed i bytes t tells)))
 
 pub returns-in-Err-clause-followed : goal.returns-in-Err-clause-followed
@@ -22,7 +22,7 @@ returns-in-Err-clause-followed g c input bytes told tells =
           rw (way, none.1) (followed_early (connects c.args.order input (λ devices w. task_trace c.args.task.now devices bytes w)) end.OutOfMemory refl)
       | inr setup ↦
           let way : c.from.result ≡ fault_end c.in-Err.fault = c.from.ensures in
-          rw way (trace_stops (λ devices w. task_trace c.args.task.now devices bytes w) (setup_goes c.args.order setup.1 told))
+          setup_stops c.args.order _ c.in-Err.fault way setup.1 told
     ]
 
 pub returns-in-Ok-clause-unread : goal.returns-in-Ok-clause-unread

@@ -19,13 +19,14 @@ first_given [] bytes client some e = absurd (omega (arith, some))
 first_given (x ∷ xs) bytes client some e =
     ap (λ t. if t then Some (record client { gives = drop longest_read (x ∷ xs) }) else None) (ap (λ b. same_bytes b (take longest_read (x ∷ xs))) e ∙ same_bytes-refl (take longest_read (x ∷ xs)))
 
-none_given : (xs : List ℕ) (client : ScriptedClient) → length (take longest_read xs) ≡ 0 → client.ends ≡ false → client_after_give NotYet xs client ≡ Some client
-none_given [] client none e = ap (λ t. if t then None else Some client) e
-none_given (x ∷ xs) client none e = absurd (omega (arith, none))
+-- what is answered where no byte is left to be read
+abbrev pub nothing_given : Bool → ReadGot
+nothing_given ends = if ends then Ended else NotYet
 
-end_given : (xs : List ℕ) (client : ScriptedClient) → length (take longest_read xs) ≡ 0 → client.ends ≡ true → client_after_give Ended xs client ≡ Some client
-end_given [] client none e = ap (λ t. if t then Some client else None) e
-end_given (x ∷ xs) client none e = absurd (omega (arith, none))
+none_given : (xs : List ℕ) (client : ScriptedClient) (ends : Bool) → length (take longest_read xs) ≡ 0 → client.ends ≡ ends → client_after_give (nothing_given ends) xs client ≡ Some client
+none_given [] client true none e = ap (λ t. if t then Some client else None) e
+none_given [] client false none e = ap (λ t. if t then None else Some client) e
+none_given (x ∷ xs) client ends none e = absurd (omega (arith, none))
 
 -- a read of an open link that does not fail is answered by what its client gives
 unfailing : (is_open : Bool) (client client' : ScriptedClient) (got : ReadGot) → is_open ≡ true → client.fails_read ≡ false → client_after_give got client.gives client ≡ Some client' →
@@ -49,21 +50,13 @@ read_first is_open client n room bytes rest opened flag whole count some given l
 as_before : (client : ScriptedClient) (n : ℕ) (rest : List ℕ) → rest ≡ drop n client.gives → n ≡ 0 → client ≡ record client { gives = rest }
 as_before client n rest left none = ap (λ (xs : List ℕ). (let p : ScriptedClient = record client { gives = xs } in p)) (sym (left ∙ ap (λ m. drop m client.gives) none))
 
--- NotYet is the answer to a read if no byte is left, and no end is stated
-pub read_nothing : (is_open : Bool) (client : ScriptedClient) (n room : ℕ) (rest : List ℕ) → is_open ≡ true → client.fails_read ≡ false → room ≡ longest_read → n ≡ length (take room client.gives) →
-    n ≡ 0 → client.ends ≡ false → rest ≡ drop n client.gives →
-    client_after_call (client_after_read NotYet) (client_where is_open client) ≡ Some (client_where is_open (record client { gives = rest }))
-read_nothing is_open client n room rest opened flag whole count none ends left =
-    unfailing is_open client _ NotYet opened flag
-    (none_given client.gives client (sym (count ∙ ap (λ m. length (take m client.gives)) whole) ∙ none) ends ∙ ap (λ (p : ScriptedClient). Some p) (as_before client n rest left none))
-
--- Ended is the answer to a read if no byte is left, and an end is stated
-pub read_end : (is_open : Bool) (client : ScriptedClient) (n room : ℕ) (rest : List ℕ) → is_open ≡ true → client.fails_read ≡ false → room ≡ longest_read → n ≡ length (take room client.gives) →
-    n ≡ 0 → client.ends ≡ true → rest ≡ drop n client.gives →
-    client_after_call (client_after_read Ended) (client_where is_open client) ≡ Some (client_where is_open (record client { gives = rest }))
-read_end is_open client n room rest opened flag whole count none ends left =
-    unfailing is_open client _ Ended opened flag
-    (end_given client.gives client (sym (count ∙ ap (λ m. length (take m client.gives)) whole) ∙ none) ends ∙ ap (λ (p : ScriptedClient). Some p) (as_before client n rest left none))
+-- Ended is the answer to a read if no byte is left and an end is stated, and NotYet if none is
+pub read_nothing : (is_open : Bool) (client : ScriptedClient) (n room : ℕ) (rest : List ℕ) (ends : Bool) → is_open ≡ true → client.fails_read ≡ false → room ≡ longest_read → n ≡ length (take room client.gives) →
+    n ≡ 0 → client.ends ≡ ends → rest ≡ drop n client.gives →
+    client_after_call (client_after_read (nothing_given ends)) (client_where is_open client) ≡ Some (client_where is_open (record client { gives = rest }))
+read_nothing is_open client n room rest ends opened flag whole count none stated left =
+    unfailing is_open client _ (nothing_given ends) opened flag
+    (none_given client.gives client ends (sym (count ∙ ap (λ m. length (take m client.gives)) whole) ∙ none) stated ∙ ap (λ (p : ScriptedClient). Some p) (as_before client n rest left none))
 
 -- a link that is not open takes all
 pub written_closed : (n : ℕ) (bytes : List ℕ) → length bytes ≡ n → client_after_call (client_after_write n (Some bytes)) None ≡ Some None

@@ -1,5 +1,6 @@
 -- What steps and happenings do to a tape.
 use Rattle.std.proofs.Common.{◌≡◌, ℕ, suc, ◌+◌, ◌<◌, ◌≤◌, ◌^◌, List, [], ◌∷◌, drop, slice_get, map, replicate, refl, ap, sym, ◌∙◌, subst, arith, Bool, true, false}
+use Rattle.std.proofs.Math.Nat.{le_refl}
 use Rattle.std.proofs.Math.Seq.{drop-cons}
 use Rattle.std.proofs.lemmas.List.Sums.{sum_by-cons}
 use Rattle.std.proofs.lemmas.Option.{slice_get_within, get_or_from_slice_get}
@@ -55,6 +56,23 @@ pub faults_after-rises : (faults : ℕ) (failed : Bool) → faults < 2 ^ 64 → 
 faults_after-rises faults false fits = omega arith
 faults_after-rises faults true fits = omega arith
 
+-- the same for a call on a link, and for one on a device: if it failed, that is counted
+pub TapeLeadsTo-link : {inside old : TapeState} → inside ≡ old → (happened : Result Happening OutOfMemory) (log : Option Log) (h : Happening) (o : Outside) (faults : ℕ) (failed : Bool) → Noted inside.log happened log → IfOk happened (λ x. x ≡ h) →
+    outside_after_happening old.outside h ≡ Some o → faults ≡ faults_after inside.link_faults failed → inside.link_faults < 2 ^ 64 → TapeLeadsTo old (record inside { log = log; outside = o; link_faults = faults })
+TapeLeadsTo-link {inside} {old} is happened log h o faults failed noted made answers counted fits =
+    rw (← is, counted) (TapeLeadsTo-noted inside happened log h o (faults_after inside.link_faults failed) inside.device_faults noted made (rw (← is) at answers) (faults_after-rises inside.link_faults failed fits) (le_refl inside.device_faults))
+
+pub TapeLeadsTo-device : {inside old : TapeState} → inside ≡ old → (happened : Result Happening OutOfMemory) (log : Option Log) (h : Happening) (o : Outside) (faults : ℕ) (failed : Bool) → Noted inside.log happened log → IfOk happened (λ x. x ≡ h) →
+    outside_after_happening old.outside h ≡ Some o → faults ≡ faults_after inside.device_faults failed → inside.device_faults < 2 ^ 64 → TapeLeadsTo old (record inside { log = log; outside = o; device_faults = faults })
+TapeLeadsTo-device {inside} {old} is happened log h o faults failed noted made answers counted fits =
+    rw (← is, counted) (TapeLeadsTo-noted inside happened log h o inside.link_faults (faults_after inside.device_faults failed) noted made (rw (← is) at answers) (le_refl inside.link_faults) (faults_after-rises inside.device_faults failed fits))
+
+-- what is kept is what code held, before a call and after it
+pub answered_as : {A : Type 0} (outside : A → Outside) (before before' after after' : A) (h : Happening) → before ≡ before' → after' ≡ after →
+    outside_after_happening (outside before) h ≡ Some (outside after) → outside_after_happening (outside before') h ≡ Some (outside after')
+answered_as outside before before' after after' h old new e =
+    subst (λ x. outside_after_happening (outside x) h ≡ Some (outside after')) old (e ∙ ap (λ x. Some (outside x)) (sym new))
+
 -- the step with a number comes before those after it
 pub drop-next : (steps : List Step) (number : ℕ) (step : Step) → slice_get steps number ≡ Some step → drop number steps ≡ step ∷ drop (number + 1) steps
 drop-next steps number step at =
@@ -73,11 +91,12 @@ HasRoomForSteps-first links step steps room = record {
 }
 
 -- the first step that is left is taken
-pub TakesStep-first : (old : TapeState) (step : Step) (left : List Step) (wake : Wake) (o : Outside) → old.left ≡ step ∷ left → wake ≡ wake_of old.outside step →
-    o ≡ outside_after_step old.outside step → TakesStep old old.left (Some wake) (record old { left = left; outside = o })
-TakesStep-first old step left wake o first woken changed =
-    subst (λ steps. TakesStep old steps (Some wake) (record old { left = left; outside = o })) (sym first)
-    (woken, ap (λ o. record old { left = left; outside = o }) changed)
+pub TakesStep-first : {inside old : TapeState} → inside ≡ old → (step : Step) (left : List Step) (wake : Wake) (o : Outside) → inside.left ≡ step ∷ left → wake ≡ wake_of inside.outside step →
+    o ≡ outside_after_step inside.outside step → TakesStep old old.left (Some wake) (record inside { left = left; outside = o })
+TakesStep-first {inside} {old} is step left wake o first woken changed =
+    subst (λ (t : TapeState). TakesStep t t.left (Some wake) (record inside { left = left; outside = o })) is
+    (subst (λ steps. TakesStep inside steps (Some wake) (record inside { left = left; outside = o })) (sym first)
+    (woken, ap (λ o. record inside { left = left; outside = o }) changed))
 
 -- the parts of a tape of which nothing was asked yet
 pub new_tape-parts : (config config' : List DeviceSpec) (steps steps' : List Step) (log : Option Log) (links : List KeptClient) (kept : List KeptScriptedDevice) (faults : LifecycleFaults) (lifecycle : LifecycleState) → config' ≡ config → steps' ≡ steps →

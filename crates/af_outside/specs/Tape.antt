@@ -1,6 +1,6 @@
 -- What a tape keeps in memory: the scripted links, each with room for all that the steps have still to send, and the scripted
 -- devices, whose last ticks are found among its steps.
-use Rattle.std.specs.Prelude.{◌≡◌, ℕ, ◌≤◌, Bool, true, false, List, [], ◌∷◌, length, map, sum_by, if◌then◌else◌, ◌==◌, slice_get}
+use Rattle.std.specs.Prelude.{◌≡◌, ℕ, ◌≤◌, Bool, true, false, List, [], ◌∷◌, length, map, not, sum_by, if◌then◌else◌, ◌==◌, slice_get}
 use Rattle.std.specs.declared.option.Option.{Option}
 use Rattle.std.specs.declared.option.Option.TheVariants.{None, Some}
 use Rattle.af_sample.specs.declared.sample_type.SampleType.{SampleType}
@@ -13,7 +13,7 @@ use Rattle.af_world.specs.declared.script.Step.TheVariants as step
 use Rattle.af_outside.specs.declared.scripted_device.DeviceCall.{DeviceCall}
 use Rattle.af_outside.specs.declared.scripted_device.DeviceCall.TheVariants as call
 use Rattle.af_outside.specs.declared.scripted_device.KeptScriptedDevice.{KeptScriptedDevice}
-use Rattle.af_world.specs.Outside.{ScriptedClient, ScriptedDevice, Outside}
+use Rattle.af_world.specs.Outside.{ScriptedClient, ScriptedDevice, Outside, scripted_at, with_scripted}
 
 -- a scripted link: its client, if the link is open, and for how many more bytes there is memory
 pub record KeptClient : Type 0 where
@@ -70,11 +70,22 @@ kept_at steps kept = record {
 abbrev pub devices_of : List Step → List KeptScriptedDevice → List ScriptedDevice
 devices_of steps kept = map (kept_at steps) kept
 
--- a device whose next such call fails
-abbrev pub failing_device : DeviceCall → ScriptedDevice → ScriptedDevice
-failing_device call.Capture scripted = record scripted { fails_capture = true }
-failing_device call.Emit scripted = record scripted { fails_emit = true }
-failing_device call.Hook scripted = record scripted { fails_hook = true }
+-- whether the next such call on a device fails
+abbrev pub is_failing : DeviceCall → ScriptedDevice → Bool
+is_failing call.Capture scripted = scripted.fails_capture
+is_failing call.Emit scripted = scripted.fails_emit
+is_failing call.Hook scripted = scripted.fails_hook
+
+-- a device whose next such call fails, or does not
+abbrev pub with_failing : DeviceCall → Bool → ScriptedDevice → ScriptedDevice
+with_failing call.Capture fails scripted = record scripted { fails_capture = fails }
+with_failing call.Emit fails scripted = record scripted { fails_emit = fails }
+with_failing call.Hook fails scripted = record scripted { fails_hook = fails }
+
+-- such a call on a device is done exactly if no failure is stated, and a failure is stated for one call
+pub record IsAnswered (call : DeviceCall) (done : Bool) (d : ℕ) (old new : Outside) : Type 0 where
+  pub stated : is_failing call (scripted_at old d) ≡ not done
+  pub changed : new ≡ (if done then old else with_scripted old d (with_failing call false (scripted_at old d)))
 
 -- whether a read failed
 abbrev pub read_failed : LinkGot → Bool

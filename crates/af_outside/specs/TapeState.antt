@@ -10,6 +10,7 @@ use Rattle.af_world.specs.declared.live.Waited.{Waited}
 use Rattle.af_world.specs.declared.live.Waited.TheVariants as waited
 use Rattle.af_world.specs.declared.lifecycle.Lifecycle.{Lifecycle}
 use Rattle.af_outside.specs.declared.lifecycle_faults.LifecycleFaults.{LifecycleFaults}
+use Rattle.af_io.specs.Observed.{faults_after}
 use Rattle.af_world.specs.Log.{Log}
 use Rattle.af_world.specs.Outside.{Outside, outside_start, outside_after_step, wake_of, outside_after_log}
 use Rattle.af_outside.specs.LifecycleState.{LifecycleState, lifecycle_start, no_faults, told_beside, is_stated}
@@ -55,6 +56,19 @@ pub record TapeLeadsTo (old new : TapeState) : Type 0 where
   pub device_faults : old.device_faults ≤ new.device_faults
   pub lifecycle : new.lifecycle ≡ old.lifecycle
   pub answered : Answered old.log old.outside new.log new.outside
+
+-- what a read or a write, which failed or did not, changes of a tape
+abbrev pub ChangedByLink : Bool → TapeState → TapeState → Type 0
+ChangedByLink failed old new = new ≡ record old { log = new.log; outside = new.outside; link_faults = faults_after old.link_faults failed }
+
+-- what a capture, an emit or a hook, which failed or did not, changes of a tape
+abbrev pub ChangedByDevice : Bool → TapeState → TapeState → Type 0
+ChangedByDevice failed old new = new ≡ record old { log = new.log; outside = new.outside; device_faults = faults_after old.device_faults failed }
+
+-- what an attach, which was refused or not, changes of a tape
+abbrev pub ChangedByAttach : Bool → TapeState → TapeState → Type 0
+ChangedByAttach refused old new =
+    new ≡ record old { log = new.log; device_faults = faults_after old.device_faults refused; lifecycle = record old.lifecycle { entries = new.lifecycle.entries } }
 
 -- no count of faults falls
 pub record NoCountFalls (old new : TapeState) : Type 0 where

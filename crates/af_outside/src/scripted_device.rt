@@ -1,10 +1,10 @@
 // A scripted device of a tape: what it captures, and which of its calls are to fail.
-ghost use Rattle.std.specs.Prelude.{◌≡◌, List, length, map, option_map, slice_get, slice_set, IfOk};
+ghost use Rattle.std.specs.Prelude.{◌≡◌, List, length, map, option_map, slice_get, slice_set, true, IfOk};
 ghost use Rattle.std.specs.declared.option.Option.TheVariants.{Some};
 ghost use Rattle.af_world.specs.declared.script.Step.{Step};
 ghost use Rattle.af_world.specs.World.{captured_of, is_done};
-ghost use Rattle.af_world.specs.Outside.{outside_after_capture, captured_bytes, outside_after_emit, outside_after_hook, silent_byte, some_scripted, scripted_at, with_scripted};
-ghost use Rattle.af_outside.specs.Tape.{KeptClient, failing_device, outside_of, kept_at, kept_scripted_of, devices_of, stated_at, capture_stated_by};
+ghost use Rattle.af_world.specs.Outside.{outside_after_capture, captured_bytes, silent_byte, some_scripted, scripted_at, with_scripted};
+ghost use Rattle.af_outside.specs.Tape.{IsAnswered, KeptClient, is_failing, outside_of, with_failing, kept_at, kept_scripted_of, devices_of, stated_at, capture_stated_by};
 
 use crate::{Config, Put, Step, silent_byte};
 use af_sample::SampleType;
@@ -44,14 +44,25 @@ impl KeptScriptedDevice {
         }
     }
 
-    /// The same device, whose next such call is to fail.
-    fn failing(mut self, call: DeviceCall) -> KeptScriptedDevice
-        ensures { (steps : List Step) → kept_at steps result ≡ failing_device call (kept_at steps self) }
+    /// Whether the next such call is to fail.
+    fn is_failing(self, call: DeviceCall) -> bool
+        ensures { (steps : List Step) → result ≡ is_failing call (kept_at steps self) }
     {
         match call {
-            DeviceCall::Capture => self.fails_capture = true,
-            DeviceCall::Emit => self.fails_emit = true,
-            DeviceCall::Hook => self.fails_hook = true,
+            DeviceCall::Capture => self.fails_capture,
+            DeviceCall::Emit => self.fails_emit,
+            DeviceCall::Hook => self.fails_hook,
+        }
+    }
+
+    /// The same device, whose next such call is to fail, or not to.
+    fn with_failing(mut self, call: DeviceCall, fails: bool) -> KeptScriptedDevice
+        ensures { (steps : List Step) → kept_at steps result ≡ with_failing call fails (kept_at steps self) }
+    {
+        match call {
+            DeviceCall::Capture => self.fails_capture = fails,
+            DeviceCall::Emit => self.fails_emit = fails,
+            DeviceCall::Hook => self.fails_hook = fails,
         }
         self
     }
@@ -99,10 +110,24 @@ pub(crate) fn fail(devices: &mut [KeptScriptedDevice], device: u8, call: DeviceC
     ensures { (links : List KeptClient) (steps : List Step)
         → let old = outside_of links (devices_of steps devices.old) in
         outside_of links (devices_of steps devices.new)
-        ≡ with_scripted old device (failing_device call (scripted_at old device)) }
+        ≡ with_scripted old device (with_failing call true (scripted_at old device)) }
 {
-    let scripted = scripted_at(devices, device).failing(call);
+    let scripted = scripted_at(devices, device).with_failing(call, true);
     put_scripted(devices, device, scripted);
+}
+
+/// Whether such a call on a device is done. If it is to fail, the one after it is not.
+pub(crate) fn answer(devices: &mut [KeptScriptedDevice], device: u8, call: DeviceCall) -> Put
+    ensures { (links : List KeptClient) (steps : List Step)
+        → IsAnswered call (is_done result) device (outside_of links (devices_of steps devices.old))
+        (outside_of links (devices_of steps devices.new)) }
+{
+    let scripted = scripted_at(devices, device);
+    if scripted.is_failing(call) {
+        put_scripted(devices, device, scripted.with_failing(call, false));
+        return Put::Failed;
+    }
+    Put::Done
 }
 
 /// Captures of a device as many bytes as there is room for.
@@ -117,46 +142,14 @@ pub(crate) fn capture(
         outside_after_capture old device (scripted_at old device) (captured_of result into.new)
         ≡ Some (outside_of links (devices_of steps.now devices.new)) }
 {
-    let mut scripted = scripted_at(devices, device);
-    if scripted.fails_capture {
-        scripted.fails_capture = false;
-        put_scripted(devices, device, scripted);
-        return Put::Failed;
+    let scripted = scripted_at(devices, device);
+    match answer(devices, device, DeviceCall::Capture) {
+        Put::Done => {
+            scripted.fill(steps, into);
+            Put::Done
+        }
+        Put::Failed => Put::Failed,
     }
-    scripted.fill(steps, into);
-    Put::Done
-}
-
-/// Whether a device takes its next sound.
-pub(crate) fn emit(devices: &mut [KeptScriptedDevice], device: u8) -> Put
-    ensures { (links : List KeptClient) (steps : List Step)
-        → let old = outside_of links (devices_of steps devices.old) in
-        outside_after_emit old device (scripted_at old device) (is_done result)
-        ≡ Some (outside_of links (devices_of steps devices.new)) }
-{
-    let mut scripted = scripted_at(devices, device);
-    if scripted.fails_emit {
-        scripted.fails_emit = false;
-        put_scripted(devices, device, scripted);
-        return Put::Failed;
-    }
-    Put::Done
-}
-
-/// Whether the line of a device takes its next hook.
-pub(crate) fn hook(devices: &mut [KeptScriptedDevice], device: u8) -> Put
-    ensures { (links : List KeptClient) (steps : List Step)
-        → let old = outside_of links (devices_of steps devices.old) in
-        outside_after_hook old device (scripted_at old device) (is_done result)
-        ≡ Some (outside_of links (devices_of steps devices.new)) }
-{
-    let mut scripted = scripted_at(devices, device);
-    if scripted.fails_hook {
-        scripted.fails_hook = false;
-        put_scripted(devices, device, scripted);
-        return Put::Failed;
-    }
-    Put::Done
 }
 
 // The scripted device at a number. If there is none, nothing was stated of it.

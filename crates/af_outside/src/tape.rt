@@ -10,7 +10,7 @@ ghost use Rattle.af_process.specs.Acts.{words_of};
 ghost use Rattle.af_world.specs.Outside.{outside_after_happening, spec_has_line, outside_after_step, wake_of, ScriptedDevice};
 ghost use Rattle.af_world.specs.Kinds.{told_kind};
 ghost use Rattle.af_world.specs.Lifecycle.{attached, line_attached, listened, waited};
-ghost use Rattle.af_outside.specs.TapeState.{new_tape, TakesStep, TapeLeadsTo, left_after, lifecycle_told, NoCountFalls, wait_answer, wait_fails, waited_outside};
+ghost use Rattle.af_outside.specs.TapeState.{new_tape, ChangedByAttach, ChangedByDevice, ChangedByLink, TakesStep, TapeLeadsTo, left_after, lifecycle_told, NoCountFalls, wait_answer, wait_fails, waited_outside};
 ghost use Rattle.af_outside.specs.LifecycleState.{is_stated, was_refused};
 ghost use Rattle.af_outside.specs.Tape.{HasRoomForSteps, outside_of, devices_of, read_failed, write_failed};
 
@@ -241,12 +241,7 @@ impl World for Tape {
         ensures cause { result ≡ LinkGot.Failed → FaultCounted self.old.link_faults self.new.link_faults }
         ensures leads { TapeLeadsTo self.old self.new }
         ensures answered { outside_after_happening self.old.outside (Read link (got_of result into.new)) ≡ Some self.new.outside }
-        ensures faults { self.new.link_faults ≡ faults_after self.old.link_faults (read_failed result) }
-        ensures rest { self.new ≡ record self.old {
-          log = self.new.log;
-          outside = self.new.outside;
-          link_faults = self.new.link_faults;
-        } }
+        ensures rest { ChangedByLink (read_failed result) self.old self.new }
     {
         let got = links::read(&mut self.links, link, into);
         self.link_faults = faults_after(self.link_faults, got == LinkGot::Failed);
@@ -262,12 +257,7 @@ impl World for Tape {
         ensures cause { result ≡ LinkTook.Failed → FaultCounted self.old.link_faults self.new.link_faults }
         ensures leads { TapeLeadsTo self.old self.new }
         ensures answered { outside_after_happening self.old.outside (Wrote link (length piece.now) (took_of result piece.now)) ≡ Some self.new.outside }
-        ensures faults { self.new.link_faults ≡ faults_after self.old.link_faults (write_failed result) }
-        ensures rest { self.new ≡ record self.old {
-          log = self.new.log;
-          outside = self.new.outside;
-          link_faults = self.new.link_faults;
-        } }
+        ensures rest { ChangedByLink (write_failed result) self.old self.new }
     {
         let took = links::write(&mut self.links, link, piece);
         self.link_faults = faults_after(self.link_faults, took == LinkTook::Failed);
@@ -294,12 +284,7 @@ impl World for Tape {
         ensures cause { result ≡ Put.Failed → FaultCounted self.old.device_faults self.new.device_faults }
         ensures leads { TapeLeadsTo self.old self.new }
         ensures answered { outside_after_happening self.old.outside (Captured device frames (captured_of result into.new)) ≡ Some self.new.outside }
-        ensures faults { self.new.device_faults ≡ faults_after self.old.device_faults (not (is_done result)) }
-        ensures rest { self.new ≡ record self.old {
-          log = self.new.log;
-          outside = self.new.outside;
-          device_faults = self.new.device_faults;
-        } }
+        ensures rest { ChangedByDevice (not (is_done result)) self.old self.new }
     {
         let put = scripted_device::capture(&mut self.devices, &self.steps, device, into);
         self.device_faults = faults_after(self.device_faults, put == Put::Failed);
@@ -314,14 +299,9 @@ impl World for Tape {
         ensures cause { result ≡ Put.Failed → FaultCounted self.old.device_faults self.new.device_faults }
         ensures leads { TapeLeadsTo self.old self.new }
         ensures answered { outside_after_happening self.old.outside (Emitted device sound.now (is_done result)) ≡ Some self.new.outside }
-        ensures faults { self.new.device_faults ≡ faults_after self.old.device_faults (not (is_done result)) }
-        ensures rest { self.new ≡ record self.old {
-          log = self.new.log;
-          outside = self.new.outside;
-          device_faults = self.new.device_faults;
-        } }
+        ensures rest { ChangedByDevice (not (is_done result)) self.old self.new }
     {
-        let put = scripted_device::emit(&mut self.devices, device);
+        let put = scripted_device::answer(&mut self.devices, device, DeviceCall::Emit);
         self.device_faults = faults_after(self.device_faults, put == Put::Failed);
         self.log.add(emit_of(self.alloc, device, sound, put));
         put
@@ -332,14 +312,9 @@ impl World for Tape {
         ensures cause { result ≡ Put.Failed → FaultCounted self.old.device_faults self.new.device_faults }
         ensures leads { TapeLeadsTo self.old self.new }
         ensures answered { outside_after_happening self.old.outside (Hooked device off (is_done result)) ≡ Some self.new.outside }
-        ensures faults { self.new.device_faults ≡ faults_after self.old.device_faults (not (is_done result)) }
-        ensures rest { self.new ≡ record self.old {
-          log = self.new.log;
-          outside = self.new.outside;
-          device_faults = self.new.device_faults;
-        } }
+        ensures rest { ChangedByDevice (not (is_done result)) self.old self.new }
     {
-        let put = scripted_device::hook(&mut self.devices, device);
+        let put = scripted_device::answer(&mut self.devices, device, DeviceCall::Hook);
         self.device_faults = faults_after(self.device_faults, put == Put::Failed);
         self.log.add(Ok(hook_of(device, off, put)));
         put
@@ -409,12 +384,7 @@ impl Live for Tape {
         ensures counts { NoCountFalls self.old self.new }
         ensures answer { (result ≡ Ready.Done) ↔ ((slice_get self.old.config device ≡ Some spec.now) × (is_stated self.old.lifecycle.faults.attach device ≡ false)) }
         ensures memory { result ≢ Ready.OutOfMemory }
-        ensures faults { self.new.device_faults ≡ faults_after self.old.device_faults (was_refused result) }
-        ensures rest { self.new ≡ record self.old {
-          log = self.new.log;
-          device_faults = self.new.device_faults;
-          lifecycle = record self.old.lifecycle { entries = self.new.lifecycle.entries };
-        } }
+        ensures rest { ChangedByAttach (was_refused result) self.old self.new }
     {
         if !is_device(&self.config, device, spec) || self.lifecycle.attach_fails(device) {
             self.device_faults = faults_after(self.device_faults, true);
@@ -433,12 +403,7 @@ impl Live for Tape {
         ensures counts { NoCountFalls self.old self.new }
         ensures answer { (result ≡ Ready.Done) ↔ (spec_has_line self.old.config device ≡ true) }
         ensures memory { result ≢ Ready.OutOfMemory }
-        ensures faults { self.new.device_faults ≡ faults_after self.old.device_faults (was_refused result) }
-        ensures rest { self.new ≡ record self.old {
-          log = self.new.log;
-          device_faults = self.new.device_faults;
-          lifecycle = record self.old.lifecycle { entries = self.new.lifecycle.entries };
-        } }
+        ensures rest { ChangedByAttach (was_refused result) self.old self.new }
     {
         if !has_line(self.config.as_slice(), device) {
             self.device_faults = faults_after(self.device_faults, true);

@@ -1,9 +1,8 @@
-use Rattle.std.proofs.Common.{◌≡◌, ◌+◌, drop, slice_get, ap, ◌∙◌, subst, refl, rules}
+use Rattle.std.proofs.Common.{◌≡◌, ◌+◌, drop, slice_get, ap, ◌∙◌, refl, rules}
 use Rattle.std.proofs.lemmas.Option.{slice_get_read}
 use Rattle.std.proofs.lemmas.List.{with_items_is}
 use Rattle.std.specs.Vec.{with_items}
 use Rattle.std.specs.declared.option.Option.TheVariants.{Some}
-use Rattle.af_outside.specs.TapeState.{TapeState, TakesStep}
 use Rattle.af_outside.specs.Tape.{outside_of, devices_of}
 use Rattle.af_outside.proofs.TapeLemmas.{drop-next, HasRoomForSteps-first, TakesStep-first}
 use Rattle.af_outside.proofs.tape.Tape.step.Goals as goal
@@ -30,18 +29,8 @@ returns c =
     let at = rw c.deref.ensures.value at read in
     let woken = rw c.deref_mut.ensures.value at c.take_step-wake.ensures.wake (devices_of tape.steps.items tape.devices.items) in
     let changed = rw (c.deref_mut.ensures.value, c.deref_mut-2.ensures.value) at c.take_step-wake.ensures.outside tape.steps.items at in
-    let old : TapeState = record {
-      config = tape.config.items;
-      left = drop tape.taken tape.steps.items;
-      log = tape.log;
-      outside = outside_of tape.links.items (devices_of tape.steps.items tape.devices.items);
-      link_faults = tape.link_faults;
-      device_faults = tape.device_faults;
-      lifecycle = tape.lifecycle;
-    } in
     let left = drop (tape.taken + 1) tape.steps.items in
     let outside = outside_of links.items (devices_of tape.steps.items devices.items) in
-    subst (λ (t : TapeState). TakesStep t t.left (Some c.take_step-wake.result) (record old { left = left; outside = outside })) c.self.view_is
-    (TakesStep-first old step left c.take_step-wake.result outside (drop-next tape.steps.items tape.taken step at) woken
+    TakesStep-first c.self.view_is step left c.take_step-wake.result outside (drop-next tape.steps.items tape.taken step at) woken
     (ap (λ ends. outside_of ends (devices_of tape.steps.items devices.items)) links_kept
-    ∙ ap (λ kept. outside_of c.take_step-wake.new.links (devices_of tape.steps.items kept)) devices_kept ∙ changed))
+    ∙ ap (λ kept. outside_of c.take_step-wake.new.links (devices_of tape.steps.items kept)) devices_kept ∙ changed)

@@ -1,35 +1,15 @@
-use Rattle.std.proofs.Common.{◌≡◌, sym, ap, ◌∙◌, rules}
-use Rattle.std.proofs.Math.Nat.{le_refl}
+use Rattle.std.proofs.Common.{rules}
 use Rattle.std.proofs.lemmas.List.{with_items_is}
-use Rattle.std.specs.Vec.{with_items}
-use Rattle.std.specs.declared.option.Option.TheVariants.{Some}
 use Rattle.std.specs.declared.result.Result.TheVariants.{Ok}
 use Rattle.af_world.specs.declared.happening.Happening.TheVariants.{Hooked}
 use Rattle.af_world.specs.World.{is_done}
-use Rattle.af_world.specs.Outside.{outside_after_happening, Outside}
 use Rattle.af_outside.specs.Tape.{outside_of, devices_of}
-use Rattle.af_outside.proofs.TapeLemmas.{TapeLeadsTo-noted, faults_after-rises}
+use Rattle.af_outside.proofs.TapeLemmas.{TapeLeadsTo-device, answered_as}
+use Rattle.af_outside.proofs.ScriptedDeviceLemmas.{hook_answered}
 use Rattle.af_outside.proofs.tape.TapeWorld.hook.Goals as goal
 
-abbrev old_outside : goal.After-add → Outside
-old_outside c = outside_of c.self.inside.links.items (devices_of c.self.inside.steps.items c.self.inside.devices.items)
-
-abbrev new_outside : goal.After-add → Outside
-new_outside c = outside_of c.self.inside.links.items (devices_of c.self.inside.steps.items (with_items c.self.inside.devices c.hook-put.new.devices).items)
-
-answered_here : (c : goal.After-add) → outside_after_happening (old_outside c) (Hooked c.args.device c.args.off (is_done c.hook-put.result)) ≡ Some (new_outside c)
-answered_here c =
-    let tape = c.self.inside in
-    let kept : (with_items tape.devices c.hook-put.new.devices).items ≡ c.hook-put.new.devices = with_items_is tape.devices c.hook-put.new.devices (search rules) in
-    (rw c.deref_mut.ensures.value at c.hook-put.ensures tape.links.items tape.steps.items)
-    ∙ ap (λ kept. Some (outside_of tape.links.items (devices_of tape.steps.items kept))) (sym kept)
+pub returns-clause-answered : goal.returns-clause-answered
+returns-clause-answered c = rw (← c.self.view_is) (answered_as (λ kept. outside_of c.self.inside.links.items (devices_of c.self.inside.steps.items kept)) _ _ _ _ (Hooked c.args.device c.args.off (is_done c.answer-put.result)) c.deref_mut.ensures.value (with_items_is c.self.inside.devices c.answer-put.new.devices (search rules)) (hook_answered _ _ c.args.device _ (c.answer-put.ensures c.self.inside.links.items c.self.inside.steps.items)))
 
 pub returns-clause-leads : goal.returns-clause-leads
-returns-clause-leads c =
-    let tape = c.self.inside in
-    rw (← c.self.view_is)
-    (TapeLeadsTo-noted _ (Ok c.hook_of.result) _ (Hooked c.args.device c.args.off (is_done c.hook-put.result)) _ _ _ c.add.ensures c.hook_of.ensures (answered_here c)
-    (le_refl tape.link_faults) (rw c.faults_after-self-inside.ensures (faults_after-rises tape.device_faults _ (search rules))))
-
-pub returns-clause-answered : goal.returns-clause-answered
-returns-clause-answered c = rw (← c.self.view_is) (answered_here c)
+returns-clause-leads c = TapeLeadsTo-device c.self.view_is (Ok c.hook_of.result) _ (Hooked c.args.device c.args.off (is_done c.answer-put.result)) _ _ _ c.add.ensures c.hook_of.ensures (returns-clause-answered c) c.faults_after-self-inside.ensures (search rules)

@@ -1,5 +1,5 @@
 -- Events are queued, and hooks are moved.
-use Rattle.std.proofs.Common.{◌≡◌, ◌≢◌, ⊎_elim, ℕ, suc, ◌+◌, ◌-◌, ◌%◌, ◌^◌, ◌<◌, nat_le, Bool, true, false, cond, List, [], ◌∷◌, ◌++◌, length, slice_get, slice_set, option_map, option_and_then, refl, sym, ap, ◌∙◌, subst}
+use Rattle.std.proofs.Common.{◌≡◌, ◌≢◌, ⊎_elim, ℕ, suc, ◌+◌, ◌-◌, ◌%◌, ◌^◌, ◌<◌, nat_le, Bool, true, false, cond, List, [], ◌∷◌, length, slice_get, slice_set, option_map, option_and_then, refl, sym, ap, ◌∙◌, subst}
 use Rattle.std.specs.declared.option.Option.{Option}
 use Rattle.std.specs.declared.option.Option.TheVariants.{None, Some}
 use Rattle.af_limits.specs.Limits.{event_limit}
@@ -17,7 +17,7 @@ use Rattle.af_world.specs.Log.{Log}
 use Rattle.af_world.proofs.EqualityTestLemmas.{eq-refl}
 use Rattle.af_model.specs.State.{State, DeviceState, LinkState, EnvironmentState, open_link, slot_link_at, with_device, device_set, none_selected, say}
 use Rattle.af_model.specs.Events.{drop_link, after_hook, after_hook_failure, line_changes, tell, tell_at, tell_from, tell_open, tell_selected, without_waiter}
-use Rattle.af_model.specs.Turn.{accept, parse_then, wake_phase, line_phase, hook_all, hook_at, hook_for, hook_from, wanted_hook, same_flag}
+use Rattle.af_model.specs.Turn.{accept, wake_phase, line_phase, hook_all, hook_at, hook_for, hook_from, wanted_hook, same_flag}
 use Rattle.af_model.proofs.SlotLemmas.{some_link, slot_link, links_of-set, length-links_of}
 use Rattle.af_state.specs.Kept.{KeptDevice, StandsForDevice}
 use Rattle.af_state.specs.Deferrals.{KeptDeferral, has_waiting, kept_without, AreLater, StandForDeferrals}
@@ -28,7 +28,7 @@ use Rattle.af_state.proofs.DeferralLemmas.{waits_set, without_later, without_oth
 use Rattle.af_core.specs.Stands.{StandsForSlot, Kept, OnlyDrops, StandsFor, kept_of}
 use Rattle.af_core.specs.Simulates.{Simulates}
 use Rattle.af_io.proofs.AppendedLemmas.{appended_none}
-use Rattle.af_core.proofs.SimulationLemmas.{simulates_nothing, simulates_more}
+use Rattle.af_core.proofs.SimulationLemmas.{simulates_more, simulates_nothing, simulates_then, simulates_within}
 
 -- a link is dropped
 pub drops_at : (env : KeptSharedState) (ks' : List KeptDeferral) (k : ℕ) (cause : Why) (a : EnvironmentState) (l l' : LinkState) → ks' ≡ kept_without k env.waits →
@@ -178,14 +178,7 @@ pub next_hooked : (a b c : Option Log) (count n k : ℕ) (kept kept' kept'' : Ke
 unfolding hook_from
 next_hooked a b c count n k kept kept' kept'' e d one =
     simulates_more d (subst (λ m. Simulates b c (StandsFor kept') (StandsFor kept'') (hook_from m k) (hook_from (count - (k + 1)) (k + 1))) (sym e)
-    (record {
-      part = one.part;
-      told = one.told;
-      quiet = one.quiet;
-      each = λ s h.
-          let r = one.each s h in
-          record { state = r.state; stands = r.stands; same = λ more. ap (λ o. parse_then o (hook_from (count - (k + 1)) (k + 1))) (r.same more) };
-    }))
+    (simulates_then (hook_from (count - (k + 1)) (k + 1)) one))
 
 pub none_hooked : (t : Option Log) (n m : ℕ) (kept : Kept) → n ≡ m → Simulates t t (StandsFor kept) (StandsFor kept) (hook_from n 0) (hook_from m 0)
 none_hooked t n m kept e = simulates_nothing t (StandsFor kept) (StandsFor kept) (hook_from n 0) (hook_from m 0) (λ s. s) (λ s h. h) (λ s h log. ap (λ x. hook_from x 0 s log) e)
@@ -193,11 +186,6 @@ none_hooked t n m kept e = simulates_nothing t (StandsFor kept) (StandsFor kept)
 pub all_hooked : (a b : Option Log) (m k : ℕ) (kept kept' : Kept) → m ≡ 0 →
     Simulates a b (StandsFor kept) (StandsFor kept') (hook_from (length kept.devices) 0) (hook_from m k) → Simulates a b (StandsFor kept) (StandsFor kept') hook_all accept
 unfolding hook_from
-all_hooked a b m k kept kept' e d = record {
-  part = d.part;
-  told = d.told;
-  quiet = d.quiet;
-  each = λ s h.
-      let r = d.each s h in
-      record { state = r.state; stands = r.stands; same = λ more. ap (λ n. hook_from n 0 s (d.part ++ more)) (stands_length kept.devices s.devices h.devices) ∙ r.same more ∙ ap (λ x. hook_from x k r.state more) e };
-}
+all_hooked a b m k kept kept' e d =
+    simulates_within d (λ s. s) (λ s t. t) (λ s h. h) (λ s h t q. q)
+    (λ s h t log more same. ap (λ n. hook_from n 0 s log) (stands_length kept.devices s.devices h.devices) ∙ same ∙ ap (λ x. hook_from x k t more) e)

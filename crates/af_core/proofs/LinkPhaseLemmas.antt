@@ -25,7 +25,7 @@ use Rattle.af_state.specs.SharedState.{StandsForLink, KeptSharedState, StandsFor
 use Rattle.af_state.proofs.DeferralLemmas.{same_waiting}
 use Rattle.af_core.specs.Stands.{AreSettled, StandsForSlot, IsSettled, IsSettledSlot, Kept, StandsFor, kept_of, writes_left}
 use Rattle.af_core.specs.Simulates.{Simulates}
-use Rattle.af_core.proofs.SimulationLemmas.{simulates_nothing, simulates_one, simulates_more, simulates_then}
+use Rattle.af_core.proofs.SimulationLemmas.{simulates_more, simulates_nothing, simulates_one, simulates_then, simulates_within}
 
 -- what holds for a link in any environment holds for each open link
 pub at_open_link : (env env' : KeptSharedState) (l l' : LinkState) (f : OpenLink → OpenLink) → ((a : EnvironmentState) → StandsForSharedState env a → StandsForLink env' l' (f (open_link a l))) → (p : OpenLink) → StandsForLink env l p → StandsForLink env' l' (f p)
@@ -144,14 +144,8 @@ serves a b c d k env env' env'' l l' l'' link read write close =
 
 pub door_serves : (a b : Option Log) (k : ℕ) (env env' : KeptSharedState) (l : LinkState) (link : Option LinkState) →
     Simulates a b (StandsForLink env l) (StandsForSlot env' link) (serve_link k) accept → Simulates a b (StandsForSlot env (Some l)) (StandsForSlot env' link) (serve_slot_link k) accept
-door_serves a b k env env' l link d = record {
-  part = d.part;
-  told = d.told;
-  quiet = d.quiet;
-  each = λ s h.
-      let r = d.each (open_link s.environment l) (h.0, refl) in
-      record { state = r.state; stands = r.stands; same = λ more. ap (λ o. serve_open k s.environment o (d.part ++ more)) h.1 ∙ r.same more };
-}
+door_serves a b k env env' l link d =
+    simulates_within d (λ s. open_link s.environment l) (λ s t. t) (λ s h. (h.0, refl)) (λ s h t q. q) (λ s h t log more same. ap (λ o. serve_open k s.environment o log) h.1 ∙ same)
 
 -- the same, as a slot shows it
 pub door_shows : (a b : Option Log) (k : ℕ) (env env' : KeptSharedState) (old : Option LinkState) (l l' : LinkState) (is_closed : Bool) → old ≡ Some l →
@@ -165,18 +159,14 @@ pub one_served : (a b : Option Log) (n k : ℕ) (env env' : KeptSharedState) (li
     Simulates a b (StandsForSlot env link) (StandsForSlot env' link') (serve_slot_link k) accept →
     Simulates a b (StandsFor (kept_of env links)) (StandsFor (kept_of env' (slice_set links k link'))) (serve_from (suc n) k) (serve_from n (k + 1))
 unfolding serve_from
-one_served a b n k env env' links link link' here d = record {
-  part = d.part;
-  told = d.told;
-  quiet = d.quiet;
-  each = λ s h.
-      let r = d.each (slot_link_at k s) ((h.devices, h.waiting), slot_link s.slots k ∙ ap (λ ls. some_link (slice_get ls k)) h.links ∙ here) in
-      record {
-        state = with_slot_link k s r.state;
-        stands = record { devices = r.stands.0.0; waiting = r.stands.0.1; links = links_of-set s.slots k (record { link = r.state.link; said = r.state.environment.said }) ∙ ap (λ ls. slice_set ls k r.state.link) h.links ∙ ap (λ o. slice_set links k o) r.stands.1 };
-        same = λ more. ap (λ o. parse_then (parse_then o (λ d log. accept (with_slot_link k s d) log)) (serve_from n (k + 1))) (r.same more);
-      };
-}
+one_served a b n k env env' links link link' here d =
+    simulates_within d (slot_link_at k) (with_slot_link k) (λ s h. ((h.devices, h.waiting), slot_link s.slots k ∙ ap (λ ls. some_link (slice_get ls k)) h.links ∙ here))
+    (λ s h t q. record {
+      devices = q.0.0;
+      waiting = q.0.1;
+      links = links_of-set s.slots k (record { link = t.link; said = t.environment.said }) ∙ ap (λ ls. slice_set ls k t.link) h.links ∙ ap (λ o. slice_set links k o) q.1;
+    })
+    (λ s h t log more same. ap (λ o. parse_then (parse_then o (λ d log. accept (with_slot_link k s d) log)) (serve_from n (k + 1))) same)
 
 pub next_served : (a b c : Option Log) (count n k : ℕ) (kept : Kept) (env env' : KeptSharedState) (links : List (Option LinkState)) (link link' : Option LinkState) → n ≡ suc (count - (k + 1)) → some_link (slice_get links k) ≡ link →
     Simulates a b (StandsFor kept) (StandsFor (kept_of env links)) (serve_from count 0) (serve_from n k) → Simulates b c (StandsForSlot env link) (StandsForSlot env' link') (serve_slot_link k) accept →
@@ -189,14 +179,9 @@ none_served t n m kept e = simulates_nothing t (StandsFor kept) (StandsFor kept)
 
 pub all_served : (a b : Option Log) (m k : ℕ) (kept kept' : Kept) → m ≡ 0 → Simulates a b (StandsFor kept) (StandsFor kept') (serve_from (length kept.links) 0) (serve_from m k) → Simulates a b (StandsFor kept) (StandsFor kept') serve_all accept
 unfolding serve_from
-all_served a b m k kept kept' e d = record {
-  part = d.part;
-  told = d.told;
-  quiet = d.quiet;
-  each = λ s h.
-      let r = d.each s h in
-      record { state = r.state; stands = r.stands; same = λ more. ap (λ n. serve_from n 0 s (d.part ++ more)) (sym (length-links_of s.slots) ∙ ap length h.links) ∙ r.same more ∙ ap (λ x. serve_from x k r.state more) e };
-}
+all_served a b m k kept kept' e d =
+    simulates_within d (λ s. s) (λ s t. t) (λ s h. h) (λ s h t q. q)
+    (λ s h t log more same. ap (λ n. serve_from n 0 s log) (sym (length-links_of s.slots) ∙ ap length h.links) ∙ same ∙ ap (λ x. serve_from x k t more) e)
 
 pub link_here : (links : List (Option LinkState)) (i : ℕ) (d : Option LinkState) → i < length links → some_link (slice_get links i) ≡ get_or links i d
 link_here [] i d h = absurd (omega arith)

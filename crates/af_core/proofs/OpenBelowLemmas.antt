@@ -2,6 +2,7 @@
 use Rattle.std.proofs.Common.{◌≡◌, ◌≢◌, ◌==◌, eqb-true, get_or, replicate, ℕ, zero, suc, ◌≤◌, ◌<◌, ◌+◌, Bool, true, false, not, cond, List, [], ◌∷◌, ◌++◌, length, map, slice_get, slice_set, is_some, refl, sym, ap, ◌∙◌, subst, arith}
 use Rattle.std.proofs.Math.Nat.{le-max_left, le-max_right, max-le}
 use Rattle.std.proofs.lemmas.Bool.Decides.{nat_tests}
+use Rattle.std.proofs.lemmas.List.{map-set}
 use Rattle.std.specs.declared.option.Option.{Option}
 use Rattle.std.specs.declared.option.Option.TheVariants.{None, Some}
 use Rattle.af_limits.specs.Limits.{most_links}
@@ -89,26 +90,16 @@ none_open_woken (Opened j) n old new e none k from =
     let right = le-max_right n (j + 1) in
     let apart : k ≢ j = λ same. absurd (omega (arith, from, same, right)) in
     subst (λ w. is_open_at (slice_get w k) ≡ false) (sym e) (subst (λ o. is_open_at o ≡ false) (sym (get-set_other (opens old) j k true apart)) (none k (omega (arith, from, left))))
-none_open_woken (Readable j) n old new e none k from = subst (λ w. is_open_at (slice_get w k) ≡ false) (sym e) (none k from)
-none_open_woken (Writable j) n old new e none k from = subst (λ w. is_open_at (slice_get w k) ≡ false) (sym e) (none k from)
-none_open_woken (Ticked d m) n old new e none k from = subst (λ w. is_open_at (slice_get w k) ≡ false) (sym e) (none k from)
-none_open_woken (Line d change) n old new e none k from = subst (λ w. is_open_at (slice_get w k) ≡ false) (sym e) (none k from)
-none_open_woken Idle n old new e none k from = subst (λ w. is_open_at (slice_get w k) ≡ false) (sym e) (none k from)
-none_open_woken Stop n old new e none k from = subst (λ w. is_open_at (slice_get w k) ≡ false) (sym e) (none k from)
+none_open_woken _ n old new e none k from = subst (λ w. is_open_at (slice_get w k) ≡ false) (sym e) (none k from)
 
 pub none_open_same : (n : ℕ) (old new : List (Option LinkState)) → opens new ≡ opens old → NoneOpenFrom n old → NoneOpenFrom n new
 none_open_same n old new e none k from = subst (λ w. is_open_at (slice_get w k) ≡ false) (sym e) (none k from)
 
 -- a link below that number changes
-map-set : (links : List (Option LinkState)) (j : ℕ) (link : Option LinkState) → opens (slice_set links j link) ≡ slice_set (opens links) j (is_some link)
-map-set [] j link = refl
-map-set (x ∷ links) zero link = refl
-map-set (x ∷ links) (suc j) link = ap (λ w. is_some x ∷ w) (map-set links j link)
-
 pub none_open_set : (n j : ℕ) (links : List (Option LinkState)) (link : Option LinkState) → j < n → NoneOpenFrom n links → NoneOpenFrom n (slice_set links j link)
 none_open_set n j links link below none k from =
     let apart : k ≢ j = λ same. absurd (omega (arith, from, same, below)) in
-    subst (λ w. is_open_at (slice_get w k) ≡ false) (sym (map-set links j link)) (subst (λ o. is_open_at o ≡ false) (sym (get-set_other (opens links) j k (is_some link) apart)) (none k from))
+    subst (λ w. is_open_at (slice_get w k) ≡ false) (sym (map-set {A = Option LinkState} {B = Bool} is_some links j link)) (subst (λ o. is_open_at o ≡ false) (sym (get-set_other (opens links) j k (is_some link) apart)) (none k from))
 
 -- none is open at all
 pub none_open_starts : (links : List (Option LinkState)) → links ≡ replicate most_links None → NoneOpenFrom 0 links
@@ -140,11 +131,6 @@ closed_here (None ∷ links) zero e = refl
 closed_here (Some l ∷ links) zero e = absurd cc
 closed_here (x ∷ links) (suc k) e = closed_here links k e
 
-set_closed : (links : List (Option LinkState)) (k : ℕ) → some_link (slice_get links k) ≡ None → slice_set links k None ≡ links
-set_closed [] k e = refl
-set_closed (x ∷ links) zero e = ap (λ o. o ∷ links) (sym e)
-set_closed (x ∷ links) (suc k) e = ap (λ ls. x ∷ ls) (set_closed links k e)
-
 pub closed_serves : (t : Option Log) (k : ℕ) (env : KeptSharedState) → Simulates t t (StandsForSlot env None) (StandsForSlot env None) (serve_slot_link k) accept
 closed_serves t k env =
     simulates_nothing t (StandsForSlot env None) (StandsForSlot env None) (serve_slot_link k) accept (λ d. d) (λ d h. h)
@@ -158,12 +144,7 @@ below_woken (Opened k) n kept fit bound = let low = here kept.links k fit in max
     here [] k e = absurd cc
     here (x ∷ links) zero e = omega arith
     here (x ∷ links) (suc k) e = let low = here links k e in omega (arith, low)
-below_woken (Readable k) n kept fit bound = bound
-below_woken (Writable k) n kept fit bound = bound
-below_woken (Ticked d m) n kept fit bound = bound
-below_woken (Line d change) n kept fit bound = bound
-below_woken Idle n kept fit bound = bound
-below_woken Stop n kept fit bound = bound
+below_woken _ n kept fit bound = bound
 
 pub woken_within : (wake : Wake) (n below : ℕ) (kept : Kept) (links : List (Option LinkState)) → below ≡ open_below_after wake n → fits (outline_of kept) wake ≡ true → n ≤ most_links → length kept.links ≡ most_links → length links ≡ most_links → below ≤ length links
 woken_within wake n below kept links is fit bound before after =

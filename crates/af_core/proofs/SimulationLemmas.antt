@@ -49,15 +49,22 @@ module _ {S T U R : Type 0} where
         };
   }
 
+module _ {S T R U V W : Type 0} where
+  -- The same part, for the whole that it is a part of: the outer state gives the inner one, and receives where it leads.
+  pub simulates_within : {a b : Option Log} {P : S → Type 0} {Q : T → Type 0} {f : S → Log → Option (Parsed R)} {g : T → Log → Option (Parsed R)} {P' : U → Type 0} {Q' : V → Type 0} {f' : U → Log → Option (Parsed W)} {g' : V → Log → Option (Parsed W)} →
+      Simulates a b P Q f g → (from : U → S) (to : U → T → V) → ((u : U) → P' u → P (from u)) → ((u : U) → P' u → (t : T) → Q t → Q' (to u t)) →
+      ((u : U) → P' u → (t : T) (log more : Log) → f (from u) log ≡ g t more → f' u log ≡ g' (to u t) more) → Simulates a b P' Q' f' g'
+  simulates_within d from to stood stands same = record {
+    part = d.part;
+    told = d.told;
+    quiet = d.quiet;
+    each = λ u p.
+        let inner = d.each (from u) (stood u p) in
+        record { state = to u inner.state; stands = stands u p inner.state inner.stands; same = λ more. same u p inner.state (d.part ++ more) more (inner.same more) };
+  }
+
 module _ {S T R : Type 0} where
   -- a part is the first of two
   pub simulates_then : {a b : Option Log} {P : S → Type 0} {Q : T → Type 0} {f : S → Log → Option (Parsed T)} (h : T → Log → Option (Parsed R)) →
       Simulates a b P Q f accept → Simulates a b P Q (λ s log. parse_then (f s log) h) h
-  simulates_then h d = record {
-    part = d.part;
-    told = d.told;
-    quiet = d.quiet;
-    each = λ s p.
-        let first = d.each s p in
-        record { state = first.state; stands = first.stands; same = λ more. ap (λ o. parse_then o h) (first.same more) };
-  }
+  simulates_then h d = simulates_within d (λ s. s) (λ s t. t) (λ s p. p) (λ s p t q. q) (λ s p t log more e. ap (λ o. parse_then o h) e)

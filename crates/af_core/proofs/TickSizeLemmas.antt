@@ -1,12 +1,12 @@
 -- How many samples and bytes the frames of a tick are.
 use Rattle.std.proofs.Common.{◌≡◌, ℕ, ◌*◌, ◌/◌, ◌<◌, ◌≤◌, inl, inr, ℤ, List, length, take, sym, ap, ◌∙◌, subst, arith}
 use Rattle.std.proofs.lemmas.List.{length-take-le}
-use Rattle.std.proofs.Math.Nat.{mul-div_cancel, mul_comm}
+use Rattle.std.proofs.Math.Nat.{mul-div_cancel}
 use Rattle.af_limits.specs.Limits.{longest_tick, most_tick_samples, longest_capture}
 use Rattle.af_sample.specs.declared.sample_type.SampleType.{SampleType}
 use Rattle.af_sample.specs.declared.sample_type.SampleType.TheVariants.{Mu255, Alaw, Lin16, Lin32}
 use Rattle.af_sample.specs.SampleTypes.{frame_bytes, width_of}
-use Rattle.af_sample.specs.Channels.{AreWholeFrames, IsChannelCount, frame_count}
+use Rattle.af_sample.specs.Channels.{IsChannelCount, frame_count}
 use Rattle.af_sample.proofs.FrameLemmas.{one_or_two, some_channel}
 
 pub few_samples : (n channels : ℕ) → n ≤ longest_tick → IsChannelCount channels → n * channels ≤ most_tick_samples
@@ -64,6 +64,3 @@ take_bytes bytes ty n channels m all size = size ∙ sample_bytes ty n channels 
 -- so many samples are n frames
 pub are_frames : (xs : List ℤ) (n channels : ℕ) → length xs ≡ n * channels → IsChannelCount channels → frame_count channels xs ≡ n
 are_frames xs n channels size count = ap (λ m. m / channels) size ∙ mul-div_cancel n (some_channel channels count)
-
-pub are_whole : (xs : List ℤ) (n channels : ℕ) → length xs ≡ n * channels → IsChannelCount channels → AreWholeFrames channels xs
-are_whole xs n channels size count = size ∙ mul_comm n channels ∙ ap (λ m. channels * m) (sym (are_frames xs n channels size count))

@@ -27,7 +27,7 @@ use Rattle.af_model.proofs.RunLemmas.{wakes-append-none}
 use Rattle.af_model.proofs.WakeLemmas.{turn_lines}
 use Rattle.af_model.proofs.SlotLemmas.{slot_link, links_of-set, some_link}
 use Rattle.af_state.specs.Kept.{KeptDevice, StandsForDevice, StandForDevices}
-use Rattle.af_state.specs.Deferrals.{KeptDeferral, has_waiting, deferral_after_frames, waits_of, AreLater, StandForDeferrals}
+use Rattle.af_state.specs.Deferrals.{KeptDeferral, StandsForDeferral, has_waiting, deferral_after_frames, waits_of, AreLater, StandForDeferrals}
 use Rattle.af_state.specs.SharedState.{KeptSharedState}
 use Rattle.af_core.specs.Stands.{AreOrderly, AreSettled, IsBetweenPhases, IsSettled, IsSettledSlot, Kept, Stands, StandsFor, StandForWaiting, Turns, kept_lines, kept_of, outline_of}
 use Rattle.af_sample.specs.Channels.{frame_count}
@@ -36,32 +36,40 @@ use Rattle.af_sample.specs.SampleTypes.{frame_bytes}
 use Rattle.af_core.specs.Simulates.{Simulates}
 use Rattle.af_core.specs.Live.{Passes, Ticks, TicksLive}
 use Rattle.af_io.proofs.AppendedLemmas.{appended_none, appended_on}
-use Rattle.af_core.proofs.LinkPhaseLemmas.{settled_set}
+use Rattle.af_core.proofs.LinkPhaseLemmas.{flag_settled, settled_here, settled_set}
 use Rattle.af_core.proofs.SimulationLemmas.{simulates_nothing}
 use Rattle.af_core.proofs.TickSizeLemmas.{are_frames}
 use Rattle.af_state.proofs.DeviceLemmas.{found, stands_length, stands_set}
 use Rattle.af_state.proofs.DeferralLemmas.{waits_passed}
 use Rattle.af_state.proofs.PlayLemmas.{horizon_bounds}
 
+-- what holds of no request, and of one more that waits for a frame or more, holds of all
+each_later : (devices : List DeviceState) (Holds : List KeptDeferral → List Deferral → Type 0) → Holds [] [] →
+    ((k : KeptDeferral) (w : Deferral) (ks : List KeptDeferral) (waiting : List Deferral) → 0 < k.wait.left → StandsForDeferral devices k w → Holds ks waiting → Holds (k ∷ ks) (w ∷ waiting)) →
+    (ks : List KeptDeferral) (waiting : List Deferral) → AreLater ks → StandForDeferrals devices ks waiting → Holds ks waiting
+each_later devices Holds none more [] [] l h = none
+each_later devices Holds none more [] (w ∷ waiting) l h = absurd h
+each_later devices Holds none more (k ∷ ks) [] l h = absurd h
+each_later devices Holds none more (k ∷ ks) (w ∷ waiting) l h = more k w ks waiting l.0 h.0 (each_later devices Holds none more ks waiting l.1 h.1)
+
 -- what waits for a frame or more is due later
 due_later : (devices : List DeviceState) (ks : List KeptDeferral) (waiting : List Deferral) → AreLater ks → StandForDeferrals devices ks waiting → AreDueLater devices waiting
-due_later devices [] [] l h = tt
-due_later devices [] (w ∷ waiting) l h = absurd h
-due_later devices (k ∷ ks) [] l h = absurd h
-due_later devices (k ∷ ks) (w ∷ waiting) l h =
-    let some = l.0 in
-    let left = h.0.left in
-    (subst (λ o. IfSome o (λ s. s.now < due_time s.channels (horizon_of s) w.deferred)) (sym h.0.here) (omega (arith, some, left)), due_later devices ks waiting l.1 h.1)
+due_later devices = each_later devices (λ ks waiting. AreDueLater devices waiting) tt (λ k w ks waiting some one later.
+    let left = one.left in
+    (subst (λ o. IfSome o (λ s. s.now < due_time s.channels (horizon_of s) w.deferred)) (sym one.here) (omega (arith, some, left)), later))
 
 -- the deferred requests as they are shown stand for those of the state
 pub shown : (devices : List DeviceState) (ks : List KeptDeferral) (waiting : List Deferral) → AreLater ks → StandForDeferrals devices ks waiting → StandForWaiting devices (waits_of ks) waiting
-shown devices [] [] l h = tt
-shown devices [] (w ∷ waiting) l h = absurd h
-shown devices (k ∷ ks) [] l h = absurd h
-shown devices (k ∷ ks) (w ∷ waiting) l h =
-    let some = l.0 in
-    let left = h.0.left in
-    (h.0.link, h.0.device, subst (λ o. IsSomeAnd o (λ s. s.now + k.wait.left ≡ due_time s.channels (horizon_of s) w.deferred)) (sym h.0.here) (omega (arith, some, left)), shown devices ks waiting l.1 h.1)
+shown devices = each_later devices (λ ks waiting. StandForWaiting devices (waits_of ks) waiting) tt (λ k w ks waiting some one others.
+    let left = one.left in
+    (one.link, one.device, subst (λ o. IsSomeAnd o (λ s. s.now + k.wait.left ≡ due_time s.channels (horizon_of s) w.deferred)) (sym one.here) (omega (arith, some, left)), others))
+
+-- what holds of each state that a device stands for holds of the device at its number
+pub device_shown : (core : Kept) (ds : List KeptDevice) (s : State) (d : ℕ) (x : KeptDevice) (Holds : DeviceState → Type 0) → ds ≡ core.devices → slice_get ds d ≡ Some x → Stands core s →
+    ((y : DeviceState) → StandsForDevice x y → Holds y) → IsSomeAnd (slice_get s.devices d) Holds
+device_shown core ds s d x Holds is here h holds =
+    let there = found ds s.devices d x here (subst (λ xs. StandForDevices xs s.devices) (sym is) h.kept.devices) in
+    subst (λ o. IsSomeAnd o Holds) (sym there.here) (holds there.state there.stands)
 
 pub all_wait : (ks : List KeptDeferral) → AreLater ks → All (λ w. 0 < w.left) (waits_of ks)
 all_wait [] l = λ k d low. absurd (omega arith)
@@ -222,6 +230,13 @@ wake_keeps env links k link d old one =
       settled = settled_set env.waits env.waits links k link old.orderly.settled (λ j apart. refl) one;
       later = old.orderly.later;
     })
+
+-- the same where the wake set a flag of the link, or cleared it
+pub flag_keeps : {a b : Option Log} (mark : LinkState → LinkState) (env : KeptSharedState) (links : List (Option LinkState)) (k : ℕ) (d old link : Option LinkState) {f : State → Log → Option (Parsed State)} {g : State → Log → Option (Parsed State)} →
+    Simulates a b (StandsFor (kept_of env links)) (StandsFor (kept_of env (slice_set links k link))) f g → IsBetweenPhases (kept_of env links) → ((l : LinkState) → IsSettled (has_waiting env.waits k) l → IsSettled (has_waiting env.waits k) (mark l)) →
+    old ≡ get_or links k d → k < length links → link ≡ in_open mark old → IsBetweenPhases (kept_of env (slice_set links k link))
+flag_keeps mark env links k d old link woken between keeps is low marked =
+    wake_keeps env links k link woken between (flag_settled mark (has_waiting env.waits k) old link keeps (settled_here env.waits links k k d old between.orderly.settled refl is low) marked)
 
 -- Ticks
 

@@ -1,11 +1,11 @@
 -- Bounds on the numbers of links that are to be read, written or closed. The others have no part in a turn.
-use Rattle.std.proofs.Common.{◌≡◌, ◌≢◌, ℕ, zero, suc, ◌≤◌, ◌<◌, ◌+◌, ◌-◌, ◌||◌, nat_lt, replicate, inl, inr, Bool, true, false, List, [], ◌∷◌, get_or, length, map, slice_get, slice_set, option_and_then, is_some, refl, sym, ap, ◌∙◌, subst, arith}
+use Rattle.std.proofs.Common.{◌≡◌, ◌≢◌, ℕ, zero, suc, ◌≤◌, ◌<◌, ◌+◌, ◌-◌, ◌||◌, max, nat_lt, replicate, inl, inr, Bool, true, false, List, [], ◌∷◌, get_or, length, map, slice_get, slice_set, option_and_then, is_some, refl, sym, ap, ◌∙◌, subst, arith}
 use Rattle.std.proofs.lemmas.Bool.{cases_lt, le-ltb, lt-ltb}
 use Rattle.std.specs.declared.option.Option.{Option}
 use Rattle.std.specs.declared.option.Option.TheVariants.{None, Some}
 use Rattle.af_limits.specs.Limits.{most_links}
 use Rattle.af_world.specs.declared.happening.Wake.{Wake}
-use Rattle.af_world.specs.declared.happening.Wake.TheVariants.{Opened, Readable, Writable, Ticked, Line, Idle, Stop}
+use Rattle.af_world.specs.declared.happening.Wake.TheVariants.{Opened, Readable, Writable}
 use Rattle.af_world.specs.declared.happening.Why.{Why}
 use Rattle.af_world.specs.Log.{Log}
 use Rattle.af_model.specs.State.{LinkState}
@@ -141,33 +141,27 @@ same_bounds b ks ks' links links' h same none = record {
   wants = record { before = λ j less. same j ∙ h.wants.before j less; after = λ j more. same j ∙ h.wants.after j more };
 }
 
+-- where one link may want something else
+one_bounds : (k : ℕ) (b : WantingSpan) (open_below : ℕ) (kept : Kept) (ks' : List KeptDeferral) (links' : List (Option LinkState)) → AreBounds b kept.waits kept.links →
+    ((j : ℕ) → j ≢ k → wants_at ks' links' j ≡ wants_at kept.waits kept.links j) → open_below ≤ most_links → NoneOpenFrom open_below links' → b.wants_below ≤ open_below → k < open_below →
+    AreBounds (bounds_with k (record b { open_below = open_below })) ks' links'
+one_bounds k b open_below kept ks' links' h only most none within here = record {
+  most = most;
+  none_open = none;
+  from = let low = h.from in omega (arith, low);
+  within = omega (arith, within, here);
+  wants = with_wants k b kept.waits ks' kept.links links' only h.wants;
+}
+
 pub woken_bounds : (wake : Wake) (b : WantingSpan) (kept : Kept) (ks' : List KeptDeferral) (links' : List (Option LinkState)) → fits (outline_of kept) wake ≡ true → AreBounds b kept.waits kept.links →
     WakesOnly wake kept.waits kept.links ks' links' → open_below_after wake b.open_below ≤ most_links → NoneOpenFrom (open_below_after wake b.open_below) links' → AreBounds (bounds_after wake b) ks' links'
-woken_bounds (Opened k) b kept ks' links' fit h only most none = record {
-  most = most;
-  none_open = none;
-  from = let low = h.from in omega (arith, low);
-  within = let low = h.within in omega (arith, low);
-  wants = with_wants k b kept.waits ks' kept.links links' only h.wants;
-}
-woken_bounds (Readable k) b kept ks' links' fit h only most none = record {
-  most = most;
-  none_open = none;
-  from = let low = h.from in omega (arith, low);
-  within = let low = h.within in let here = opens_below b.open_below k kept.links h.none_open fit in omega (arith, low, here);
-  wants = with_wants k b kept.waits ks' kept.links links' only h.wants;
-}
-woken_bounds (Writable k) b kept ks' links' fit h only most none = record {
-  most = most;
-  none_open = none;
-  from = let low = h.from in omega (arith, low);
-  within = let low = h.within in let here = opens_below b.open_below k kept.links h.none_open fit in omega (arith, low, here);
-  wants = with_wants k b kept.waits ks' kept.links links' only h.wants;
-}
-woken_bounds (Ticked d n) b kept ks' links' fit h only most none = same_bounds b kept.waits ks' kept.links links' h only none
-woken_bounds (Line d change) b kept ks' links' fit h only most none = same_bounds b kept.waits ks' kept.links links' h only none
-woken_bounds Idle b kept ks' links' fit h only most none = same_bounds b kept.waits ks' kept.links links' h only none
-woken_bounds Stop b kept ks' links' fit h only most none = same_bounds b kept.waits ks' kept.links links' h only none
+woken_bounds (Opened k) b kept ks' links' fit h only most none =
+    one_bounds k b (max b.open_below (k + 1)) kept ks' links' h only most none (let low = h.within in omega (arith, low)) (omega arith)
+woken_bounds (Readable k) b kept ks' links' fit h only most none =
+    one_bounds k b b.open_below kept ks' links' h only most none h.within (opens_below b.open_below k kept.links h.none_open fit)
+woken_bounds (Writable k) b kept ks' links' fit h only most none =
+    one_bounds k b b.open_below kept ks' links' h only most none h.within (opens_below b.open_below k kept.links h.none_open fit)
+woken_bounds _ b kept ks' links' fit h only most none = same_bounds b kept.waits ks' kept.links links' h only none
 
 -- Whether there is more to do
 
@@ -212,12 +206,7 @@ wants_of ks links k d there = ap (open_wants (has_waiting ks k)) (link_in (slice
 -- a wake moves this bound whatever the others are
 pub same_open : (wake : Wake) (b : WantingSpan) → (bounds_after wake b).open_below ≡ open_below_after wake b.open_below
 same_open (Opened k) b = refl
-same_open (Readable k) b = refl
-same_open (Writable k) b = refl
-same_open (Ticked d n) b = refl
-same_open (Line d change) b = refl
-same_open Idle b = refl
-same_open Stop b = refl
+same_open _ b = refl
 
 -- if no link is open
 pub starts_bounds : (b : WantingSpan) (ks : List KeptDeferral) (links : List (Option LinkState)) → b ≡ record { open_below = 0; wants_from = most_links; wants_below = 0 } → links ≡ replicate most_links None → AreBounds b ks links

@@ -6,22 +6,22 @@ use Rattle.af_limits.specs.Limits.{most_links, longest_frame, event_limit}
 use Rattle.af_wait.specs.declared.Wait.{Wait}
 use Rattle.af_world.specs.declared.happening.Happening.TheVariants.{Woke}
 use Rattle.af_world.specs.declared.happening.Wake.{Wake}
-use Rattle.af_world.specs.declared.happening.Wake.TheVariants.{Opened, Readable, Writable, Ticked, Line, Idle, Stop}
+use Rattle.af_world.specs.declared.happening.Wake.TheVariants.{Opened, Readable, Writable}
 use Rattle.af_io.specs.Observed.{Appended}
 use Rattle.af_world.specs.Log.{Log}
 use Rattle.af_wait.specs.Waits.{without_first}
 use Rattle.af_model.specs.State.{State, EnvironmentState, DeviceState, LinkState, Deferral, OpenLink, open_link, SlotLink, Outline, links_of, outline_with}
 use Rattle.af_model.specs.Reply.{horizon_of}
 use Rattle.af_model.specs.Waiting.{due_time, falls_due, AreDueLater}
-use Rattle.af_model.specs.Advance.{takes_more}
+use Rattle.af_model.specs.Advance.{advance, takes_more}
 use Rattle.af_model.specs.More.{open_wants}
 use Rattle.af_model.specs.Turn.{IsTurn, is_open_at, wants_write}
 use Rattle.af_model.specs.Run.{wakes}
 use Rattle.af_model.specs.NoLoss.{StateLosesNone}
 use Rattle.af_core.specs.declared.wanting_span.WantingSpan.{WantingSpan}
 use Rattle.af_state.specs.Kept.{KeptDevice, StandForDevices, IsBounded}
-use Rattle.af_state.specs.Deferrals.{KeptDeferral, has_waiting, kept_without, AreLater, AreLaterBut, StandForDeferrals, LeavesOthers}
-use Rattle.af_state.specs.SharedState.{StandsForLink, KeptSharedState, StandsForSharedState}
+use Rattle.af_state.specs.Deferrals.{KeptDeferral, has_waiting, kept_without, AreLater, AreLaterBut, StandForDeferrals, LeavesOthers, OnlyQueues}
+use Rattle.af_state.specs.SharedState.{StandsForLink, StepsLink, KeptSharedState, StandsForSharedState}
 
 -- a slot, open or not, with its environment
 abbrev pub StandsForSlot : KeptSharedState → Option LinkState → SlotLink → Type 0
@@ -77,6 +77,13 @@ pub record LinkServed (k : ℕ) (old new : List KeptDeferral) (l : LinkState) : 
   pub settled : IsSettled (has_waiting new k) l
   pub leaves_others : LeavesOthers k old new
 
+-- A link was advanced: it is settled, and stays as it was or has less unread. Its own request may be deferred, and no other one.
+pub record LinkAdvanced (k : ℕ) (old : KeptSharedState) (l : LinkState) (new : KeptSharedState) (l' : LinkState) : Type 0 where
+  pub step : StepsLink (advance k) old l new l'
+  pub settled : IsSettled (has_waiting new.waits k) l'
+  pub answered : (l' ≡ l) ⊎ (length l'.rest < length l.rest)
+  pub only_queues : OnlyQueues k old.waits new.waits
+
 -- all that a core keeps
 pub record Kept : Type 0 where
   pub devices : List KeptDevice
@@ -101,12 +108,7 @@ NoneOpenFrom n links = (k : ℕ) → n ≤ k → is_open_at (slice_get (map is_s
 -- the number below which all open links are after a wake, which may open one
 abbrev pub open_below_after : Wake → ℕ → ℕ
 open_below_after (Opened k) n = max n (k + 1)
-open_below_after (Readable k) n = n
-open_below_after (Writable k) n = n
-open_below_after (Ticked d m) n = n
-open_below_after (Line d change) n = n
-open_below_after Idle n = n
-open_below_after Stop n = n
+open_below_after _ n = n
 
 -- whether a link is open at a number and is to be read, written or closed
 abbrev pub wants_at : List KeptDeferral → List (Option LinkState) → ℕ → Bool
@@ -146,10 +148,7 @@ abbrev pub bounds_after : Wake → WantingSpan → WantingSpan
 bounds_after (Opened k) b = bounds_with k (record b { open_below = max b.open_below (k + 1) })
 bounds_after (Readable k) b = bounds_with k b
 bounds_after (Writable k) b = bounds_with k b
-bounds_after (Ticked d n) b = b
-bounds_after (Line d change) b = b
-bounds_after Idle b = b
-bounds_after Stop b = b
+bounds_after _ b = b
 
 -- each link is to be read, written or closed if it was before
 abbrev pub WantTheSame : List KeptDeferral → List (Option LinkState) → List KeptDeferral → List (Option LinkState) → Type 0
@@ -160,10 +159,7 @@ abbrev pub WakesOnly : Wake → List KeptDeferral → List (Option LinkState) �
 WakesOnly (Opened k) ks links ks' links' = (j : ℕ) → j ≢ k → wants_at ks' links' j ≡ wants_at ks links j
 WakesOnly (Readable k) ks links ks' links' = (j : ℕ) → j ≢ k → wants_at ks' links' j ≡ wants_at ks links j
 WakesOnly (Writable k) ks links ks' links' = (j : ℕ) → j ≢ k → wants_at ks' links' j ≡ wants_at ks links j
-WakesOnly (Ticked d n) ks links ks' links' = WantTheSame ks links ks' links'
-WakesOnly (Line d change) ks links ks' links' = WantTheSame ks links ks' links'
-WakesOnly Idle ks links ks' links' = WantTheSame ks links ks' links'
-WakesOnly Stop ks links ks' links' = WantTheSame ks links ks' links'
+WakesOnly _ ks links ks' links' = WantTheSame ks links ks' links'
 
 -- what all links share, and the links
 abbrev pub kept_of : KeptSharedState → List (Option LinkState) → Kept

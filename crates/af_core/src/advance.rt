@@ -1,5 +1,5 @@
 // Advancing a link: a complete setup or frame at the front of its input is taken off and answered.
-ghost use Rattle.std.specs.Prelude.{◌≡◌, ◌⊎◌, ◌≤◌, ◌<◌, ◌++◌, length, map, IsTrue, IsFalse, true};
+ghost use Rattle.std.specs.Prelude.{◌≡◌, ◌≤◌, ◌<◌, ◌++◌, length, map, IsTrue, IsFalse, true};
 ghost use Rattle.af_limits.specs.Limits.{most_links, most_devices, longest_capture, longest_frame, longest_message, perform_limit, event_limit};
 ghost use Rattle.af_world.specs.declared.happening.Why.TheVariants as why;
 ghost use Rattle.af_wire.specs.declared.front.Front.TheVariants.{Frame};
@@ -9,11 +9,11 @@ ghost use Rattle.af_request.specs.Answer.{setup};
 ghost use Rattle.af_request.specs.Opcodes as opcodes;
 ghost use Rattle.af_model.specs.State.{closing_link};
 ghost use Rattle.af_model.specs.Reply.{reply_message};
-ghost use Rattle.af_model.specs.Advance.{after_setup, after_frame, advance_step, advance, takes_more};
+ghost use Rattle.af_model.specs.Advance.{after_setup, after_frame, advance_step, takes_more};
 ghost use Rattle.af_state.specs.Kept.{kept_info, IsBounded};
 ghost use Rattle.af_state.specs.Deferrals.{has_waiting, OnlyQueues};
-ghost use Rattle.af_state.specs.SharedState.{StepsLink, MayAsk};
-ghost use Rattle.af_core.specs.Stands.{IsSettled, Advances};
+ghost use Rattle.af_state.specs.SharedState.{MayAsk};
+ghost use Rattle.af_core.specs.Stands.{Advances, LinkAdvanced};
 
 use af_perform::perform;
 use af_request::{Devices, Reply, opcode, read_request, write_reply};
@@ -172,10 +172,7 @@ fn advance_once(
 fn advance_all(number: u8, shared: &mut SharedState, link: &mut ServedLink, scratch: &mut Scratch)
     requires number { number < most_links }
     requires room { IsTrue (has_waiting shared.old.waits number) → length link.old.pending ≤ event_limit }
-    ensures step { StepsLink (advance number) shared.old link.old shared.new link.new }
-    ensures settled { IsSettled (has_waiting shared.new.waits number) link.new }
-    ensures answered { (link.new ≡ link.old) ⊎ (length link.new.rest < length link.old.rest) }
-    ensures only_queues { OnlyQueues number shared.old.waits shared.new.waits }
+    ensures { LinkAdvanced number shared.old link.old shared.new link.new }
 {
     while link.has_input() {
         if !advance_once(number, shared, link, scratch) {
@@ -190,10 +187,7 @@ fn advance_all(number: u8, shared: &mut SharedState, link: &mut ServedLink, scra
 pub fn advance(number: u8, shared: &mut SharedState, link: &mut ServedLink, scratch: &mut Scratch)
     requires number { number < most_links }
     requires room { IsTrue (has_waiting shared.old.waits number) → length link.old.pending ≤ event_limit }
-    ensures step { StepsLink (advance number) shared.old link.old shared.new link.new }
-    ensures settled { IsSettled (has_waiting shared.new.waits number) link.new }
-    ensures answered { (link.new ≡ link.old) ⊎ (length link.new.rest < length link.old.rest) }
-    ensures only_queues { OnlyQueues number shared.old.waits shared.new.waits }
+    ensures { LinkAdvanced number shared.old link.old shared.new link.new }
 {
     if link.has_input() {
         advance_all(number, shared, link, scratch);

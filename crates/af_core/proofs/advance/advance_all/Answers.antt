@@ -16,15 +16,25 @@ loop-shared-preserved c = record {
       (on.0, on.1, on.2 ∙ before.2);
 }
 
-pub returns-then-not-advance_once-clause-step : goal.returns-then-not-advance_once-clause-step
-returns-then-not-advance_once-clause-step c = λ a h.
-    let before = c.loop-shared.invariant.step a h in
-    let same = c.if-not-advance_once.ensures.same refl in
-    let e = sym before.2 ∙ ends c.args.number (open_link before.0 c.loop-shared.link) _ _ (c.if-not-advance_once.ensures.step before.0 before.1) in
-    rw e (rw same.0 before.1, sym same.1)
+pub returns-then-not-advance_once : goal.returns-then-not-advance_once
+returns-then-not-advance_once c = record {
+  step = λ a h.
+      let before = c.loop-shared.invariant.step a h in
+      let same = c.if-not-advance_once.ensures.same refl in
+      let e = sym before.2 ∙ ends c.args.number (open_link before.0 c.loop-shared.link) _ _ (c.if-not-advance_once.ensures.step before.0 before.1) in
+      rw e (rw same.0 before.1, sym same.1);
+  settled = search rules;
+  answered = search rules;
+  only_queues = search rules;
+}
 
-pub returns-clause-step : goal.returns-clause-step
-returns-clause-step c = λ a h.
-    let before = c.loop-shared.invariant.step a h in
-    let e = sym before.2 ∙ nothing_there c.args.number (open_link before.0 c.loop-shared.link) (search rules) in
-    rw e (before.1, refl)
+pub returns : goal.returns
+returns c = record {
+  step = λ a h.
+      let before = c.loop-shared.invariant.step a h in
+      let e = sym before.2 ∙ nothing_there c.args.number (open_link before.0 c.loop-shared.link) (search rules) in
+      rw e (before.1, refl);
+  settled = search rules;
+  answered = search rules;
+  only_queues = search rules;
+}

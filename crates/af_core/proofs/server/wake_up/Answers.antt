@@ -1,8 +1,8 @@
 use Rattle.std.proofs.Common.{ap, refl, slice_set, ⊎_elim}
 use Rattle.af_model.specs.Turn.{mark_readable, mark_writable}
 use Rattle.af_core.specs.Stands.{kept_of}
-use Rattle.af_core.proofs.LinkPhaseLemmas.{link_here, opened_settled, flag_settled, settled_here}
-use Rattle.af_core.proofs.TurnLemmas.{opens, readies, unsticks, read_below, write_below, ready_settled, writable_settled, stays_idle, stays_stop, at_wake, wake_keeps}
+use Rattle.af_core.proofs.LinkPhaseLemmas.{link_here, opened_settled}
+use Rattle.af_core.proofs.TurnLemmas.{flag_keeps, opens, readies, unsticks, read_below, write_below, ready_settled, writable_settled, stays_idle, stays_stop, at_wake, wake_keeps}
 use Rattle.af_core.proofs.server.wake_up.Goals as goal
 
 pub returns-in-Opened-clause-simulates : goal.returns-in-Opened-clause-simulates
@@ -29,14 +29,10 @@ returns-in-Opened-clause-kept g c =
 
 pub returns-in-Readable-clause-kept : goal.returns-in-Readable-clause-kept
 returns-in-Readable-clause-kept g c =
-    let k = c.in-Readable.number in
-    let low = read_below _ k c.args.slots.now c.args.wake c.in-Readable.is c.requires.fits in
-    wake_keeps c.args.shared.now c.args.slots.now k _ (returns-in-Readable-clause-simulates g c) c.requires.kept
-    (flag_settled mark_readable _ _ _ (ready_settled _) (settled_here _ c.args.slots.now k k _ _ c.requires.kept.orderly.settled refl refl low) c.set_ready.ensures)
+    flag_keeps mark_readable c.args.shared.now c.args.slots.now c.in-Readable.number _ _ _ (returns-in-Readable-clause-simulates g c) c.requires.kept (ready_settled _) refl
+    (read_below _ _ c.args.slots.now c.args.wake c.in-Readable.is c.requires.fits) c.set_ready.ensures
 
 pub returns-in-Writable-clause-kept : goal.returns-in-Writable-clause-kept
 returns-in-Writable-clause-kept g c =
-    let k = c.in-Writable.number in
-    let low = write_below _ k c.args.slots.now c.args.wake c.in-Writable.is c.requires.fits in
-    wake_keeps c.args.shared.now c.args.slots.now k _ (returns-in-Writable-clause-simulates g c) c.requires.kept
-    (flag_settled mark_writable _ _ _ (writable_settled _) (settled_here _ c.args.slots.now k k _ _ c.requires.kept.orderly.settled refl refl low) c.set_writable.ensures)
+    flag_keeps mark_writable c.args.shared.now c.args.slots.now c.in-Writable.number _ _ _ (returns-in-Writable-clause-simulates g c) c.requires.kept (writable_settled _) refl
+    (write_below _ _ c.args.slots.now c.args.wake c.in-Writable.is c.requires.fits) c.set_writable.ensures

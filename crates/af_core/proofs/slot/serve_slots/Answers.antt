@@ -33,7 +33,6 @@ loop-number-init g c =
 pub loop-number-preserved : goal.loop-number-preserved
 loop-number-preserved g c =
     let h = c.loop-number.invariant in
-    let kept = h.kept in
     let k = c.loop-number.number in
     let from = h.from in
     let same = h.same in
@@ -45,9 +44,9 @@ loop-number-preserved g c =
     record {
       leads = g.met.W.World.leads_on _ _ _ h.leads c.serve.ensures.leads;
       kept = record {
-        links = length-set c.loop-number.slots k c.serve.new.self ∙ kept.links;
-        settled = settled_set c.loop-number.shared.waits _ c.loop-number.slots k _ kept.settled c.serve.ensures.leaves_others.others c.serve.ensures.settled;
-        later = c.serve.ensures.leaves_others.later kept.later;
+        links = length-set c.loop-number.slots k c.serve.new.self ∙ h.kept.links;
+        settled = settled_set c.loop-number.shared.waits _ c.loop-number.slots k _ h.kept.settled c.serve.ensures.leaves_others.others c.serve.ensures.settled;
+        later = c.serve.ensures.leaves_others.later h.kept.later;
       };
       from = omega (arith, from);
       same = elim c.if-wants_turn.branch [

@@ -7,7 +7,8 @@ use Rattle.std.proofs.lemmas.List.Elements.{All-nil, All-cons}
 use Rattle.af_sample.specs.declared.sample_type.SampleType.{SampleType}
 use Rattle.af_sample.specs.Rates.{is_listed_rate, IsListedRate}
 use Rattle.af_sample.specs.Channels.{IsChannelCount}
-use Rattle.af_phone.specs.Lines.{is_digit}
+use Rattle.af_phone.specs.Lines.{is_change, is_digit}
+use Rattle.af_phone.specs.declared.line.LineChange.{LineChange}
 use Rattle.af_phone.specs.declared.line.LineChange.TheVariants as change
 use Rattle.af_world.specs.declared.script.DeviceSpec.{DeviceSpec}
 use Rattle.af_world.specs.declared.script.Step.{Step}
@@ -19,7 +20,7 @@ use Rattle.hex.specs.Hex.{decode_of}
 use Rattle.af_script.specs.declared.statement.LineKind.{LineKind}
 use Rattle.af_script.specs.declared.statement.LineKind.TheVariants as kind
 use Rattle.af_script.specs.Words.{number_of, number_within, only_if, then_some, bytes_within}
-use Rattle.af_script.specs.Statement.{last_link, line_kind_of, is_device_kind, type_of, rate_of, channels_stated, after_channels, line_stated, device_at, device_with, device_of, link_of, device_number, line_number, switch_of, digit_of, with_number, with_value, room_stated, capture_of, tick_of, idle_of, step_of_kind, step_of, is_device_line}
+use Rattle.af_script.specs.Statement.{last_link, line_kind_of, is_device_kind, type_of, rate_of, channels_stated, after_channels, line_stated, device_at, device_with, device_of, link_of, device_number, line_number, switch_of, digit_of, change_of, line_step_of, with_number, with_value, room_stated, capture_of, tick_of, idle_of, step_of_kind, step_of, is_device_line}
 use Rattle.af_script.specs.Script.{StatedScript, ScriptLine, most_devices, device_lines, with_first, each_says, first_number, with_steps, with_config, script_by, script_of, entries}
 use Rattle.af_script.specs.Lines.{lines}
 
@@ -182,6 +183,17 @@ digit_from (c ∷ []) code e =
     let b = only_if_from is_digit c code e in
     subst (λ k. IsTrue (is_digit k)) b.1 b.0
 
+change_from : (k : LineKind) (word : List ℕ) (c : LineChange) → change_of k word ≡ Some c → IsTrue (is_change c)
+change_from kind.Ring word c e = let a = map_from change.Ring (switch_of word) c e in subst (λ x. IsTrue (is_change x)) a.2 refl
+change_from kind.Loop word c e = let a = map_from change.Current (switch_of word) c e in subst (λ x. IsTrue (is_change x)) a.2 refl
+change_from kind.Digit word c e = let a = map_from change.Digit (digit_of word) c e in subst (λ x. IsTrue (is_change x)) a.2 (digit_from word a.0 a.1)
+change_from _ word c e = cc e
+
+line_step_from : (k : LineKind) (config : List DeviceSpec) (arguments : List (List ℕ)) (s : Step) → line_step_of k config arguments ≡ Some s → IsStep config s
+line_step_from k config arguments s e =
+    with_value_from (line_number config) (change_of k) step.Line config arguments s
+    (λ device word d c is_line is_change. (line_number_from config device d is_line, change_from k word c is_change)) e
+
 idle_from : (config : List DeviceSpec) (arguments : List (List ℕ)) (s : Step) → idle_of arguments ≡ Some s → IsStep config s
 idle_from config [] s e = subst (IsStep config) (some_same e) tt
 idle_from config (w ∷ ws) s e = cc e
@@ -197,13 +209,9 @@ step_by_kind config (Some kind.End) arguments s e = with_number_from link_of ste
 step_by_kind config (Some kind.Room) arguments s e =
     with_value_from link_of room_stated step.Room config arguments s (λ link room k n is_link is_room. (link_from link k is_link, room_stated_from room n is_room)) e
 step_by_kind config (Some kind.Tick) arguments s e = tick_from config arguments s e
-step_by_kind config (Some kind.Ring) arguments s e =
-    with_value_from (line_number config) switch_of (λ d b. step.Line d (change.Ring b)) config arguments s (λ device on d b is_line is_on. (line_number_from config device d is_line, refl)) e
-step_by_kind config (Some kind.Loop) arguments s e =
-    with_value_from (line_number config) switch_of (λ d b. step.Line d (change.Current b)) config arguments s (λ device on d b is_line is_on. (line_number_from config device d is_line, refl)) e
-step_by_kind config (Some kind.Digit) arguments s e =
-    with_value_from (line_number config) digit_of (λ d c. step.Line d (change.Digit c)) config arguments s
-    (λ device digit d c is_line is_digit. (line_number_from config device d is_line, digit_from digit c is_digit)) e
+step_by_kind config (Some kind.Ring) arguments s e = line_step_from kind.Ring config arguments s e
+step_by_kind config (Some kind.Loop) arguments s e = line_step_from kind.Loop config arguments s e
+step_by_kind config (Some kind.Digit) arguments s e = line_step_from kind.Digit config arguments s e
 step_by_kind config (Some kind.FailRead) arguments s e = with_number_from link_of step.FailRead config arguments s link_from e
 step_by_kind config (Some kind.FailWrite) arguments s e = with_number_from link_of step.FailWrite config arguments s link_from e
 step_by_kind config (Some kind.FailCapture) arguments s e = with_number_from (device_number config) step.FailCapture config arguments s (device_number_from config) e

@@ -108,27 +108,23 @@ device_number config word = option_and_then (only_if (λ d. nat_lt d (length con
 abbrev pub line_number : List DeviceSpec → List ℕ → Option ℕ
 line_number config word = option_and_then (only_if (spec_has_line config)) (device_number config word)
 
--- a step of a number alone, as that of a link or of a device, by the words that follow its name
+-- the number that a line states alone, as that of a link or of a device, by the words that follow its name
+abbrev pub number_alone : (List ℕ → Option ℕ) → List (List ℕ) → Option ℕ
+number_alone number_in (number ∷ []) = number_in number
+number_alone number_in _ = None
+
+-- a step of such a number
 abbrev pub with_number : (List ℕ → Option ℕ) → (ℕ → Step) → List (List ℕ) → Option Step
-with_number number_in step (number ∷ []) = option_map step (number_in number)
-with_number number_in step _ = None
+with_number number_in step arguments = option_map step (number_alone number_in arguments)
 
 -- a step of a number and a value, by the words that follow its name
 abbrev pub with_value : {X : Type 0} → (List ℕ → Option ℕ) → (List ℕ → Option X) → (ℕ → X → Step) → List (List ℕ) → Option Step
 with_value number_in value_in step (number ∷ value ∷ []) = option_and_then (λ n. option_map (step n) (value_in value)) (number_in number)
 with_value number_in value_in step _ = None
 
--- the step of `open K`
-abbrev pub open_of : List (List ℕ) → Option Step
-open_of arguments = with_number link_of step.Open arguments
-
 -- the step of `send K HEX`
 abbrev pub send_of : List (List ℕ) → Option Step
 send_of arguments = with_value link_of (bytes_within 1 longest_send) step.Send arguments
-
--- the step of `end K`
-abbrev pub end_of : List (List ℕ) → Option Step
-end_of arguments = with_number link_of step.End arguments
 
 -- how many bytes the last word of `room K N` states that a link takes, or every byte, if it is `all`
 abbrev pub room_stated : List ℕ → Option (Option ℕ)
@@ -162,41 +158,16 @@ abbrev pub digit_of : List ℕ → Option ℕ
 digit_of (code ∷ []) = only_if is_digit code
 digit_of _ = None
 
--- a step of a device's line and of what a value changes on it, by the words that follow its name
-abbrev pub with_change : {X : Type 0} → (List ℕ → Option X) → (X → LineChange) → List DeviceSpec → List (List ℕ) → Option Step
-with_change value_in change config arguments = with_value (line_number config) value_in (λ d x. step.Line d (change x)) arguments
+-- what the last word of `ring D on`, `loop D off` or `digit D C` changes on a line
+abbrev pub change_of : LineKind → List ℕ → Option LineChange
+change_of kind.Ring word = option_map change.Ring (switch_of word)
+change_of kind.Loop word = option_map change.Current (switch_of word)
+change_of kind.Digit word = option_map change.Digit (digit_of word)
+change_of _ word = None
 
--- the step of `ring D on` or `ring D off`
-abbrev pub ring_of : List DeviceSpec → List (List ℕ) → Option Step
-ring_of config arguments = with_change switch_of change.Ring config arguments
-
--- the step of `loop D on` or `loop D off`
-abbrev pub loop_of : List DeviceSpec → List (List ℕ) → Option Step
-loop_of config arguments = with_change switch_of change.Current config arguments
-
--- the step of `digit D C`
-abbrev pub dial_of : List DeviceSpec → List (List ℕ) → Option Step
-dial_of config arguments = with_change digit_of change.Digit config arguments
-
--- the step of `failread K`
-abbrev pub fail_read_of : List (List ℕ) → Option Step
-fail_read_of arguments = with_number link_of step.FailRead arguments
-
--- the step of `failwrite K`
-abbrev pub fail_write_of : List (List ℕ) → Option Step
-fail_write_of arguments = with_number link_of step.FailWrite arguments
-
--- the step of `failcapture D`
-abbrev pub fail_capture_of : List DeviceSpec → List (List ℕ) → Option Step
-fail_capture_of config arguments = with_number (device_number config) step.FailCapture arguments
-
--- the step of `failemit D`
-abbrev pub fail_emit_of : List DeviceSpec → List (List ℕ) → Option Step
-fail_emit_of config arguments = with_number (device_number config) step.FailEmit arguments
-
--- the step of `failhook D`
-abbrev pub fail_hook_of : List DeviceSpec → List (List ℕ) → Option Step
-fail_hook_of config arguments = with_number (line_number config) step.FailHook arguments
+-- the step of such a line
+abbrev pub line_step_of : LineKind → List DeviceSpec → List (List ℕ) → Option Step
+line_step_of kind config arguments = with_value (line_number config) (change_of kind) step.Line arguments
 
 -- the step of `idle`
 abbrev pub idle_of : List (List ℕ) → Option Step
@@ -207,19 +178,19 @@ idle_of (word ∷ words) = None
 abbrev pub step_of_kind : List DeviceSpec → Option LineKind → List (List ℕ) → Option Step
 step_of_kind config None arguments = None
 step_of_kind config (Some kind.Device) arguments = None
-step_of_kind config (Some kind.Open) arguments = open_of arguments
+step_of_kind config (Some kind.Open) arguments = with_number link_of step.Open arguments
 step_of_kind config (Some kind.Send) arguments = send_of arguments
-step_of_kind config (Some kind.End) arguments = end_of arguments
+step_of_kind config (Some kind.End) arguments = with_number link_of step.End arguments
 step_of_kind config (Some kind.Room) arguments = room_of arguments
 step_of_kind config (Some kind.Tick) arguments = tick_of config arguments
-step_of_kind config (Some kind.Ring) arguments = ring_of config arguments
-step_of_kind config (Some kind.Loop) arguments = loop_of config arguments
-step_of_kind config (Some kind.Digit) arguments = dial_of config arguments
-step_of_kind config (Some kind.FailRead) arguments = fail_read_of arguments
-step_of_kind config (Some kind.FailWrite) arguments = fail_write_of arguments
-step_of_kind config (Some kind.FailCapture) arguments = fail_capture_of config arguments
-step_of_kind config (Some kind.FailEmit) arguments = fail_emit_of config arguments
-step_of_kind config (Some kind.FailHook) arguments = fail_hook_of config arguments
+step_of_kind config (Some kind.Ring) arguments = line_step_of kind.Ring config arguments
+step_of_kind config (Some kind.Loop) arguments = line_step_of kind.Loop config arguments
+step_of_kind config (Some kind.Digit) arguments = line_step_of kind.Digit config arguments
+step_of_kind config (Some kind.FailRead) arguments = with_number link_of step.FailRead arguments
+step_of_kind config (Some kind.FailWrite) arguments = with_number link_of step.FailWrite arguments
+step_of_kind config (Some kind.FailCapture) arguments = with_number (device_number config) step.FailCapture arguments
+step_of_kind config (Some kind.FailEmit) arguments = with_number (device_number config) step.FailEmit arguments
+step_of_kind config (Some kind.FailHook) arguments = with_number (line_number config) step.FailHook arguments
 step_of_kind config (Some kind.Idle) arguments = idle_of arguments
 
 -- the step that the words of a line state, with these devices

@@ -4,7 +4,7 @@ ghost use Rattle.af_limits.specs.Limits.{most_devices};
 ghost use Rattle.af_world.specs.Outside.{frame_bytes_at};
 ghost use Rattle.af_script.specs.Lines.{words};
 ghost use Rattle.af_script.specs.Words.{bytes_within};
-ghost use Rattle.af_script.specs.Statement.{line_kind_of, line_stated, device_with, device_number, line_number, link_of, switch_of, digit_of, open_of, send_of, end_of, room_stated, room_of, capture_of, tick_of, ring_of, loop_of, dial_of, fail_read_of, fail_write_of, fail_capture_of, fail_emit_of, fail_hook_of, idle_of, step_of_kind};
+ghost use Rattle.af_script.specs.Statement.{line_kind_of, line_stated, device_with, device_number, line_number, link_of, switch_of, digit_of, number_alone, with_number, send_of, room_stated, room_of, capture_of, tick_of, change_of, line_step_of, idle_of, step_of_kind};
 
 use af_io::Bytes;
 use af_limits::{LONGEST_SEND, LONGEST_TICK, MOST_LINKS};
@@ -178,12 +178,28 @@ fn bytes_between(
     }
 }
 
-/// `open K`
-fn open(arguments: &[u8]) -> Option<Step>
-    ensures { result ≡ open_of (words arguments.now) }
+/// The link that a line states alone, as `open K` does.
+fn link_alone(arguments: &[u8]) -> Option<u8>
+    ensures { result ≡ number_alone link_of (words arguments.now) }
 {
-    let link = link(one_word(arguments)?)?;
-    Some(Step::Open(link))
+    link(one_word(arguments)?)
+}
+
+/// The device that a line states alone, as `failemit D` does.
+fn device_alone(config: &[DeviceSpec], arguments: &[u8]) -> Option<u8>
+    requires { length config.now ≤ most_devices }
+    ensures { result ≡ number_alone (device_number config.now) (words arguments.now) }
+{
+    device(config, one_word(arguments)?)
+}
+
+/// `failhook D`
+fn fail_hook(config: &[DeviceSpec], arguments: &[u8]) -> Option<Step>
+    requires { length config.now ≤ most_devices }
+    ensures { result ≡ with_number (line_number config.now) Step.FailHook (words arguments.now) }
+{
+    let device = line(config, one_word(arguments)?)?;
+    Some(Step::FailHook(device))
 }
 
 /// `send K HEX`
@@ -197,14 +213,6 @@ fn send(alloc: Global, arguments: &[u8]) -> Result<Option<Step>, OutOfMemory>
         return Ok(None);
     };
     Ok(bytes_between(alloc, 1, LONGEST_SEND, second)?.map(|bytes| Step::Send(link, bytes)))
-}
-
-/// `end K`
-fn end(arguments: &[u8]) -> Option<Step>
-    ensures { result ≡ end_of (words arguments.now) }
-{
-    let link = link(one_word(arguments)?)?;
-    Some(Step::End(link))
 }
 
 /// How many bytes the last word of `room K N` states that a link takes, or every byte, which is Some(None).
@@ -289,80 +297,27 @@ fn digit(word: &[u8]) -> Option<u8>
     }
 }
 
-/// `ring D on` or `ring D off`
-fn ring(config: &[DeviceSpec], arguments: &[u8]) -> Option<Step>
+/// What the last word of a line of this kind changes on the line of a device.
+fn change(kind: LineKind, word: &[u8]) -> Option<LineChange>
+    ensures { result ≡ change_of kind word.now }
+{
+    match kind {
+        LineKind::Ring => Some(LineChange::Ring(switch(word)?)),
+        LineKind::Loop => Some(LineChange::Current(switch(word)?)),
+        LineKind::Digit => Some(LineChange::Digit(digit(word)?)),
+        _ => None,
+    }
+}
+
+/// `ring D on` or `ring D off`, `loop D on` or `loop D off`, or `digit D C`
+fn line_step(kind: LineKind, config: &[DeviceSpec], arguments: &[u8]) -> Option<Step>
     requires { length config.now ≤ most_devices }
-    ensures { result ≡ ring_of config.now (words arguments.now) }
+    ensures { result ≡ line_step_of kind config.now (words arguments.now) }
 {
     let (first, second) = two_words(arguments)?;
     let device = line(config, first)?;
-    let on = switch(second)?;
-    Some(Step::Line(device, LineChange::Ring(on)))
-}
-
-/// `loop D on` or `loop D off`
-fn current(config: &[DeviceSpec], arguments: &[u8]) -> Option<Step>
-    requires { length config.now ≤ most_devices }
-    ensures { result ≡ loop_of config.now (words arguments.now) }
-{
-    let (first, second) = two_words(arguments)?;
-    let device = line(config, first)?;
-    let on = switch(second)?;
-    Some(Step::Line(device, LineChange::Current(on)))
-}
-
-/// `digit D C`
-fn dial(config: &[DeviceSpec], arguments: &[u8]) -> Option<Step>
-    requires { length config.now ≤ most_devices }
-    ensures { result ≡ dial_of config.now (words arguments.now) }
-{
-    let (first, second) = two_words(arguments)?;
-    let device = line(config, first)?;
-    let code = digit(second)?;
-    Some(Step::Line(device, LineChange::Digit(code)))
-}
-
-/// `failread K`
-fn fail_read(arguments: &[u8]) -> Option<Step>
-    ensures { result ≡ fail_read_of (words arguments.now) }
-{
-    let link = link(one_word(arguments)?)?;
-    Some(Step::FailRead(link))
-}
-
-/// `failwrite K`
-fn fail_write(arguments: &[u8]) -> Option<Step>
-    ensures { result ≡ fail_write_of (words arguments.now) }
-{
-    let link = link(one_word(arguments)?)?;
-    Some(Step::FailWrite(link))
-}
-
-/// `failcapture D`
-fn fail_capture(config: &[DeviceSpec], arguments: &[u8]) -> Option<Step>
-    requires { length config.now ≤ most_devices }
-    ensures { result ≡ fail_capture_of config.now (words arguments.now) }
-{
-    let device = device(config, one_word(arguments)?)?;
-    Some(Step::FailCapture(device))
-}
-
-/// `failemit D`
-fn fail_emit(config: &[DeviceSpec], arguments: &[u8]) -> Option<Step>
-    requires { length config.now ≤ most_devices }
-    ensures { result ≡ fail_emit_of config.now (words arguments.now) }
-{
-    let device = device(config, one_word(arguments)?)?;
-    Some(Step::FailEmit(device))
-}
-
-/// `failhook D`
-fn fail_hook(config: &[DeviceSpec], arguments: &[u8]) -> Option<Step>
-    requires { length config.now ≤ most_devices }
-    ensures { result ≡ fail_hook_of config.now (words arguments.now) }
-{
-    let device = line(config, one_word(arguments)?)?;
-    Some(Step::FailHook(device))
+    let change = change(kind, second)?;
+    Some(Step::Line(device, change))
 }
 
 /// `idle`
@@ -387,18 +342,18 @@ pub fn step_stated(
 {
     match kind {
         LineKind::Device => Ok(None),
-        LineKind::Open => Ok(open(arguments)),
+        LineKind::Open => Ok(link_alone(arguments).map(Step::Open)),
         LineKind::Send => send(alloc, arguments),
-        LineKind::End => Ok(end(arguments)),
+        LineKind::End => Ok(link_alone(arguments).map(Step::End)),
         LineKind::Room => Ok(room(arguments)),
         LineKind::Tick => tick(alloc, config, arguments),
-        LineKind::Ring => Ok(ring(config, arguments)),
-        LineKind::Loop => Ok(current(config, arguments)),
-        LineKind::Digit => Ok(dial(config, arguments)),
-        LineKind::FailRead => Ok(fail_read(arguments)),
-        LineKind::FailWrite => Ok(fail_write(arguments)),
-        LineKind::FailCapture => Ok(fail_capture(config, arguments)),
-        LineKind::FailEmit => Ok(fail_emit(config, arguments)),
+        LineKind::Ring | LineKind::Loop | LineKind::Digit => {
+            Ok(line_step(kind, config, arguments))
+        }
+        LineKind::FailRead => Ok(link_alone(arguments).map(Step::FailRead)),
+        LineKind::FailWrite => Ok(link_alone(arguments).map(Step::FailWrite)),
+        LineKind::FailCapture => Ok(device_alone(config, arguments).map(Step::FailCapture)),
+        LineKind::FailEmit => Ok(device_alone(config, arguments).map(Step::FailEmit)),
         LineKind::FailHook => Ok(fail_hook(config, arguments)),
         LineKind::Idle => Ok(idle(arguments)),
     }

@@ -59,9 +59,10 @@ fn print_count<K: Sink>(name: &[u8], number: u128, sink: &mut K) -> Result<(), B
 fn count(log: &[Happening]) -> Tally
     ensures { result ≡ tally_of log.now }
 {
+    let (emitted, taken) = lengths(log);
     Tally {
-        emitted: emitted_length(log),
-        taken: taken_length(log),
+        emitted,
+        taken,
         closed: closes(log),
         total: emitted_sum(log),
     }
@@ -94,26 +95,18 @@ fn taken_by(happening: &Happening) -> &[u8]
     }
 }
 
-/// How many bytes devices took.
-fn emitted_length(log: &[Happening]) -> u128
-    ensures { result ≡ length (bytes_emitted log.now) }
+/// How many bytes devices took, and how many links took.
+fn lengths(log: &[Happening]) -> (u128, u128)
+    ensures emitted { result.0 ≡ length (bytes_emitted log.now) }
+    ensures taken { result.1 ≡ length (bytes_taken log.now) }
 {
-    let mut count = 0u128;
+    let mut emitted = 0u128;
+    let mut taken = 0u128;
     for happening in log {
-        count += emitted_by(happening).len() as u128;
+        emitted += emitted_by(happening).len() as u128;
+        taken += taken_by(happening).len() as u128;
     }
-    count
-}
-
-/// How many bytes links took.
-fn taken_length(log: &[Happening]) -> u128
-    ensures { result ≡ length (bytes_taken log.now) }
-{
-    let mut count = 0u128;
-    for happening in log {
-        count += taken_by(happening).len() as u128;
-    }
-    count
+    (emitted, taken)
 }
 
 /// How many links were closed.

@@ -54,12 +54,7 @@ module _ (left left' : Option (List ℕ)) (good : IsGoodText config_of longest_c
   good_read end.TooLong is cause long fault = absurd (good_is_short (long refl))
   good_read (end.ConfigFault line) is cause long fault = absurd (good_is_configuration line (fault line refl))
   good_read end.OutOfMemory is cause long fault = tt
-  good_read end.Done is cause long fault = absurd is
-  good_read end.Usage is cause long fault = absurd is
-  good_read end.ListenFault is cause long fault = absurd is
-  good_read (end.AttachFault d) is cause long fault = absurd is
-  good_read end.WaitFault is cause long fault = absurd is
-  good_read end.WaitsSpent is cause long fault = absurd is
+  good_read _ is cause long fault = absurd is
 
 -- What came before an end
 

@@ -10,7 +10,7 @@ use Rattle.af_world.specs.declared.script.DeviceSpec.{DeviceSpec}
 use Rattle.af_io.specs.Observed.{Appended, Unchanged}
 use Rattle.af_world.specs.Log.{Log}
 use Rattle.af_model.specs.State.{State, opening_state, links_of, outline, outline_with}
-use Rattle.af_model.specs.Turn.{IsTurn, fits}
+use Rattle.af_model.specs.Turn.{fits}
 use Rattle.af_model.specs.Run.{wakes}
 use Rattle.af_model.specs.More.{has_more}
 use Rattle.af_model.specs.NoLoss.{StateLosesNone}
@@ -22,46 +22,20 @@ use Rattle.af_model.proofs.NoLossLemmas.{opening_loses_none}
 use Rattle.af_io.proofs.AppendedLemmas.{appended_none, appended_on, appended_stays, stays_appended, stays_same}
 use Rattle.afd_serve.specs.declared.live.LiveEnd.{LiveEnd}
 use Rattle.afd_serve.specs.declared.live.LiveEnd.TheVariants as end
-use Rattle.afd_serve.specs.Serving.{WaitMade, HasTurn, Served, Serves, entry_of, wake_taken_as}
+use Rattle.afd_serve.specs.Serving.{WaitMade, IsTurnOf, Served, Serves, entry_of, wake_taken_as}
 use Rattle.afd_serve.specs.Ends.{IsCount, comes_to_wait, last_entry}
 use Rattle.afd_serve.specs.Rounds.{ServedUntil}
 
 -- One turn more
 
--- the turn of a wait
-pub record Turned (s : State) (wait : WaitMade) (part : Log) (next : State) : Type 0 where
-  pub asked : wait.more ≡ has_more s
-  pub goes_on : wait.wake ≢ wake.Stop
-  pub tail : Log
-  pub begins : part ≡ Woke (wake_taken_as s wait.wake) ∷ tail
-  pub only : wakes tail ≡ 0
-  pub is_turn : IsTurn s part next
-
--- it is the first turn of a log that it begins
-abbrev has_turn : (s : State) (wait : WaitMade) (part : Log) (next : State) (log rest : Log) → Turned s wait part next → log ≡ part ++ rest → HasTurn s wait log
-has_turn s wait part next log rest t whole = record {
-  asked = t.asked;
-  goes_on = t.goes_on;
-  part = part;
-  rest = rest;
-  whole = whole;
-  tail = t.tail;
-  begins = t.begins;
-  only = t.only;
-  next = next;
-  is_turn = t.is_turn;
-}
-
-serves_more : (s mid end : State) (waits : List WaitMade) (log : Log) (wait : WaitMade) (part : Log) → Serves s waits log mid → Turned mid wait part end → Serves s (waits ++ wait ∷ []) (log ++ part) end
+serves_more : (s mid end : State) (waits : List WaitMade) (log : Log) (wait : WaitMade) (part : Log) → Serves s waits log mid → IsTurnOf mid wait part end → Serves s (waits ++ wait ∷ []) (log ++ part) end
 serves_more s mid end [] log wait part h t =
-    let t' : Turned s wait part end = subst (λ m. Turned m wait part end) h.1 t in
     let whole : log ++ part ≡ part ++ [] = ap (λ l. l ++ part) h.0 ∙ sym (append-nil part) in
-    (has_turn s wait part end (log ++ part) [] t' whole, (refl, refl))
+    (record { part = part; rest = []; whole = whole; next = end; turn = subst (λ m. IsTurnOf m wait part end) h.1 t }, (refl, refl))
 serves_more s mid end (w ∷ waits) log wait part h t =
     let first = h.0 in
     let whole : log ++ part ≡ first.part ++ (first.rest ++ part) = ap (λ l. l ++ part) first.whole ∙ append_assoc first.part first.rest part in
-    let first_turn : Turned s w first.part first.next = record { asked = first.asked; goes_on = first.goes_on; tail = first.tail; begins = first.begins; only = first.only; is_turn = first.is_turn } in
-    (has_turn s w first.part first.next (log ++ part) (first.rest ++ part) first_turn whole, serves_more first.next mid end waits first.rest wait part h.1 t)
+    (record { part = first.part; rest = first.rest ++ part; whole = whole; next = first.next; turn = first.turn }, serves_more first.next mid end waits first.rest wait part h.1 t)
 
 map-more : {A B : Type 0} (f : A → B) (xs : List A) (x : A) → map f (xs ++ x ∷ []) ≡ map f xs ++ f x ∷ []
 map-more f [] x = refl
@@ -114,7 +88,7 @@ module _ (config : List DeviceSpec) where
       let wait : WaitMade = record { more = more; wake = w } in
       let from = turns.each r.state r.stands in
       let taken : wake_taken_as r.state w ≡ (if fits (outline_of kept) w then w else wake.Idle) = ap (λ o. if fits o w then w else wake.Idle) (same_outline kept r.state r.stands) in
-      let turn : Turned r.state wait turns.part from.next = record {
+      let turn : IsTurnOf r.state wait turns.part from.next = record {
         asked = asks r.state r.stands;
         goes_on = goes_on;
         tail = turns.rest;

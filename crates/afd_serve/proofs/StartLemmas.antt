@@ -135,14 +135,7 @@ devices_until end.OutOfMemory settings lifecycle lifecycle1 s = record {
   whole = ap (λ l. l ++ all_lines settings) s.whole ∙ append_assoc s.front s.rest (all_lines settings);
   appended = s.appended;
 }
-devices_until end.Done settings lifecycle lifecycle1 s = absurd s
-devices_until end.Usage settings lifecycle lifecycle1 s = absurd s
-devices_until end.ReadFault settings lifecycle lifecycle1 s = absurd s
-devices_until end.TooLong settings lifecycle lifecycle1 s = absurd s
-devices_until (end.ConfigFault line) settings lifecycle lifecycle1 s = absurd s
-devices_until end.ListenFault settings lifecycle lifecycle1 s = absurd s
-devices_until end.WaitFault settings lifecycle lifecycle1 s = absurd s
-devices_until end.WaitsSpent settings lifecycle lifecycle1 s = absurd s
+devices_until _ settings lifecycle lifecycle1 s = absurd s
 
 -- the attaches of programs of lines ended early, after those of all devices
 pub lines_until : (ended : LiveEnd) (settings : Settings) (lifecycle lifecycle1 lifecycle2 : Option (List Lifecycle)) → Appended lifecycle (all_attached settings) lifecycle1 →
@@ -159,14 +152,7 @@ lines_until end.OutOfMemory settings lifecycle lifecycle1 lifecycle2 all s = rec
   whole = ap (λ l. all_attached settings ++ l) s.whole ∙ sym (append_assoc (all_attached settings) s.front s.rest);
   appended = appended_on lifecycle lifecycle1 lifecycle2 (all_attached settings) s.front all s.appended;
 }
-lines_until end.Done settings lifecycle lifecycle1 lifecycle2 all s = absurd s
-lines_until end.Usage settings lifecycle lifecycle1 lifecycle2 all s = absurd s
-lines_until end.ReadFault settings lifecycle lifecycle1 lifecycle2 all s = absurd s
-lines_until end.TooLong settings lifecycle lifecycle1 lifecycle2 all s = absurd s
-lines_until (end.ConfigFault line) settings lifecycle lifecycle1 lifecycle2 all s = absurd s
-lines_until end.ListenFault settings lifecycle lifecycle1 lifecycle2 all s = absurd s
-lines_until end.WaitFault settings lifecycle lifecycle1 lifecycle2 all s = absurd s
-lines_until end.WaitsSpent settings lifecycle lifecycle1 lifecycle2 all s = absurd s
+lines_until _ settings lifecycle lifecycle1 lifecycle2 all s = absurd s
 
 pub lines_ended : {A : Type 0} (r : Result A LiveEnd) (settings : Settings) (lifecycle lifecycle1 lifecycle2 : Option (List Lifecycle)) → Appended lifecycle (all_attached settings) lifecycle1 →
     IfErr r (λ ended. LinesUntil ended settings lifecycle1 lifecycle2) → IfErr r (λ ended. AttachedUntil ended settings lifecycle lifecycle2)
@@ -192,11 +178,4 @@ module _ (address : List ℕ) (settings : Settings) (lifecycle lifecycle1 : Opti
     whole = ap (λ l. noted.Listened address ∷ l) s.whole;
     appended = appended_on lifecycle lifecycle1 lifecycle2 (noted.Listened address ∷ []) s.front heard s.appended;
   }
-  started_until end.Done lifecycle2 s = absurd s
-  started_until end.Usage lifecycle2 s = absurd s
-  started_until end.ReadFault lifecycle2 s = absurd s
-  started_until end.TooLong lifecycle2 s = absurd s
-  started_until (end.ConfigFault line) lifecycle2 s = absurd s
-  started_until end.ListenFault lifecycle2 s = absurd s
-  started_until end.WaitFault lifecycle2 s = absurd s
-  started_until end.WaitsSpent lifecycle2 s = absurd s
+  started_until _ lifecycle2 s = absurd s

@@ -30,19 +30,23 @@ entry_of wait = noted.Waited wait.more wait.wake
 abbrev pub wake_taken_as : State → Wake → Wake
 wake_taken_as s w = if fits (outline s) w then w else wake.Idle
 
--- The wait was asked with whether there was more to do in this state, and did not give Stop. The log begins with the one turn of
--- its wake, which leads to the next state.
-pub record HasTurn (s : State) (wait : WaitMade) (log : Log) : Type 0 where
+-- The wait was asked with whether there was more to do in this state, and did not give Stop. The part is the one turn of its
+-- wake, which leads to the next state.
+pub record IsTurnOf (s : State) (wait : WaitMade) (part : Log) (next : State) : Type 0 where
   pub asked : wait.more ≡ has_more s
   pub goes_on : wait.wake ≢ wake.Stop
-  pub part : Log
-  pub rest : Log
-  pub whole : log ≡ part ++ rest
   pub tail : Log
   pub begins : part ≡ Woke (wake_taken_as s wait.wake) ∷ tail
   pub only : wakes tail ≡ 0
-  pub next : State
   pub is_turn : IsTurn s part next
+
+-- the log begins with such a part
+pub record HasTurn (s : State) (wait : WaitMade) (log : Log) : Type 0 where
+  pub part : Log
+  pub rest : Log
+  pub whole : log ≡ part ++ rest
+  pub next : State
+  pub turn : IsTurnOf s wait part next
 
 -- each of these waits had its turn, from the first state to the last, and the log is these turns
 abbrev pub Serves : State → List WaitMade → Log → State → Type 0

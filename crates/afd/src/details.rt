@@ -16,15 +16,11 @@ pub(crate) fn tell_script<R: Read + Drop, W: Write + Drop>(
     source: &KeptSource<StdSource<R>>,
     sink: &StdSink<W>,
 ) {
-    match end {
-        ScriptEnd::Usage => tell_usage(rt, words),
-        ScriptEnd::ScriptFault { line } => {
-            if let Some(text) = source.kept() {
-                tell_script_fault(rt, text, line);
-            }
-        }
-        ScriptEnd::ReadFault => tell_reason(rt, "standard input", source.source().reason()),
-        ScriptEnd::SinkFault => tell_reason(rt, "standard output", sink.reason()),
+    match (end, source.kept()) {
+        (ScriptEnd::Usage, _) => tell_usage(rt, words),
+        (ScriptEnd::ScriptFault { line }, Some(text)) => tell_script_fault(rt, text, line),
+        (ScriptEnd::ReadFault, _) => tell_reason(rt, "standard input", source.source().reason()),
+        (ScriptEnd::SinkFault, _) => tell_reason(rt, "standard output", sink.reason()),
         _ => {}
     }
 }
@@ -38,16 +34,12 @@ pub(crate) fn tell_live<R: Read + Drop>(
     refusal: Option<ListenRefusal>,
     log: &Log<'_>,
 ) {
-    match end {
-        LiveEnd::Usage => tell_usage(rt, words),
-        LiveEnd::ConfigFault { line } => {
-            if let Some(text) = source.kept() {
-                tell_config_fault(rt, text, line);
-            }
-        }
-        LiveEnd::ReadFault => tell_reason(rt, "standard input", source.source().reason()),
-        LiveEnd::ListenFault => tell_listen(rt, words, refusal),
-        LiveEnd::AttachFault { device: _ } => tell_attach(rt, log),
+    match (end, source.kept()) {
+        (LiveEnd::Usage, _) => tell_usage(rt, words),
+        (LiveEnd::ConfigFault { line }, Some(text)) => tell_config_fault(rt, text, line),
+        (LiveEnd::ReadFault, _) => tell_reason(rt, "standard input", source.source().reason()),
+        (LiveEnd::ListenFault, _) => tell_listen(rt, words, refusal),
+        (LiveEnd::AttachFault { device: _ }, _) => tell_attach(rt, log),
         _ => {}
     }
 }

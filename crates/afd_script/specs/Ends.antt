@@ -81,12 +81,8 @@ reads end.OutOfMemory = false
 -- the ends at which something may have been written
 abbrev pub writes : ScriptEnd → Bool
 writes end.Done = true
-writes end.Usage = false
-writes end.ReadFault = false
-writes end.TooLong = false
-writes (end.ScriptFault line) = false
 writes end.SinkFault = true
-writes end.OutOfMemory = false
+writes _ = false
 
 -- What an end leaves alone: the source if the arguments ask for no script, and the sink if nothing was to be written.
 pub record ScriptLeavesAlone {S K : Type 0} (asked : Option ScriptJob) (ended : ScriptEnd) (before after : S) (sink sink' : K) : Type 0 where

@@ -1,7 +1,7 @@
 -- The exit statuses of the tools.
-use Rattle.std.specs.Prelude.{ℕ}
+use Rattle.std.specs.Prelude.{ℕ, option_map, unwrap_or}
 use Rattle.af_answer.specs.declared.end.AnswerEnd.{AnswerEnd}
-use Rattle.af_answer.specs.declared.end.AnswerEnd.TheVariants as ended
+use Rattle.af_details.specs.AnswerEnds.{as_tool_end}
 use Rattle.af_toolkit.specs.declared.end.ToolEnd.{ToolEnd}
 use Rattle.af_toolkit.specs.declared.end.ToolEnd.TheVariants as end
 
@@ -24,17 +24,6 @@ tool_status (end.ChannelMismatch from to) = 20
 tool_status (end.BadSound fault) = 21
 tool_status end.SoundCut = 22
 
--- the exit statuses of the answering machine
+-- the exit statuses of the answering machine: those of the tools, and one more
 abbrev pub answer_status : AnswerEnd → ℕ
-answer_status ended.Done = 0
-answer_status ended.Usage = 2
-answer_status ended.SinkFault = 6
-answer_status ended.OutOfMemory = 7
-answer_status ended.DialFault = 12
-answer_status ended.LinkFault = 13
-answer_status ended.LinkEnded = 14
-answer_status (ended.NoDevice devices) = 15
-answer_status (ended.Refused code value) = 17
-answer_status (ended.BadReply header first) = 18
-answer_status ended.EventFlood = 19
-answer_status (ended.NoLine device) = 23
+answer_status how = unwrap_or (option_map tool_status (as_tool_end how)) 23

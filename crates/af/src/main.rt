@@ -7,7 +7,7 @@ ghost use Rattle.af.specs.Statuses.{answer_status, tool_status};
 
 use af_answer::{AnswerEnd, answer_run, names_answer};
 use af_details::{
-    WatchedDial, WatchedSource, WatchedSpawner, tell_answer, tell_no_text, tell_tool,
+    WatchedDial, WatchedSource, WatchedSpawner, as_tool_end, tell_answer, tell_no_text, tell_tool,
 };
 use af_io::{Args, StdSink, WordsFault, open_standard_streams, program_words, wants_details};
 use af_tools::{ToolEnd, af_run};
@@ -46,22 +46,9 @@ fn status_of(end: ToolEnd) -> u8
 fn answer_status_of(end: AnswerEnd) -> u8
     ensures { result ≡ answer_status end }
 {
-    match end {
-        AnswerEnd::Done => 0,
-        AnswerEnd::Usage => 2,
-        AnswerEnd::SinkFault => 6,
-        AnswerEnd::OutOfMemory => 7,
-        AnswerEnd::DialFault => 12,
-        AnswerEnd::LinkFault => 13,
-        AnswerEnd::LinkEnded => 14,
-        AnswerEnd::NoDevice { devices: _ } => 15,
-        AnswerEnd::Refused { code: _, value: _ } => 17,
-        AnswerEnd::BadReply {
-            header: _,
-            first: _,
-        } => 18,
-        AnswerEnd::EventFlood => 19,
-        AnswerEnd::NoLine { device: _ } => 23,
+    match as_tool_end(end) {
+        Some(end) => status_of(end),
+        None => 23,
     }
 }
 
@@ -70,24 +57,6 @@ fn report_bad_reply(rt: &impl Eprint, header: [u8; 8]) -> io::Result<()> {
     let [a, b, c, d, e, f, g, h] = header;
     let head = u64::from_be_bytes([a, b, c, d, e, f, g, h]);
     eprintln!(rt; "af: bad reply {head:016x}")
-}
-
-// Says on standard error how the answering machine ended.
-fn report_answer(rt: &impl Eprint, end: AnswerEnd) -> io::Result<()> {
-    match end {
-        AnswerEnd::Done => Ok(()),
-        AnswerEnd::Usage => eprintln!(rt; "af: usage"),
-        AnswerEnd::SinkFault => eprintln!(rt; "af: write failed"),
-        AnswerEnd::OutOfMemory => eprintln!(rt; "af: out of memory"),
-        AnswerEnd::DialFault => eprintln!(rt; "af: connect failed"),
-        AnswerEnd::LinkFault => eprintln!(rt; "af: link failed"),
-        AnswerEnd::LinkEnded => eprintln!(rt; "af: link ended"),
-        AnswerEnd::NoDevice { devices } => eprintln!(rt; "af: {devices} devices"),
-        AnswerEnd::Refused { code, value } => eprintln!(rt; "af: refused {code} value {value}"),
-        AnswerEnd::BadReply { header, first: _ } => report_bad_reply(rt, header),
-        AnswerEnd::EventFlood => eprintln!(rt; "af: too many events"),
-        AnswerEnd::NoLine { device: _ } => eprintln!(rt; "af: no line"),
-    }
 }
 
 // Says on standard error how a tool ended.
@@ -110,6 +79,14 @@ fn report(rt: &impl Eprint, end: ToolEnd) -> io::Result<()> {
         ToolEnd::ChannelMismatch { from, to } => eprintln!(rt; "af: channels {from} and {to}"),
         ToolEnd::BadSound { fault: _ } => eprintln!(rt; "af: bad sound file"),
         ToolEnd::SoundCut => eprintln!(rt; "af: sound file cut"),
+    }
+}
+
+// Says on standard error how the answering machine ended.
+fn report_answer(rt: &impl Eprint, end: AnswerEnd) -> io::Result<()> {
+    match as_tool_end(end) {
+        Some(end) => report(rt, end),
+        None => eprintln!(rt; "af: no line"),
     }
 }
 

@@ -1,15 +1,38 @@
 // Details of the end of an answering machine.
+ghost use Rattle.std.specs.Prelude.{◌≡◌};
+ghost use Rattle.af_details.specs.AnswerEnds.{as_tool_end};
+
 use crate::children::WatchedSpawner;
 use crate::dial::WatchedDial;
-use crate::links::{
-    tell_bad_reply, tell_dial, tell_link, tell_no_device, tell_no_line, tell_refusal, tell_stream,
-};
+use crate::links::{tell_no_device, tell_no_line};
+use crate::tool::tell_end;
 use crate::usage::{device_in, tell_usage};
 use af_answer::AnswerEnd;
 use af_io::{Args, Reason};
+use af_toolkit::ToolEnd;
 use std::alloc::Global;
 use std::net::Net;
 use std::process::Processes;
+
+/// The end of a tool that means the same, and is told in the same words. A tool needs no line.
+pub fn as_tool_end(end: AnswerEnd) -> Option<ToolEnd>
+    ensures { result ≡ as_tool_end end }
+{
+    Some(match end {
+        AnswerEnd::Done => ToolEnd::Done,
+        AnswerEnd::Usage => ToolEnd::Usage,
+        AnswerEnd::DialFault => ToolEnd::DialFault,
+        AnswerEnd::LinkFault => ToolEnd::LinkFault,
+        AnswerEnd::LinkEnded => ToolEnd::LinkEnded,
+        AnswerEnd::NoDevice { devices } => ToolEnd::NoDevice { devices },
+        AnswerEnd::NoLine { device: _ } => return None,
+        AnswerEnd::Refused { code, value } => ToolEnd::Refused { code, value },
+        AnswerEnd::BadReply { header, first } => ToolEnd::BadReply { header, first },
+        AnswerEnd::EventFlood => ToolEnd::EventFlood,
+        AnswerEnd::SinkFault => ToolEnd::SinkFault,
+        AnswerEnd::OutOfMemory => ToolEnd::OutOfMemory,
+    })
+}
 
 /// Tells of the end of an answering machine what its line does not, and counts the calls so far.
 pub fn tell_answer<R: Net + Drop, P: Processes + Drop>(
@@ -21,27 +44,20 @@ pub fn tell_answer<R: Net + Drop, P: Processes + Drop>(
     spawner: &WatchedSpawner<P>,
     sink: Option<Reason>,
 ) {
-    match end {
-        AnswerEnd::Usage => return tell_usage(rt, alloc, words),
-        AnswerEnd::DialFault => tell_dial(rt, dial),
-        AnswerEnd::LinkFault | AnswerEnd::LinkEnded => tell_link(rt, dial),
-        AnswerEnd::Refused { code, value: _ } => tell_refusal(rt, dial, code),
-        AnswerEnd::BadReply {
-            header: _,
-            first: _,
-        } => tell_bad_reply(rt, dial),
-        AnswerEnd::SinkFault => tell_stream(rt, "standard output", sink),
-        AnswerEnd::NoDevice { devices: _ } => {
-            if let Some(talk) = &dial.first {
+    if end == AnswerEnd::Usage {
+        return tell_usage(rt, alloc, words);
+    }
+    if let Some(end) = as_tool_end(end) {
+        tell_end(rt, end, dial, None, sink);
+    }
+    if let Some(talk) = &dial.first {
+        match end {
+            AnswerEnd::NoDevice { devices: _ } => {
                 tell_no_device(rt, talk, device_in(alloc, words));
             }
+            AnswerEnd::NoLine { device } => tell_no_line(rt, talk, device),
+            _ => {}
         }
-        AnswerEnd::NoLine { device } => {
-            if let Some(talk) = &dial.first {
-                tell_no_line(rt, talk, device);
-            }
-        }
-        AnswerEnd::Done | AnswerEnd::OutOfMemory | AnswerEnd::EventFlood => {}
     }
     let calls = spawner.calls();
     let _ = eprintln!(rt; "af: {calls}");

@@ -22,7 +22,7 @@ mod tool;
 mod usage;
 mod values;
 
-pub use answer::tell_answer;
+pub use answer::{as_tool_end, tell_answer};
 pub use asked::Asked;
 pub use children::{Calls, WatchedSpawner};
 pub use dial::{WatchedDial, WatchedLink};

@@ -31,6 +31,30 @@ const ORDER: OptionRow<'static> = OptionRow {
     what: "which byte of a number comes first on the connection",
 };
 
+const TYPE: OptionRow<'static> = OptionRow {
+    name: "type",
+    values: Values::OneOf("mu255|alaw|lin16|lin32"),
+    needed: false,
+    default: "that of the device",
+    what: "the type of the samples",
+};
+
+const GAIN: OptionRow<'static> = OptionRow {
+    name: "gain",
+    values: Values::Decibels,
+    needed: false,
+    default: "0",
+    what: "decibels by which it is played louder, or softer",
+};
+
+const BLOCK: OptionRow<'static> = OptionRow {
+    name: "block",
+    values: Values::Number(1, 4000),
+    needed: false,
+    default: "1000",
+    what: "frames that one request plays",
+};
+
 static APLAY: [OptionRow<'static>; 9] = [
     DEVICE,
     OptionRow {
@@ -41,26 +65,11 @@ static APLAY: [OptionRow<'static>; 9] = [
         what: "what standard input gives: samples, or a sound file",
     },
     OptionRow {
-        name: "type",
-        values: Values::OneOf("mu255|alaw|lin16|lin32"),
-        needed: false,
-        default: "that of the device",
         what: "the type of the samples; a file says its own",
+        ..TYPE
     },
-    OptionRow {
-        name: "gain",
-        values: Values::Decibels,
-        needed: false,
-        default: "0",
-        what: "decibels by which it is played louder, or softer",
-    },
-    OptionRow {
-        name: "block",
-        values: Values::Number(1, 4000),
-        needed: false,
-        default: "1000",
-        what: "frames that one request plays",
-    },
+    GAIN,
+    BLOCK,
     OptionRow {
         name: "lead",
         values: Values::Number(0, 60000),
@@ -101,26 +110,14 @@ static ARECORD: [OptionRow<'static>; 10] = [
         default: "raw",
         what: "what is written: samples, or a sound file",
     },
+    TYPE,
     OptionRow {
-        name: "type",
-        values: Values::OneOf("mu255|alaw|lin16|lin32"),
-        needed: false,
-        default: "that of the device",
-        what: "the type of the samples",
-    },
-    OptionRow {
-        name: "gain",
-        values: Values::Decibels,
-        needed: false,
-        default: "0",
         what: "decibels by which it is recorded louder, or softer",
+        ..GAIN
     },
     OptionRow {
-        name: "block",
-        values: Values::Number(1, 4000),
-        needed: false,
-        default: "1000",
         what: "frames that one request records",
+        ..BLOCK
     },
     OptionRow {
         name: "time",
@@ -209,25 +206,16 @@ static APASS: [OptionRow<'static>; 9] = [
         what: "the device that is played to",
     },
     OptionRow {
-        name: "type",
-        values: Values::OneOf("mu255|alaw|lin16|lin32"),
-        needed: false,
         default: "that of the device that is recorded",
-        what: "the type of the samples",
+        ..TYPE
     },
     OptionRow {
-        name: "gain",
-        values: Values::Decibels,
-        needed: false,
-        default: "0",
         what: "decibels by which it is passed on louder, or softer",
+        ..GAIN
     },
     OptionRow {
-        name: "block",
-        values: Values::Number(1, 4000),
-        needed: false,
-        default: "1000",
         what: "frames of a block",
+        ..BLOCK
     },
     OptionRow {
         name: "delay",
@@ -244,11 +232,8 @@ static APASS: [OptionRow<'static>; 9] = [
         what: "milliseconds of drift before the relay resynchronises",
     },
     OptionRow {
-        name: "order",
-        values: Values::OneOf("big|little"),
-        needed: false,
-        default: "big",
         what: "which byte of a number comes first on both connections",
+        ..ORDER
     },
 ];
 
@@ -275,11 +260,8 @@ static ANSWER: [OptionRow<'static>; 5] = [
         what: "what records the message, 1 to 200 bytes for a shell",
     },
     OptionRow {
-        name: "device",
-        values: Values::Number(0, 7),
-        needed: false,
-        default: "0",
         what: "the device whose line is answered",
+        ..DEVICE
     },
     OptionRow {
         name: "rings",

@@ -14,31 +14,13 @@ pub fn tell_pair(rt: &impl Eprint, job: &PassJob, end: ToolEnd, from: &Talk, to:
     match end {
         ToolEnd::NoDevice { devices: _ } => tell_missing(rt, job, from, to),
         ToolEnd::RateMismatch { from: a, to: b } => {
-            tell_end(
-                rt,
-                from,
-                job.from_device,
-                Counted(u64::from(a), "frame"),
-                " a second",
-            );
-            tell_end(
-                rt,
-                to,
-                job.to_device,
-                Counted(u64::from(b), "frame"),
-                " a second",
-            );
+            let rates = [u64::from(a), u64::from(b)];
+            tell_both(rt, job, [from, to], rates, "frame", " a second");
             let _ = eprintln!(rt; "af: a relay does not resample: both devices must have one rate");
         }
         ToolEnd::ChannelMismatch { from: a, to: b } => {
-            tell_end(
-                rt,
-                from,
-                job.from_device,
-                Counted(u64::from(a), "channel"),
-                "",
-            );
-            tell_end(rt, to, job.to_device, Counted(u64::from(b), "channel"), "");
+            let channels = [u64::from(a), u64::from(b)];
+            tell_both(rt, job, [from, to], channels, "channel", "");
             let _ = eprintln!(rt;
                 "af: a relay does not mix channels: both devices must have as many"
             );
@@ -47,10 +29,22 @@ pub fn tell_pair(rt: &impl Eprint, job: &PassJob, end: ToolEnd, from: &Talk, to:
     }
 }
 
-// Tells the rate and the channels of one of the devices.
-fn tell_end(rt: &impl Eprint, talk: &Talk, device: u8, count: Counted<'_>, per: &str) {
-    let address = talk.address.as_str();
-    let _ = eprintln!(rt; "af: device {device} of {address} has {count}{per}");
+// Tells how many of something each of the two devices has.
+fn tell_both(
+    rt: &impl Eprint,
+    job: &PassJob,
+    talks: [&Talk; 2],
+    counts: [u64; 2],
+    word: &str,
+    per: &str,
+) {
+    let devices = [job.from_device, job.to_device];
+    for end in 0..2 {
+        let device = devices[end];
+        let address = talks[end].address.as_str();
+        let count = Counted(counts[end], word);
+        let _ = eprintln!(rt; "af: device {device} of {address} has {count}{per}");
+    }
 }
 
 // Tells which of the devices does not exist, the first one first.

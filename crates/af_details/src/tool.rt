@@ -45,8 +45,8 @@ pub fn tell_tool<R: Net + Drop, S: Read + Drop>(
     }
 }
 
-// Tells what every tool tells of an end.
-fn tell_end<R: Net + Drop>(
+/// Tells what every tool tells of an end.
+pub fn tell_end<R: Net + Drop>(
     rt: &impl Eprint,
     end: ToolEnd,
     dial: &WatchedDial<R>,

@@ -24,6 +24,15 @@ Part S D F X = S → Outcome D (X × S) F
 abbrev pub has_value : {S D F X : Type 0} → Deeds D → X → Part S D F X
 has_value deeds x s = outcome deeds.nothing (Ok (x, s))
 
+-- nothing is done, and the program ends
+abbrev pub stops : {S D F X : Type 0} → Deeds D → F → Part S D F X
+stops deeds finish s = outcome deeds.nothing (Err finish)
+
+-- a value that is there leads to a part; without it the program ends
+abbrev pub part_by : {S D F X Y : Type 0} → Deeds D → Result X F → (X → Part S D F Y) → Part S D F Y
+part_by deeds (Ok x) next = next x
+part_by deeds (Err finish) next = stops deeds finish
+
 -- a call, by what it does, its answer, and where the program stands after a value
 abbrev pub answered : {S F X : Type 0} → Result X F → S → Result (X × S) F
 answered (Ok x) s = Ok (x, s)

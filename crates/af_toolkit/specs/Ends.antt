@@ -8,7 +8,7 @@ use Rattle.af_lib.specs.declared.fault.ConnFault.{ConnFault}
 use Rattle.af_lib.specs.Calls.{ConnState}
 use Rattle.af_toolkit.specs.declared.end.ToolEnd.{ToolEnd}
 use Rattle.af_toolkit.specs.declared.end.ToolEnd.TheVariants as end
-use Rattle.af_toolkit.specs.Trace.{Trace, ClientState, done, tool_end, ends, fault_end, refused, writes_first}
+use Rattle.af_toolkit.specs.Trace.{Trace, ClientState, Finish, done, tool_end, ends, fault_end, refused, writes_first}
 
 -- the ends that come from outside: no bytes decide whether they come
 abbrev pub is_outer : ToolEnd → Bool
@@ -18,6 +18,10 @@ is_outer end.ReadFault = true
 is_outer end.SinkFault = true
 is_outer end.OutOfMemory = true
 is_outer _ = false
+
+-- a tool ended for want of a value, as is stated of it, or for something from outside
+abbrev pub EndsFor : {X : Type 0} → Result X Finish → ToolEnd → Type 0
+EndsFor wanted how = (is_outer how ≡ true) ⊎ ((finish : Finish) × (how ≡ tool_end finish) × (wanted ≡ Err finish))
 
 -- A tool ended, and sent and wrote this: all that its trace has, and it ends as the trace does; or prefixes of that, if something
 -- from outside ended it.

@@ -1,6 +1,6 @@
 -- The trace of a tool: what it sends on its link, what it writes, and why it ends, by what the link gives. A tool sends each
 -- request once it has read the reply to the one before, so a trace goes on from reply to reply.
-use Rattle.std.specs.Prelude.{ℕ, List, [], ◌∷◌, ◌++◌, length, slice_get, Result, Ok, Err}
+use Rattle.std.specs.Prelude.{ℕ, ◌==◌, if◌then◌else◌, List, [], ◌∷◌, ◌++◌, length, slice_get, ok_or, Result, Ok, Err}
 use Rattle.std.specs.declared.option.Option.{Option}
 use Rattle.std.specs.declared.option.Option.TheVariants.{None, Some}
 use Rattle.af_limits.specs.Limits.{most_events}
@@ -78,13 +78,24 @@ after_reply w =
 abbrev pub answer_on : {X : Type 0} → Asked → (Answer → Option X) → ClientState → Result X ConnFault
 answer_on asked value_of w = answer_of w.order value_of (opcode_of asked) (next_sequence w.sequence) (next_message w).found
 
--- a tool uses the device with this number, which has to exist
-abbrev pub on_device : Option DeviceInfo → ℕ → (DeviceInfo → Trace) → Trace
-on_device (Some device) devices next = next device
-on_device None devices next = ends (no_device devices)
+-- what follows a value that is there; without it the tool ends
+abbrev pub trace_by : {X : Type 0} → Result X Finish → (X → Trace) → Trace
+trace_by (Ok x) next = next x
+trace_by (Err finish) next = ends finish
+
+-- the device with this number, which has to exist
+abbrev pub device_at : ℕ → List DeviceInfo → Result DeviceInfo Finish
+device_at number devices = ok_or (slice_get devices number) (no_device (length devices))
 
 abbrev pub with_job_device : ℕ → List DeviceInfo → (DeviceInfo → Trace) → Trace
-with_job_device number devices next = on_device (slice_get devices number) (length devices) next
+with_job_device number devices next = trace_by (device_at number devices) next
+
+-- two devices, or a file and a device, have to have one rate and as many channels
+abbrev pub one_shape : (rate channels other_rate other_channels : ℕ) → Result (Unit {0}) Finish
+one_shape rate channels other_rate other_channels =
+    if rate == other_rate
+    then (if channels == other_channels then Ok tt else Err (channel_mismatch channels other_channels))
+    else Err (mismatch rate other_rate)
 
 -- a client with a byte order that has sent no request
 abbrev pub new_client : Order → RingState → List ℕ → ClientState

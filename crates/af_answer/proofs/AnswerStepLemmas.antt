@@ -69,8 +69,8 @@ pub requested_went : {L : Type 0} {left sent : L → Option (List ℕ)} {faults 
     Called left sent faults asked as_done old new result → old.cause ≡ None → GoesBy left sent old new acts acts (requests asked) (part_of result)
 unfolding requests
 requested_went {left} {sent} {faults} {old} {new} {acts} {asked} {result} called usable held =
-    exchange_went (refusal asked) (refusal_end asked) (λ w. request_bytes w.order asked) (answer_on asked as_done) after_reply acts held result (called.fresh usable)
-    (λ input told. (called.sends usable, asked_known left sent faults asked as_done old new input result called usable told))
+    exchange_went (refusal asked) (refusal_end asked) (λ w. request_bytes w.order asked) (answer_on asked as_done) after_reply acts held result (called.exchanged usable).fresh
+    (λ input told. ((called.exchanged usable).sends, asked_known left sent faults asked as_done old new input result called usable told))
 
 -- what is known of an event that was waited for
 event_known : {L : Type 0} (left sent : L → Option (List ℕ)) (faults : L → ℕ) (old new : ConnState L) (input : List ℕ) (result : Result Event ConnFault) (first : Option Event) → slice_get old.ring.events 0 ≡ first →
@@ -79,7 +79,7 @@ event_known left sent faults old new input result (Some e) is awaited usable tol
     let o = awaited.oldest usable e is in
     (input, ap (λ (c : ConnState _). left c.link) o.1 ∙ told, rw is o.0, rw is (ap (λ (c : ConnState _). client_of c input) o.1))
 event_known left sent faults old new input result None is awaited usable told = λ sound.
-    let both = told_both (left old.link) (left new.link) input _ told awaited.tells (awaited.next usable is sound) in
+    let both = told_both (left old.link) (left new.link) input _ told awaited.read.tells (awaited.next usable is sound) in
     let at = λ (ring : RingState) (rest : List ℕ). (let w : ClientState = record { order = old.order; sequence = old.sequence; ring = ring; input = rest } in w) in
     (both.0, both.1, rw is both.2.0, rw is (ap (λ (c : ConnState _). client_of c both.0) (awaited.keeps usable is) ∙ ap₂ at (sym (none_taken old.ring is)) both.2.1))
 
@@ -97,7 +97,7 @@ module _ {L : Type 0} {left sent : L → Option (List ℕ)} {faults : L → ℕ}
   handed : (result : Result Event ConnFault) → EventAwaited left sent faults old new result → old.cause ≡ None →
       Went (exchanges met_fault (λ w. []) next_event after_event) (part_of result) (stand_on left sent old acts held) (stand_on left sent new acts held)
   handed result awaited usable =
-      let none : Appended (sent old.link) [] (sent new.link) = rw awaited.sends (appended_none (sent old.link)) in
+      let none : Appended (sent old.link) [] (sent new.link) = rw awaited.read.sends (appended_none (sent old.link)) in
       exchange_went met_fault (λ f. refl) (λ w. []) next_event after_event acts held result (is_fresh result (awaited.answer usable))
       (λ input told. (
         record { whole = λ sound. none; part = record { front = []; rest = []; whole = refl; appended = none } },

@@ -27,7 +27,7 @@ use Rattle.af_lib.specs.declared.fault.ConnFault.TheVariants as fault
 use Rattle.af_lib.specs.Ring.{Gained, RingState}
 use Rattle.af_lib.specs.Incoming.{Incoming, event, other, awaited_message, incoming, after_message}
 use Rattle.af_lib.specs.Answers.{and_then, answer_to, bad_reply, value_or_bad}
-use Rattle.af_lib.specs.Observed.{BothTold}
+use Rattle.af_lib.specs.Observed.{BothTold, OnlyRead}
 
 -- a connection: its link, its byte order, the devices of the reply to its setup, the number of the last request that it sent, its
 -- ring of events, and the first fault after which it can no longer be used
@@ -220,24 +220,12 @@ pub record Called {L X : Type 0} (left sent : L → Option (List ℕ)) (faults :
   pub spent : (first : Cause) → (result ≡ Err (fault.Spent first)) ↔ (old.cause ≡ Some first)
   -- and then nothing is read or written
   pub untouched : IsSome old.cause → new ≡ old
-  -- exactly the request was sent
-  pub sends : old.cause ≡ None → Sends result (sent old.link) (request_bytes old.order asked) (sent new.link)
-  -- exactly its answer was taken
-  pub answers : old.cause ≡ None →
-      Answers old.order (answer_of old.order value_of (opcode_of asked) (next_sequence old.sequence)) result old.ring new.ring
-      (left old.link) (left new.link)
-  -- the ring gained events and nothing else, also if the link failed
-  pub gained : old.cause ≡ None → Gained old.ring new.ring
-  -- the answer is one of a connection that can still be used
-  pub fresh : old.cause ≡ None → IsFresh result
-  -- bytes that are observable stay so
-  pub tells : IsSome (left old.link) → IsSome (left new.link)
+  -- exactly the request was sent, and exactly its answer was taken
+  pub exchanged : old.cause ≡ None → Exchanged left sent faults old.order (request_bytes old.order asked)
+      (answer_of old.order value_of (opcode_of asked) (next_sequence old.sequence)) result old.link new.link old.ring new.ring
   -- the order and the devices stay, and a fault is kept
   pub keeps : old.cause ≡ None →
       new ≡ record old { link = new.link; sequence = next_sequence old.sequence; ring = new.ring; cause = cause_of result }
-  -- LinkFault only if the link's count of faults rose
-  pub failed : result ≡ Err fault.LinkFault → FaultCounted (faults old.link) (faults new.link)
-  pub count : faults old.link ≤ faults new.link
 
 -- A call that waits for an event: the oldest of the ring, or the next message if the ring is empty.
 pub record EventAwaited {L : Type 0} (left sent : L → Option (List ℕ)) (faults : L → ℕ) (old new : ConnState L)
@@ -254,16 +242,11 @@ pub record EventAwaited {L : Type 0} (left sent : L → Option (List ℕ)) (faul
       TakesFirst result (event_of old.order) old.order (left old.link) (left new.link)
   -- except for Spent, the answer is an event, LinkFault, LinkEnded or BadReply
   pub answer : old.cause ≡ None → IsOfMessage result
-  -- bytes that are observable stay so
-  pub tells : IsSome (left old.link) → IsSome (left new.link)
   -- the ring stays empty, and a fault is kept
   pub keeps : old.cause ≡ None → slice_get old.ring.events 0 ≡ None →
       new ≡ record old { link = new.link; cause = cause_of result }
-  -- nothing is sent
-  pub sends : sent new.link ≡ sent old.link
-  -- LinkFault only if the link's count of faults rose
-  pub failed : result ≡ Err fault.LinkFault → FaultCounted (faults old.link) (faults new.link)
-  pub count : faults old.link ≤ faults new.link
+  -- nothing is sent, and LinkFault is answered only if the link's count of faults rose
+  pub read : OnlyRead left sent faults (result ≡ Err fault.LinkFault) old.link new.link
 
 -- a setup was sent in a byte order, with this answer
 abbrev pub IsSetUp : {L : Type 0} → Order → (left sent : L → Option (List ℕ)) → (faults : L → ℕ) → (old new : L) → RingState →

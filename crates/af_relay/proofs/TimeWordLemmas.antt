@@ -53,14 +53,18 @@ pub called_word : {L : Type 0} {left sent : L → Option (List ℕ)} {faults : L
 called_word {left} {asked} {old} {new} {result} word c = record {
   spent = c.spent;
   untouched = c.untouched;
-  sends = c.sends;
-  answers = λ usable sound. BothTold-map (left old.link) (left new.link) _ _ (c.answers usable sound) (λ b a told. ((alike_message old.order (opcode_of asked) _).alike result word told.0, told.1, told.2));
-  gained = c.gained;
-  fresh = c.fresh;
-  tells = c.tells;
+  exchanged = λ usable.
+      let e = c.exchanged usable in
+      record {
+        sends = e.sends;
+        answers = λ sound. BothTold-map (left old.link) (left new.link) _ _ (e.answers sound) (λ b a told. ((alike_message old.order (opcode_of asked) _).alike result word told.0, told.1, told.2));
+        gained = e.gained;
+        fresh = e.fresh;
+        tells = e.tells;
+        failed = e.failed;
+        count = e.count;
+      };
   keeps = c.keeps;
-  failed = c.failed;
-  count = c.count;
 }
 
 -- a time in a reply is a word

@@ -93,7 +93,7 @@ pub asked_known : {L X : Type 0} (left sent : L → Option (List ℕ)) (faults :
     Called left sent faults asked value_of old new result → old.cause ≡ None → left old.link ≡ Some input →
     Known (answer_on asked value_of (client_of old input)) (after_reply (client_of old input)) (left new.link) (client_of new) result
 asked_known left sent faults asked value_of old new input result called usable told = λ sound.
-    let both = told_both (left old.link) (left new.link) input _ told called.tells (called.answers usable sound) in
+    let both = told_both (left old.link) (left new.link) input _ told (called.exchanged usable).tells ((called.exchanged usable).answers sound) in
     let facts = both.2 in
     let kept = called.keeps usable in
     (both.0, both.1, facts.0, wire_after old new input both.0 (ap (λ (c : ConnState _). c.order) kept) (ap (λ (c : ConnState _). c.sequence) kept) facts.1 facts.2)
@@ -155,7 +155,7 @@ module _ {L X : Type 0} {left sent : L → Option (List ℕ)} {faults : L → �
   pub call_on_link : (w : ClientState) → IsClientOf (link_sight left sent old) w → OnLink (part_answer result) (answer_on asked value_of w) (after_reply w) (request_bytes w.order asked) (link_sight left sent old) (link_sight left sent new)
   call_on_link w stands =
       subst (λ (c : ClientState). OnLink (part_answer result) (answer_on asked value_of c) (after_reply c) (request_bytes c.order asked) (link_sight left sent old) (link_sight left sent new)) (sym stands.2)
-      (on_link result _ _ _ (link_sight left sent old) (link_sight left sent new) (call.sends usable) (asked_known left sent faults asked value_of old new stands.0 result call usable stands.1))
+      (on_link result _ _ _ (link_sight left sent old) (link_sight left sent new) (call.exchanged usable).sends (asked_known left sent faults asked value_of old new stands.0 result call usable stands.1))
 
   pub asks_go : {r : Result X ToolEnd} {held : Option (List ℕ)} → r ≡ part_answer result → Goes (tooling refused) (asks asked value_of) r (tool_sight left sent old held) (tool_sight left sent new held)
   asks_go {held} same = rw same (record { came = λ w stands. asks_came asked value_of w (part_answer result) _ _ held (call_on_link w stands) })

@@ -35,11 +35,13 @@ pub record DeviceTicks (nanos from d n : ℕ) (sources : List (Option Source)) (
   pub above : (e : ℕ) → d < e → backend_at new e ≡ backend_at old e
 
 -- the same for the first device with frames due, from one on and before another
-abbrev pub AsksUpTo : ℕ → ℕ → ℕ → List (Option Source) → Option (ℕ × ℕ) → List (Option BackendState) → List (Option BackendState) → Type 0
+abbrev pub AsksUpTo : ℕ → ℕ → ℕ → List (Option Source) → Option (ℕ × ℕ) → List (Option BackendState) →
+    List (Option BackendState) → Type 0
 AsksUpTo nanos from to sources None old new = DevicesAsked nanos from (max from to) sources old new
 AsksUpTo nanos from to sources (Some (d, n)) old new = DeviceTicks nanos from d n sources old new
 
 -- The round goes on, and asks each device that it comes to.
-abbrev pub GoesOver : ℕ → RoundState → Option (ℕ × ℕ) → RoundState → List (Option BackendState) → List (Option BackendState) → Type 0
+abbrev pub GoesOver : ℕ → RoundState → Option (ℕ × ℕ) → RoundState → List (Option BackendState) → List (Option BackendState) →
+    Type 0
 GoesOver nanos before None after old new = DevicesAsked nanos before.next after.next before.sources old new
 GoesOver nanos before (Some (d, n)) after old new = DeviceTicks nanos before.next d n before.sources old new

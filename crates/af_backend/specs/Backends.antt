@@ -71,13 +71,15 @@ CapturesBy None answer into after = (answer ≡ put.Failed) × (after ≡ None)
 CapturesBy (Some (always_silent ty)) answer into after = IsSilence ty answer into × (after ≡ Some (always_silent ty))
 CapturesBy (Some (over_codec ty)) answer into after = IsSilence ty answer into × (after ≡ Some (over_codec ty))
 CapturesBy (Some (over_files f)) answer into after =
-    (input : Option (List ℕ)) × FillsRoom f.silent answer f.input into input × (after ≡ Some (over_files (record f { input = input })))
+    (input : Option (List ℕ)) × FillsRoom f.silent answer f.input into input
+    × (after ≡ Some (over_files (record f { input = input })))
 CapturesBy (Some (over_card card)) answer into after =
     (card' : CardUse) × CardCaptures answer card into card' × (after ≡ Some (over_card card'))
 
 -- a device captures from its backend, and no other device is changed
 abbrev pub CapturesAt : ℕ → Put → List ℕ → List (Option BackendState) → List (Option BackendState) → Type 0
-CapturesAt d answer into old new = (after : Option BackendState) × CapturesBy (backend_at old d) answer into after × (new ≡ slice_set old d after)
+CapturesAt d answer into old new = (after : Option BackendState) × CapturesBy (backend_at old d) answer into after
+    × (new ≡ slice_set old d after)
 
 -- Emits
 
@@ -88,7 +90,8 @@ EmitsBy None answer sound after codec codec' = (answer ≡ put.Failed) × (after
 EmitsBy (Some (always_silent ty)) answer sound after codec codec' =
     (answer ≡ put.Done) × (after ≡ Some (always_silent ty)) × (codec' ≡ codec)
 EmitsBy (Some (over_files f)) answer sound after codec codec' =
-    (output : Option (List ℕ)) × WritesOn answer f.output sound output × (after ≡ Some (over_files (record f { output = output }))) × (codec' ≡ codec)
+    (output : Option (List ℕ)) × WritesOn answer f.output sound output
+    × (after ≡ Some (over_files (record f { output = output }))) × (codec' ≡ codec)
 EmitsBy (Some (over_codec ty)) answer sound after codec codec' =
     (after ≡ Some (over_codec ty)) × CodecTakes answer sound codec codec'
 EmitsBy (Some (over_card card)) answer sound after codec codec' =

@@ -26,7 +26,8 @@ pub record CardUse : Type 0 where
   pub at : ℕ
 
 abbrev pub card_use : {P : Type 0} → (P → Option (List ToldAct)) → CardState P → CardUse
-card_use acts card = record { acts = acts card.program; between = card.between; words = card.words; pace = card.pace; at = card.at }
+card_use acts card =
+    record { acts = acts card.program; between = card.between; words = card.words; pace = card.pace; at = card.at }
 
 -- if the acts are observable, what a card promises holds of them
 abbrev pub IsFedUse : CardUse → Type 0
@@ -82,6 +83,7 @@ pub record CardCaptures (answer : Put) (before : CardUse) (into : List ℕ) (aft
 pub record CardEmits (answer : Put) (before : CardUse) (sound : List ℕ) (after : CardUse) : Type 0 where
   pub answers : answer ≡ emits before.between (length sound)
   pub failed : answer ≡ put.Failed → after ≡ before
-  pub words : answer ≡ put.Done → before.between.running ≡ None → EmitsAndStarts before.at sound before.words before.acts after.acts
+  pub words : answer ≡ put.Done → before.between.running ≡ None →
+      EmitsAndStarts before.at sound before.words before.acts after.acts
   pub fed : IsFedUse after
   pub same : KeepsOrders before after

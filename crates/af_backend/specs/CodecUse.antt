@@ -26,7 +26,14 @@ pub record CodecUse : Type 0 where
 
 -- it was just made, over a spawner with these acts
 abbrev pub begun_codec : Option (List Told) → CodecUse
-begun_codec acts = record { orders = record { restarts = 0; words = [] }; feeding = feeding_start; emitted = false; acts = acts; stage = stage.Unset }
+begun_codec acts =
+    record {
+      orders = record { restarts = 0; words = [] };
+      feeding = feeding_start;
+      emitted = false;
+      acts = acts;
+      stage = stage.Unset;
+    }
 
 -- Before its first orders it has emitted nothing. While it takes sound, it has a command line, and no emit has failed.
 abbrev pub IsInStage : CodecStage → OrdersState → Feeding → Bool → Type 0

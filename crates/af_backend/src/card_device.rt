@@ -52,7 +52,8 @@ impl<P: Program + Drop> CardDevice<P> {
         spec: &DeviceSpec,
         at: u64,
     ) -> io::Result<CardDevice<P>>
-        ensures begun { IfOk result (λ device. IsBegun orders.entry.card orders.entry.restarts (words_of orders.entry.words.now) spec.now device) }
+        ensures begun { IfOk result
+            (λ device. IsBegun orders.entry.card orders.entry.restarts (words_of orders.entry.words.now) spec.now device) }
     {
         let shape = shape_of(orders.card, spec);
         let in_range = 1 <= shape.frame_bytes && shape.frame_bytes <= 8;

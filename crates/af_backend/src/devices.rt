@@ -64,12 +64,15 @@ impl<F: Read + Write + Drop, S: Spawner + Drop, P: Program + Drop> Devices<F, S,
         programs: &mut G,
         asked: NewDevice<'_>,
     ) -> Ready
-        ensures attaches { result ≡ Ready.Done → (asked.entry.number < most_devices) × (is_attached self.old.round asked.entry.number ≡ false) }
+        ensures attaches { result ≡ Ready.Done → (asked.entry.number < most_devices)
+            × (is_attached self.old.round asked.entry.number ≡ false) }
         ensures allowed { result ≡ Ready.Done → codec_allows self.old.codec asked.entry.kind ≡ true }
         ensures done { asked.entry.number < most_devices → is_attached self.old.round asked.entry.number ≡ false →
             codec_allows self.old.codec asked.entry.kind ≡ true → may_be_refused asked.entry.kind ≡ false → result ≡ Ready.Done }
-        ensures round { self.new.round ≡ round_after result asked.entry.kind self.old.round asked.entry.number asked.entry.spec.now.rate }
-        ensures attached { AttachesAt result asked.entry.kind asked.entry.number asked.entry.spec.now self.old.attached self.new.attached }
+        ensures round { self.new.round
+            ≡ round_after result asked.entry.kind self.old.round asked.entry.number asked.entry.spec.now.rate }
+        ensures attached { AttachesAt result asked.entry.kind asked.entry.number asked.entry.spec.now self.old.attached
+            self.new.attached }
         ensures codec { self.new.codec ≡ codec_after result asked.entry.kind self.old.codec }
     {
         let place = asked.number as usize;

@@ -43,7 +43,8 @@ impl Model for Round {
 
     ghost view = { λ r. record { sources = r.sources; next = r.next; ticked = r.ticked; reading = r.reading; last = r.last } };
 
-    ghost invariant = { λ r. (r.end ≤ most_devices) × NoneFrom r.end r.sources × IfSome r.settled (λ nanos. IsSettled nanos r.sources)
+    ghost invariant = { λ r. (r.end ≤ most_devices) × NoneFrom r.end r.sources
+        × IfSome r.settled (λ nanos. IsSettled nanos r.sources)
         × (r.has_programs ≡ false → NoneByProgram r.sources) };
 }
 

@@ -39,7 +39,8 @@ sample_at b t channel =
 -- the samples of n frames from a word on
 abbrev pub samples_from : RecordWindow → ℕ → ℕ → List ℤ
 samples_from b start n =
-    map (λ j. sample_at b (unwrap (whole_time b.time) start + j / b.channels) (j % b.channels)) (range_with_len 0 (b.channels * n))
+    map (λ j. sample_at b (unwrap (whole_time b.time) start + j / b.channels) (j % b.channels))
+    (range_with_len 0 (b.channels * n))
 
 -- the place of a buffer's first sample, as cells are numbered
 abbrev pub first_place : RecordWindow → ℕ

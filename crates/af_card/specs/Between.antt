@@ -224,7 +224,8 @@ takes_nothing kind.Card running at = not running.is_closed && is_stalled running
 
 abbrev pub running_after_look : Option Running → CardKind → ℕ → Option Running
 running_after_look None k at = None
-running_after_look (Some running) k at = if takes_nothing k running at then Some (record running { is_over = true }) else Some running
+running_after_look (Some running) k at = if takes_nothing k running at then Some (record running { is_over = true })
+    else Some running
 
 -- what is captured: if the program gives sound, what it gave first, and else silence
 abbrev pub captured_of : Option Running → BetweenState → ℕ → List ℕ

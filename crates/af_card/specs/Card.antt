@@ -59,28 +59,33 @@ pub record SameOrders {P : Type 0} (before after : CardState P) : Type 0 where
 -- and the pace begins again at that moment.
 abbrev pub DueByProgram : ℕ → ℕ → BetweenState → PaceState → PaceState → Type 0
 DueByProgram at frames after pace pace' =
-    MatchOption after.running ((frames ≡ 0) × (pace' ≡ after_due (new_pace after.shape.rate) at)) (λ running. (frames ≡ frames_of after) × (pace' ≡ pace))
+    MatchOption after.running ((frames ≡ 0) × (pace' ≡ after_due (new_pace after.shape.rate) at))
+    (λ running. (frames ≡ frames_of after) × (pace' ≡ pace))
 
 -- By the clock, if no program runs: those of the pace. If none is due, a start is tried, if one may come.
 pub record DueByClock (at frames : ℕ) (before after : BetweenState) (pace pace' : PaceState) : Type 0 where
   pub due : frames ≡ due_at pace at
   pub paced : pace' ≡ after_due pace at
-  pub tried : after.starts.tried ≡ (if (frames == 0) && may_come before.starts at then before.starts.tried + 1 else before.starts.tried)
+  pub tried : after.starts.tried
+      ≡ (if (frames == 0) && may_come before.starts at then before.starts.tried + 1 else before.starts.tried)
   pub begins : after.running ≢ None → frames ≡ 0
 
 -- A start is tried as the sound of a tick is emitted, if no program runs, one may come, and by the clock no more frames are due.
 -- A busy server finds no other moment.
 abbrev pub begins_now : {P : Type 0} → CardState P → Bool
-begins_now card = is_none card.between.running && may_come card.between.starts card.at && not (nat_lt 0 (due_at card.pace card.at))
+begins_now card = is_none card.between.running && may_come card.between.starts card.at
+    && not (nat_lt 0 (due_at card.pace card.at))
 
 -- If no program runs, nothing happens to it but one start, by this command line.
 abbrev pub StartsOnly : ℕ → List (List ℕ) → Option (List ToldAct) → Option (List ToldAct) → Type 0
-StartsOnly at words before after = Unchanged before after ⊎ ((came : Launched) × Appended before (launched at words came ∷ []) after)
+StartsOnly at words before after = Unchanged before after
+    ⊎ ((came : Launched) × Appended before (launched at words came ∷ []) after)
 
 -- the same after the sound of a tick is emitted
 abbrev pub EmitsAndStarts : ℕ → List ℕ → List (List ℕ) → Option (List ToldAct) → Option (List ToldAct) → Type 0
 EmitsAndStarts at sound words before after =
-    Appended before (emitted sound ∷ []) after ⊎ ((came : Launched) × Appended before (emitted sound ∷ launched at words came ∷ []) after)
+    Appended before (emitted sound ∷ []) after
+    ⊎ ((came : Launched) × Appended before (emitted sound ∷ launched at words came ∷ []) after)
 
 -- No frame is due between the two calls of a tick.
 abbrev pub DueOf : Option ℕ → Option Running → ℕ → ℕ → BetweenState → BetweenState → PaceState → PaceState → Type 0

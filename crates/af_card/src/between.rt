@@ -62,7 +62,8 @@ impl Model for Between {
       lost = b.lost;
     } };
 
-    ghost invariant = { λ b. (vec_len b.room ≡ longest_capture) × (1 ≤ b.shape.frame_bytes) × (b.shape.frame_bytes ≤ 8) × (b.starts.restarts ≤ most_card_restarts) × (b.starts.wait ≤ longest_wait) };
+    ghost invariant = { λ b. (vec_len b.room ≡ longest_capture) × (1 ≤ b.shape.frame_bytes) × (b.shape.frame_bytes ≤ 8)
+        × (b.starts.restarts ≤ most_card_restarts) × (b.starts.wait ≤ longest_wait) };
 }
 
 impl Between {

@@ -100,8 +100,10 @@ impl<P: Program + Drop> Card<P> {
     /// The frames of the tick that is due at a moment, at most 4096, or none.
     pub fn due(&mut self, at: u64) -> u32
         ensures most { result ≤ longest_tick }
-        ensures words { self.old.between.running ≡ None → StartsOnly at self.old.words (P.acts self.old.program) (P.acts self.new.program) }
-        ensures due { DueOf self.old.between.tick self.old.between.running at result self.old.between self.new.between self.old.pace self.new.pace }
+        ensures words { self.old.between.running ≡ None →
+            StartsOnly at self.old.words (P.acts self.old.program) (P.acts self.new.program) }
+        ensures due { DueOf self.old.between.tick self.old.between.running at result self.old.between self.new.between
+            self.old.pace self.new.pace }
         ensures fed { IsFedWhereTold P.acts self.new }
         ensures same { SameOrders self.old self.new }
         ensures now { self.new.at ≡ at }
@@ -151,7 +153,9 @@ impl<P: Program + Drop> Card<P> {
         ensures failed { result ≡ Put.Failed → self.new ≡ self.old }
         ensures words { result ≡ Put.Done → self.old.between.running ≡ None →
             EmitsAndStarts self.old.at sound.now self.old.words (P.acts self.old.program) (P.acts self.new.program) }
-        ensures tried { result ≡ Put.Done → self.new.between.starts.tried ≡ (if begins_now self.old then self.old.between.starts.tried + 1 else self.old.between.starts.tried) }
+        ensures tried { result ≡ Put.Done →
+            self.new.between.starts.tried
+            ≡ (if begins_now self.old then self.old.between.starts.tried + 1 else self.old.between.starts.tried) }
         ensures fed { IsFedWhereTold P.acts self.new }
         ensures same { SameOrders self.old self.new }
         ensures now { self.new.at ≡ self.old.at }

@@ -36,7 +36,8 @@ pub record IsFed (orders : OrdersState) (feeding : Feeding) (emitted : Bool) (ac
   pub runs : ChildRuns feeding.running acts
 
 -- what an emit adds to the acts, leaves fed, and answers
-pub record Feeds (orders : OrdersState) (before after : Feeding) (sound : List ℕ) (acts acts' : Option (List Told)) (put : Put) : Type 0 where
+pub record Feeds (orders : OrdersState) (before after : Feeding) (sound : List ℕ) (acts acts' : Option (List Told))
+    (put : Put) : Type 0 where
   pub answers : CallAnswers
   pub told : Appended acts (emit_acts orders before sound answers) acts'
   pub feeding : after ≡ feeding_after orders before answers

@@ -88,7 +88,9 @@ feeding_after orders f answers = after_give orders.restarts (after_start orders.
 -- the acts of an emit: the sound, and the calls that are made for it
 abbrev pub emit_acts : OrdersState → Feeding → List ℕ → CallAnswers → List Told
 emit_acts orders f sound answers =
-    noted sound ∷ (start_acts orders.words f answers.start ++ give_acts (after_start orders.restarts f answers.start) sound answers.give answers.finish)
+    noted sound
+    ∷ (start_acts orders.words f answers.start
+    ++ give_acts (after_start orders.restarts f answers.start) sound answers.give answers.finish)
 
 -- the answer of an emit: Failed if its start or its give failed and no start is left
 abbrev pub put_of : Feeding → Put
@@ -103,7 +105,8 @@ fed_after orders f (emit ∷ emits) = if f.failed then f else fed_after orders (
 abbrev pub acts_of : OrdersState → Feeding → List Emit → List Told
 acts_of orders f [] = []
 acts_of orders f (emit ∷ emits) =
-    if f.failed then [] else (emit_acts orders f emit.sound emit.answers ++ acts_of orders (feeding_after orders f emit.answers) emits)
+    if f.failed then []
+    else (emit_acts orders f emit.sound emit.answers ++ acts_of orders (feeding_after orders f emit.answers) emits)
 
 -- the sounds that were emitted
 abbrev pub sounds_of : List Emit → List (List ℕ)
@@ -134,5 +137,6 @@ abbrev pub fed_runs : OrdersState → Feeding → List Emit → List (List (List
 fed_runs orders f [] = []
 fed_runs orders f (emit ∷ emits) =
     if f.failed then []
-    else (run_of_start_for f.running emit.answers.start (emit.sound ∷ rest_of_run orders (feeding_after orders f emit.answers) emits)
+    else (run_of_start_for f.running emit.answers.start
+    (emit.sound ∷ rest_of_run orders (feeding_after orders f emit.answers) emits)
     ++ fed_runs orders (feeding_after orders f emit.answers) emits)

@@ -6,7 +6,8 @@ use Rattle.af_process.specs.Acts.{Told, noted, began, given, finished}
 -- these are contiguous parts of a list, in its order, and no two overlap
 abbrev pub ArePartsInOrder : {A : Type 0} → List (List A) → List A → Type 0
 ArePartsInOrder [] xs = ⊤
-ArePartsInOrder {A} (part ∷ parts) xs = (before : List A) × (after : List A) × (xs ≡ before ++ (part ++ after)) × ArePartsInOrder parts after
+ArePartsInOrder {A} (part ∷ parts) xs = (before : List A) × (after : List A) × (xs ≡ before ++ (part ++ after))
+    × ArePartsInOrder parts after
 
 -- the sounds that were noted
 abbrev pub sounds_told : List Told → List (List ℕ)

@@ -40,7 +40,13 @@ impl<S: Spawner + Drop> Codec<S> {
     /// A codec that was given no orders, over a spawner that tells of no act.
     pub fn new(alloc: Global, spawner: S) -> Codec<S>
         requires { TellsThese [] (S.acts spawner) }
-        ensures { result ≡ record { spawner = spawner; orders = record { restarts = 0; words = [] }; feeding = feeding_start; emitted = false } }
+        ensures { result
+            ≡ record {
+              spawner = spawner;
+              orders = record { restarts = 0; words = [] };
+              feeding = feeding_start;
+              emitted = false;
+            } }
     {
         Codec {
             alloc,
@@ -66,7 +72,8 @@ impl<S: Spawner + Drop> Codec<S> {
         requires set { 1 ≤ length self.old.orders.words }
         requires some { 0 < length sound.now }
         requires live { self.old.feeding.failed ≡ false }
-        ensures feeds { Feeds self.old.orders self.old.feeding self.new.feeding sound.now (S.acts self.old.spawner) (S.acts self.new.spawner) result }
+        ensures feeds { Feeds self.old.orders self.old.feeding self.new.feeding sound.now (S.acts self.old.spawner)
+            (S.acts self.new.spawner) result }
         ensures all { IsFed self.new.orders self.new.feeding true (S.acts self.new.spawner) }
         ensures once { IfSome (S.acts self.new.spawner) (λ acts. FeedsOnce self.new.orders.restarts acts) }
         ensures starts { self.new.feeding.starts ≤ self.new.orders.restarts + 1 }

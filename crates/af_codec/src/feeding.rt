@@ -63,7 +63,8 @@ impl Feeding {
         ensures gives { Gives orders.now self.old self.new sound.now (S.acts spawner.old) (S.acts spawner.new) }
         ensures runs { ChildRuns self.new.running (S.acts spawner.new) }
         ensures count { S.faults spawner.old ≤ S.faults spawner.new }
-        ensures cause { self.old.failed ≡ false → self.new.failed ≡ true → FaultCounted (S.faults spawner.old) (S.faults spawner.new) }
+        ensures cause { self.old.failed ≡ false → self.new.failed ≡ true →
+            FaultCounted (S.faults spawner.old) (S.faults spawner.new) }
     {
         let Some(child) = self.running else {
             return;

@@ -16,6 +16,7 @@ pub fn no_start_beyond_the_restarts()
 
 /// The pieces that each child is given are its run. The last of them may have been given only in part.
 pub fn each_child_is_given_its_run()
-    ensures runs { (orders : OrdersState) (emits : List Emit) → runs_told (acts_of orders feeding_start emits) ≡ fed_runs orders feeding_start emits }
+    ensures runs { (orders : OrdersState) (emits : List Emit) →
+        runs_told (acts_of orders feeding_start emits) ≡ fed_runs orders feeding_start emits }
     ensures once { (orders : OrdersState) (emits : List Emit) → FeedsOnce orders.restarts (acts_of orders feeding_start emits) }
 {}

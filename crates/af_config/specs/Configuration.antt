@@ -35,7 +35,8 @@ placed_after has line = if has && states_codec line then None else placed_of lin
 abbrev pub placed_within : ℕ → Bool → List (Entry (List ℕ)) → Result (List Configured) ℕ
 placed_within most has [] = Ok []
 placed_within zero has (e ∷ es) = Err e.number
-placed_within (suc most) has (e ∷ es) = with_first e.number (placed_after has e.said) (placed_within most (has || states_codec e.said) es)
+placed_within (suc most) has (e ∷ es) =
+    with_first e.number (placed_after has e.said) (placed_within most (has || states_codec e.said) es)
 
 -- the lines before the first phone line: they state devices
 abbrev pub device_lines : List (Entry (List ℕ)) → List (Entry (List ℕ))
@@ -54,12 +55,14 @@ stated_program line = option_to_list (line_program_of (words line))
 -- the program that a line states, which has to be text; its device has a telephone line, and no program so far
 abbrev pub program_after : List DeviceSpec → List LineProgram → List ℕ → Option LineProgram
 program_after config before line =
-    if is_utf8 line then option_and_then (only_if (λ program. has_free_line config before program.device)) (line_program_of (words line)) else None
+    if is_utf8 line then option_and_then (only_if (λ program. has_free_line config before program.device))
+    (line_program_of (words line)) else None
 
 -- the programs of these lines for these devices, after these programs of earlier lines
 abbrev pub programs_within : List DeviceSpec → List LineProgram → List (Entry (List ℕ)) → Result (List LineProgram) ℕ
 programs_within config before [] = Ok []
-programs_within config before (e ∷ es) = with_first e.number (program_after config before e.said) (programs_within config (before ++ stated_program e.said) es)
+programs_within config before (e ∷ es) =
+    with_first e.number (program_after config before e.said) (programs_within config (before ++ stated_program e.said) es)
 
 -- the configuration of these devices, with these programs of their telephone lines
 abbrev pub settings_with : List DeviceSpec → List ToldKind → Result (List LineProgram) ℕ → Result Settings ℕ

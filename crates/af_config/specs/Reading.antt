@@ -44,7 +44,8 @@ lacks_configured s = is_nil s.config
 -- how many of these devices have one of these programs; the first of the devices has this number
 abbrev pub programmed_count : List LineProgram → ℕ → List DeviceSpec → ℕ
 programmed_count programs number [] = 0
-programmed_count programs number (device ∷ devices) = (if has_program programs number then 1 else 0) + programmed_count programs (suc number) devices
+programmed_count programs number (device ∷ devices) =
+    (if has_program programs number then 1 else 0) + programmed_count programs (suc number) devices
 
 -- There are no more devices than allowed, of listed rates and of one or two channels, and as many kinds. Each program is of a
 -- device with a telephone line, and no two are of one.

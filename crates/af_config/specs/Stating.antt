@@ -68,7 +68,8 @@ is_command_line words = nat_le 1 (length words) && nat_le (length words) 8 && ar
 -- how often a program is started again, at most so many times, and its command line
 abbrev pub program_of : {A : Type 0} → (ℕ → List (List ℕ) → A) → ℕ → List (List ℕ) → Option A
 program_of made most [] = None
-program_of made most (restarts ∷ words) = option_and_then (λ n. option_map (made n) (only_if is_command_line words)) (number_within 0 most restarts)
+program_of made most (restarts ∷ words) =
+    option_and_then (λ n. option_map (made n) (only_if is_command_line words)) (number_within 0 most restarts)
 
 -- they come after `codec`
 abbrev pub codec_of : List (List ℕ) → Option ToldKind
@@ -113,7 +114,11 @@ placed_at device ending = record { spec = record device { line = ending.line }; 
 -- backend; the words are those after `device`
 abbrev pub configured_with : List (List ℕ) → Option Configured
 configured_with (ty ∷ rate ∷ start ∷ rest) =
-    option_and_then (λ t. option_and_then (λ r. option_and_then (λ s. option_map (placed_at (configured_at t r s (channels_stated rest))) (ending_of (after_channels rest))) (number_within 0 (2 ^ 32 - 1) start)) (rate_of rate)) (type_of ty)
+    option_and_then
+    (λ t. option_and_then
+    (λ r. option_and_then
+    (λ s. option_map (placed_at (configured_at t r s (channels_stated rest))) (ending_of (after_channels rest)))
+    (number_within 0 (2 ^ 32 - 1) start)) (rate_of rate)) (type_of ty)
 configured_with _ = None
 
 -- the device that the words of a line state
@@ -130,7 +135,8 @@ line_program device restarts words = record { device = device; restarts = restar
 -- the program of `DEVICE RESTARTS WORD ..`
 abbrev pub line_program_with : List (List ℕ) → Option LineProgram
 line_program_with [] = None
-line_program_with (device ∷ words) = option_and_then (λ d. program_of (line_program d) most_card_restarts words) (number_within 0 (most_devices - 1) device)
+line_program_with (device ∷ words) =
+    option_and_then (λ d. program_of (line_program d) most_card_restarts words) (number_within 0 (most_devices - 1) device)
 
 -- whether the words of a line begin with `phone`
 abbrev pub is_phone_line : List (List ℕ) → Bool

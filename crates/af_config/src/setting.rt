@@ -37,7 +37,8 @@ impl Model for Setting {
       phones = map owned_program s.phones.items;
     } };
 
-    ghost invariant = { λ s. (length s.kinds.items ≡ length s.config.items) × (s.is_codec_stated ≡ has_codec (map told_owned_kind s.kinds.items)) };
+    ghost invariant = { λ s. (length s.kinds.items ≡ length s.config.items)
+        × (s.is_codec_stated ≡ has_codec (map told_owned_kind s.kinds.items)) };
 }
 
 impl Setting {

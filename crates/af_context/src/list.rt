@@ -48,7 +48,8 @@ impl Contexts {
     pub fn create(&mut self, context: Context) -> Result<(), ContextFault>
         ensures answer { result ≡ creation self.old context.ac }
         ensures bad_id_choice { (result ≡ Err ContextFault.BadIdChoice) ↔ IsTrue (is_in_use self.old context.ac) }
-        ensures too_many { (result ≡ Err ContextFault.TooMany) ↔ ((is_in_use self.old context.ac ≡ false) × (length self.old ≡ most_contexts)) }
+        ensures too_many { (result ≡ Err ContextFault.TooMany)
+            ↔ ((is_in_use self.old context.ac ≡ false) × (length self.old ≡ most_contexts)) }
         ensures ok { IsOk result ↔ ((is_in_use self.old context.ac ≡ false) × (length self.old < most_contexts)) }
         ensures created { OnOk result (self.new ≡ self.old ++ context ∷ []) }
         ensures refused { OnErr result (self.new ≡ self.old) }

@@ -18,7 +18,8 @@ IsTick t = (1 ≤ t.frames) × (t.frames ≤ longest_tick)
 
 -- n sample periods of a device went by, in which these bytes came, or none, and this sound goes out
 pub record Passes (old new : KeptDevice) (n : ℕ) (came : Option (List ℕ)) (given : List ℕ) : Type 0 where
-  pub stands : (device : DeviceState) → StandsForDevice old device → StandsForDevice new (device_after n (captured_samples device n came) device.is_dead device)
+  pub stands : (device : DeviceState) → StandsForDevice old device →
+      StandsForDevice new (device_after n (captured_samples device n came) device.is_dead device)
   pub gives : (device : DeviceState) → StandsForDevice old device → given ≡ sound device n
 
 -- One part was added to the log: a capture of device d over n sample periods, in which these bytes came or none, and, if that was
@@ -29,9 +30,11 @@ pub record TicksLive (d n : ℕ) (old new : KeptDevice) (before after : Option L
   pub quiet : wakes part ≡ 0
   pub came : Option (List ℕ)
   pub is_dead : Bool
-  pub stands : (device : DeviceState) → StandsForDevice old device → StandsForDevice new (device_after n (captured_samples device n came) is_dead device)
+  pub stands : (device : DeviceState) → StandsForDevice old device →
+      StandsForDevice new (device_after n (captured_samples device n came) is_dead device)
   pub goes : (device : DeviceState) → StandsForDevice old device → (s : State) (more : Log) →
-      parse_then (parse_one (capture_by d n device) (part ++ more)) (after_capture d n device s) ≡ accept (tick d n (captured_samples device n came) is_dead s) more
+      parse_then (parse_one (capture_by d n device) (part ++ more)) (after_capture d n device s)
+      ≡ accept (tick d n (captured_samples device n came) is_dead s) more
 
 -- A dead device went on by silence, and nothing was added to the log. A live one made its calls.
 abbrev pub Ticks : Bool → ℕ → ℕ → KeptDevice → KeptDevice → Option Log → Option Log → Type 0

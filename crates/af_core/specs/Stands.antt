@@ -31,7 +31,8 @@ StandsForSlot e link d = StandsForSharedState e d.environment × (d.link ≡ lin
 -- without it
 abbrev pub OfFirstDue : ℕ → KeptSharedState → (Deferral → EnvironmentState → Type 0) → Type 0
 OfFirstDue device e Holds =
-    (a : EnvironmentState) (s : DeviceState) (w : Deferral) → StandsForSharedState e a → slice_get a.devices device ≡ Some s → find (falls_due device s) a.waiting ≡ Some w → Holds w (record a { waiting = without_first (falls_due device s) a.waiting })
+    (a : EnvironmentState) (s : DeviceState) (w : Deferral) → StandsForSharedState e a → slice_get a.devices device ≡ Some s →
+    find (falls_due device s) a.waiting ≡ Some w → Holds w (record a { waiting = without_first (falls_due device s) a.waiting })
 
 -- if something was taken off, what is kept now is what that leads to; else there was nothing to take
 abbrev pub AdvancesTo : Bool → Option OpenLink → KeptSharedState → LinkState → Type 0
@@ -183,7 +184,8 @@ StepsAll f kept kept' = (s : State) → StandsFor kept s → StandsFor kept' (f 
 
 -- in each state that is stood for, this holds of a device
 abbrev pub OfDevice : ℕ → Kept → (DeviceState → State → Type 0) → Type 0
-OfDevice number kept Holds = (s : State) (device : DeviceState) → StandsFor kept s → slice_get s.devices number ≡ Some device → Holds device s
+OfDevice number kept Holds = (s : State) (device : DeviceState) → StandsFor kept s → slice_get s.devices number ≡ Some device →
+    Holds device s
 
 -- There is a slot for each link number. Each open link is settled, and each deferred request waits for at least one more frame.
 pub record AreOrderly (ks : List KeptDeferral) (ls : List (Option LinkState)) : Type 0 where
@@ -210,7 +212,9 @@ StandForWaiting devices [] [] = Unit {0}
 StandForWaiting devices [] (w ∷ waiting) = ⊥
 StandForWaiting devices (k ∷ shown) [] = ⊥
 StandForWaiting devices (k ∷ shown) (w ∷ waiting) =
-    (k.link ≡ w.link) × (k.device ≡ w.device) × IsSomeAnd (slice_get devices w.device) (λ s. s.now + k.left ≡ due_time s.channels (horizon_of s) w.deferred) × StandForWaiting devices shown waiting
+    (k.link ≡ w.link) × (k.device ≡ w.device)
+    × IsSomeAnd (slice_get devices w.device) (λ s. s.now + k.left ≡ due_time s.channels (horizon_of s) w.deferred)
+    × StandForWaiting devices shown waiting
 
 -- from a state, the part is one turn, to a state that the core stands for then, and no request that was deferred has lost a
 -- sample

@@ -156,7 +156,8 @@ fn advance_once(
         length link.new.rest < longest_frame }
     ensures bounds { IsFalse result → IsBounded link.new }
     ensures only_queues { OnlyQueues number shared.old.waits shared.new.waits }
-    ensures small_pending { IsTrue result → IsTrue (has_waiting shared.new.waits number) → length link.new.pending ≤ perform_limit }
+    ensures small_pending { IsTrue result → IsTrue (has_waiting shared.new.waits number) →
+        length link.new.pending ≤ perform_limit }
 {
     if !link.takes_more(shared.waits.is_waiting(number)) {
         return false;

@@ -61,7 +61,8 @@ fn hand_part<W: Write, C: Clock>(
     deadline: &Deadline<'_, C>,
 ) -> io::Result<usize>
     ensures { MatchResult result
-        (λ count. (1 ≤ count) × (count ≤ length piece.now) × Appends (W.contents writer.old) (W.contents writer.new) (take count piece.now))
+        (λ count. (1 ≤ count) × (count ≤ length piece.now)
+        × Appends (W.contents writer.old) (W.contents writer.new) (take count piece.now))
         (λ _. Keeps (W.contents writer.old) (W.contents writer.new)) }
 {
     for _ in 0..MOST_LOOKS {

@@ -92,7 +92,8 @@ CanEnd d = (is_fault : Bool) × SaysNoMore is_fault d.left
 -- whole lines that say nothing are skipped
 abbrev pub PassesOver : List ℕ → List ℕ → Type 0
 PassesOver before after =
-    (passed : List ℕ) × (before ≡ passed ++ after) × ((changes : List LineChange) → fold after_byte (at_line changes []) passed ≡ at_line changes [])
+    (passed : List ℕ) × (before ≡ passed ++ after)
+    × ((changes : List LineChange) → fold after_byte (at_line changes []) passed ≡ at_line changes [])
 
 -- no change is left of what the running program gave, and none of its lines is malformed
 abbrev pub LeavesNone : DialogueState → Type 0

@@ -23,7 +23,8 @@ new_exchange program restarts words = record { program = program; dialogue = new
 
 abbrev pub IsToldWhereTold : {P : Type 0} → (P → Option (List ToldAct)) → ExchangeState P → Type 0
 IsToldWhereTold acts e =
-    MatchOption (acts e.program) ⊤ (λ told. IsTold e.dialogue.starts.restarts e.dialogue.off e.dialogue.left e.dialogue.owed (is_open e.dialogue.running) told)
+    MatchOption (acts e.program) ⊤
+    (λ told. IsTold e.dialogue.starts.restarts e.dialogue.off e.dialogue.left e.dialogue.owed (is_open e.dialogue.running) told)
 
 abbrev pub IsDrainedWhereTold : {P : Type 0} → (P → Option (List ToldAct)) → ExchangeState P → Type 0
 IsDrainedWhereTold acts e = MatchOption (acts e.program) ⊤ (λ told. IsDrained (ledger_of told).running)

@@ -10,12 +10,14 @@ use Rattle.af_exchange.specs.Lines.{at_line, after_byte}
 -- so many bytes are a whole line, which says this much more
 abbrev pub SaysMore : List LineChange → ℕ → List ℕ → Type 0
 SaysMore more count bytes =
-    (1 ≤ count) × (count ≤ length bytes) × ((changes : List LineChange) → fold after_byte (at_line changes []) (take count bytes) ≡ at_line (changes ++ more) [])
+    (1 ≤ count) × (count ≤ length bytes)
+    × ((changes : List LineChange) → fold after_byte (at_line changes []) (take count bytes) ≡ at_line (changes ++ more) [])
 
 -- no change is in them, and they are malformed or not
 abbrev pub SaysNoMore : Bool → List ℕ → Type 0
 SaysNoMore is_fault bytes = (changes : List LineChange) →
-    ((fold after_byte (at_line changes []) bytes).changes ≡ changes) × ((fold after_byte (at_line changes []) bytes).is_fault ≡ is_fault)
+    ((fold after_byte (at_line changes []) bytes).changes ≡ changes)
+    × ((fold after_byte (at_line changes []) bytes).is_fault ≡ is_fault)
 
 abbrev pub FrontOf : Front → List ℕ → Type 0
 FrontOf (fronts.Comment count) bytes = SaysMore [] count bytes

@@ -51,7 +51,8 @@ impl Model for Dialogue {
       off = d.off;
     } };
 
-    ghost invariant = { λ d. (vec_len d.room ≡ most_bytes) × (d.starts.restarts ≤ most_card_restarts) × (d.starts.wait ≤ longest_wait) };
+    ghost invariant = { λ d. (vec_len d.room ≡ most_bytes) × (d.starts.restarts ≤ most_card_restarts)
+        × (d.starts.wait ≤ longest_wait) };
 }
 
 impl Dialogue {
@@ -86,7 +87,8 @@ impl Dialogue {
         ensures tried { self.new.starts.tried ≡ self.old.starts.tried + 1 }
         ensures runs { (result ≡ Launched.Runs) ↔ (is_some self.new.running ≡ true) }
         ensures none { LeavesNone self.new }
-        ensures notes { Notes [] [] (record { at = at; words = words_of words.now } ∷ []) (P.acts program.old) (P.acts program.new) }
+        ensures notes { Notes [] [] (record { at = at; words = words_of words.now } ∷ []) (P.acts program.old)
+            (P.acts program.new) }
     {
         let launched = program.start(alloc, at, words);
         self.starts.begin();
@@ -233,7 +235,8 @@ impl Dialogue {
         requires can { CanEnd self.old }
         requires fits { Accounts self.old (P.acts program.old) }
         ensures fits { Accounts self.new (P.acts program.new) }
-        ensures same { (self.new.starts.restarts ≡ self.old.starts.restarts) × (self.new.starts.tried ≡ self.old.starts.tried) × (self.new.off ≡ self.old.off) }
+        ensures same { (self.new.starts.restarts ≡ self.old.starts.restarts) × (self.new.starts.tried ≡ self.old.starts.tried)
+            × (self.new.off ≡ self.old.off) }
         ensures ended { self.new.running ≡ None }
         ensures notes { Notes [] [] [] (P.acts program.old) (P.acts program.new) }
     {

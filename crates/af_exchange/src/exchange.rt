@@ -78,7 +78,8 @@ impl<P: Program + Drop> Exchange<P> {
     pub fn begin(&mut self, at: u64) -> Launched
         requires new { self.old.dialogue ≡ new_dialogue self.old.dialogue.starts.restarts }
         ensures told { IsToldWhereTold P.acts self.new }
-        ensures notes { Notes [] [] (record { at = at; words = self.old.words } ∷ []) (P.acts self.old.program) (P.acts self.new.program) }
+        ensures notes { Notes [] [] (record { at = at; words = self.old.words } ∷ []) (P.acts self.old.program)
+            (P.acts self.new.program) }
         ensures same { SameOrders self.old self.new }
         ensures runs { (result ≡ Launched.Runs) ↔ (is_some self.new.dialogue.running ≡ true) }
         ensures tried { self.new.dialogue.starts.tried ≡ 1 }
@@ -93,7 +94,8 @@ impl<P: Program + Drop> Exchange<P> {
     /// given.
     pub fn next_change(&mut self, at: u64) -> Option<LineChange>
         ensures told { IsToldWhereTold P.acts self.new }
-        ensures notes { Notes (lines_of result) [] (order_at self.old.dialogue self.old.words at) (P.acts self.old.program) (P.acts self.new.program) }
+        ensures notes { Notes (lines_of result) [] (order_at self.old.dialogue self.old.words at) (P.acts self.old.program)
+            (P.acts self.new.program) }
         ensures possible { IfSome result (λ change. is_change change ≡ true) }
         ensures drained { result ≡ None → IsDrainedWhereTold P.acts self.new }
         ensures over { is_some self.old.dialogue.running ≡ true → result ≡ None → is_over self.new.dialogue.running ≡ false }

@@ -18,7 +18,8 @@ pub fn lines_are_read_as_changes()
     ensures pieces { fold after_byte (changes_of (codes "digi")) (codes "t #\n") ≡ at_line (LineChange.Digit 35 ∷ []) [] }
     ensures comment { changes_of (codes "# ring on\nring off\n") ≡ at_line (LineChange.Ring false ∷ []) [] }
     ensures two { changes_of (codes "ring on\nloop on\n") ≡ at_line (LineChange.Ring true ∷ LineChange.Current true ∷ []) [] }
-    ensures fault { changes_of (codes "loop off\nring\nring on\n") ≡ at_fault (at_line (LineChange.Current false ∷ []) (codes "ring")) }
+    ensures fault { changes_of (codes "loop off\nring\nring on\n")
+        ≡ at_fault (at_line (LineChange.Current false ∷ []) (codes "ring")) }
     ensures empty { changes_of (codes "\n") ≡ at_fault (at_line [] []) }
     ensures last { changes_of (codes "ring on\nring off") ≡ at_line (LineChange.Ring true ∷ []) (codes "ring off") }
     ensures no_digit { changes_of (codes "digit E\n") ≡ at_fault (at_line [] (codes "digit E")) }
@@ -44,8 +45,11 @@ pub fn a_line_says_its_change()
 /// A small run of acts, sorted by program: one is told the hook at its start and a call, gives a change in two pieces, takes the
 /// second line in part, and ends. The hook is moved once more, and the next start fails.
 pub fn acts_are_sorted_by_program()
-    ensures { ledger_of (launched 0 [] Launched.Runs ∷ took (codes "onhook\n") ∷ gave (codes "ring") ∷ emitted (codes "offhook\n") ∷ gave (codes " on\n")
-        ∷ captured (codes "ring on") ∷ took (codes "offh") ∷ ended 5 ∷ emitted (codes "onhook\n") ∷ launched 9 [] Launched.Failed ∷ [])
+    ensures { ledger_of
+        (launched 0 [] Launched.Runs ∷ took (codes "onhook\n") ∷ gave (codes "ring") ∷ emitted (codes "offhook\n")
+        ∷ gave (codes " on\n")
+        ∷ captured (codes "ring on") ∷ took (codes "offh") ∷ ended 5 ∷ emitted (codes "onhook\n") ∷ launched 9 [] Launched.Failed
+        ∷ [])
         ≡ record {
           running = None;
           past = record {

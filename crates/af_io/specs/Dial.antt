@@ -12,13 +12,16 @@ pub record ToldLink : Type 0 where
   pub sent : List ℕ
 
 -- the first of the observable links was given
-abbrev pub IsFirstOf : {F : Type 0} → (F → Option (List ℕ)) → (F → Option (List ℕ)) → F → Option (List ToldLink) → Option (List ToldLink) → Type 0
+abbrev pub IsFirstOf : {F : Type 0} → (F → Option (List ℕ)) → (F → Option (List ℕ)) → F → Option (List ToldLink) →
+    Option (List ToldLink) → Type 0
 IsFirstOf left sent far None after = after ≡ None
 IsFirstOf left sent far (Some []) after = ⊥
-IsFirstOf left sent far (Some (link ∷ links)) after = (left far ≡ Some link.gives) × (sent far ≡ Some link.sent) × (after ≡ Some links)
+IsFirstOf left sent far (Some (link ∷ links)) after = (left far ≡ Some link.gives) × (sent far ≡ Some link.sent)
+    × (after ≡ Some links)
 
 -- if the links that it will give are observable, it gives the first of them
-abbrev pub GivesNext : {F : Type 0} → (F → Option (List ℕ)) → (F → Option (List ℕ)) → Dialed F → Option (List ToldLink) → Option (List ToldLink) → Type 0
+abbrev pub GivesNext : {F : Type 0} → (F → Option (List ℕ)) → (F → Option (List ℕ)) → Dialed F → Option (List ToldLink) →
+    Option (List ToldLink) → Type 0
 GivesNext left sent (dialed.Far far) before after = IsFirstOf left sent far before after
 GivesNext left sent dialed.Failed before after = after ≡ before
 GivesNext left sent dialed.OutOfMemory before after = after ≡ before

@@ -55,7 +55,8 @@ impl MemDial {
     /// A dial that gives these links, in this order. They have not failed yet.
     pub fn new(first: Option<MemLink>, second: Option<MemLink>) -> MemDial
         requires { IfSome first (λ link. link.faults ≡ 0) × IfSome second (λ link. link.faults ≡ 0) }
-        ensures { result ≡ record { links = both_of first second; asked = Some []; kept = []; keeps_all = true; faults = 0; hurt = 0 } }
+        ensures { result
+            ≡ record { links = both_of first second; asked = Some []; kept = []; keeps_all = true; faults = 0; hurt = 0 } }
     {
         MemDial {
             first,
@@ -102,7 +103,8 @@ impl Dial for MemDial {
         ensures asked { Appended self.old.asked (address.now ∷ []) self.new.asked }
         ensures tells { IfSome self.old.asked (λ said. length said < 2 → IsSome self.new.asked) }
         ensures back { back_of self.new ≡ back_of self.old }
-        ensures gives { GivesNext (λ (link : MemLinkState). Some link.left) (λ (link : MemLinkState). Some link.sent) result (Some (map told_link self.old.links)) (Some (map told_link self.new.links)) }
+        ensures gives { GivesNext (λ (link : MemLinkState). Some link.left) (λ (link : MemLinkState). Some link.sent) result
+            (Some (map told_link self.old.links)) (Some (map told_link self.new.links)) }
         ensures failed { (result ≡ Dialed.Failed) ↔ (self.old.links ≡ []) }
         ensures first { (link : MemLinkState) → result ≡ Dialed.Far link → self.old.links ≡ link ∷ self.new.links }
         ensures memory { result ≢ Dialed.OutOfMemory }
@@ -125,7 +127,8 @@ impl Dial for MemDial {
         ensures back { AppendedBack (back_of self.old) (Some far.sent) (back_of self.new) }
         ensures gives { Some (map told_link self.new.links) ≡ Some (map told_link self.old.links) }
         ensures counts { self.new.hurt ≡ hurt_after far.faults self.old.hurt }
-        ensures kept { length self.old.kept < 2 → (self.new.kept ≡ self.old.kept ++ far ∷ []) × (self.new.keeps_all ≡ self.old.keeps_all) }
+        ensures kept { length self.old.kept < 2 → (self.new.kept ≡ self.old.kept ++ far ∷ [])
+            × (self.new.keeps_all ≡ self.old.keeps_all) }
     {
         self.counts.count_hurt(far.faults());
         if !keep(&mut self.kept, &mut self.kept_later, far) {
@@ -141,7 +144,8 @@ fn note(
     address: &str,
 ) -> bool
     requires { length address.now ≤ longest_address }
-    ensures appended { Appended (told_if tells (map (λ a. a.bytes) addresses.old.items)) (address.now ∷ []) (told_if result (map (λ a. a.bytes) addresses.new.items)) }
+    ensures appended { Appended (told_if tells (map (λ a. a.bytes) addresses.old.items)) (address.now ∷ [])
+        (told_if result (map (λ a. a.bytes) addresses.new.items)) }
     ensures tells { IsTrue tells → length addresses.old.items < 2 → IsTrue result }
 {
     let Ok(address) = ArrayString::from(address) else {
@@ -165,7 +169,8 @@ fn take_next(first: &mut Option<MemLink>, second: &mut Option<MemLink>) -> Optio
 fn keep(kept: &mut Option<MemLink>, later: &mut Option<MemLink>, far: MemLink) -> bool
     requires { kept.old ≡ None → later.old ≡ None }
     ensures done { IsTrue result → both_of kept.new later.new ≡ both_of kept.old later.old ++ far ∷ [] }
-    ensures full { result ≡ false → (2 ≤ length (both_of kept.old later.old)) × (both_of kept.new later.new ≡ both_of kept.old later.old) }
+    ensures full { result ≡ false → (2 ≤ length (both_of kept.old later.old))
+        × (both_of kept.new later.new ≡ both_of kept.old later.old) }
     ensures order { kept.new ≡ None → later.new ≡ None }
 {
     if kept.is_none() {

@@ -42,7 +42,8 @@ impl Model for MemLink {
       faults = a.calls.faults;
     } };
 
-    ghost invariant = { λ a. (1 ≤ a.piece) × (a.given ≤ length a.far.items) × (length a.sent.items ≤ a.room) × (a.room ≤ vec_capacity a.sent) };
+    ghost invariant = { λ a. (1 ≤ a.piece) × (a.given ≤ length a.far.items) × (length a.sent.items ≤ a.room)
+        × (a.room ≤ vec_capacity a.sent) };
 }
 
 impl MemLink {
@@ -56,7 +57,9 @@ impl MemLink {
         fails: &[u64],
     ) -> Result<MemLink, OutOfMemory>
         requires { 1 ≤ piece }
-        ensures { IfOk result (λ link. link ≡ record { left = far.now; piece = piece; sent = []; room = room; fails = fails.now; calls = 0; faults = 0 }) }
+        ensures { IfOk result
+            (λ link. link
+            ≡ record { left = far.now; piece = piece; sent = []; room = room; fails = fails.now; calls = 0; faults = 0 }) }
     {
         let far = Vec::from_slice(alloc, far)?;
         let sent = Vec::with_capacity(alloc, room)?;

@@ -30,7 +30,8 @@ impl<S: Read + Write + Drop> Model for TcpLink<S> {
 
     ghost Value = { StreamState };
 
-    ghost view = { λ a. record { remaining = S.Read.remaining a.stream; contents = S.Write.contents a.stream; faults = a.faults } };
+    ghost view = { λ a.
+        record { remaining = S.Read.remaining a.stream; contents = S.Write.contents a.stream; faults = a.faults } };
 }
 
 impl<S: Read + Write + Drop> TcpLink<S> {

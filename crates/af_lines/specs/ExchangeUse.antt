@@ -25,7 +25,8 @@ exchange_use acts e = record { acts = acts e.program; dialogue = e.dialogue; wor
 -- was handed on
 abbrev pub IsToldUse : ExchangeUse → Type 0
 IsToldUse e =
-    MatchOption e.acts ⊤ (λ told. IsTold e.dialogue.starts.restarts e.dialogue.off e.dialogue.left e.dialogue.owed (is_open e.dialogue.running) told)
+    MatchOption e.acts ⊤
+    (λ told. IsTold e.dialogue.starts.restarts e.dialogue.off e.dialogue.left e.dialogue.owed (is_open e.dialogue.running) told)
 
 -- all changes that its program gave so far were given, and none of its lines is malformed
 abbrev pub IsDrainedUse : ExchangeUse → Type 0

@@ -121,7 +121,8 @@ HooksBy off answer (Some (over e)) l' = (e' : ExchangeUse) × CallsExchange off 
 
 -- the line of a device takes a hook call, and no other is changed
 abbrev pub HooksLine : ℕ → Bool → Put → List (Option LineState) → List (Option LineState) → Type 0
-HooksLine d off answer old new = (after : Option LineState) × HooksBy off answer (line_at old d) after × (new ≡ slice_set old d after)
+HooksLine d off answer old new = (after : Option LineState) × HooksBy off answer (line_at old d) after
+    × (new ≡ slice_set old d after)
 
 -- and the round stays at its place
 abbrev pub HooksAt : ℕ → Bool → Put → LinesState → LinesState → Type 0

@@ -40,7 +40,8 @@ impl<P: Program + Drop> LineExchange<P> {
         program: LineProgram<'_>,
         at: u64,
     ) -> Result<Option<LineExchange<P>>, OutOfMemory>
-        ensures begun { IfOk result (λ made. IfSome made (λ exchange. IsBegun program.entry.restarts (words_of program.entry.words.now) exchange)) }
+        ensures begun { IfOk result
+            (λ made. IfSome made (λ exchange. IsBegun program.entry.restarts (words_of program.entry.words.now) exchange)) }
     {
         if program.restarts > MOST_CARD_RESTARTS || !is_command_line(program.words) {
             return Ok(None);

@@ -82,7 +82,8 @@ impl<P: Program + Drop> Lines<P> {
         at: u64,
     ) -> Ready
         ensures quiet { result ≡ Ready.Done → is_quiet (line_at self.old.lines device) ≡ true }
-        ensures attaches { AttachesLine result program.entry.restarts (words_of program.entry.words.now) device self.old self.new }
+        ensures attaches { AttachesLine result program.entry.restarts (words_of program.entry.words.now) device self.old
+            self.new }
     {
         if !self.is_quiet(device) {
             return Ready::Failed;

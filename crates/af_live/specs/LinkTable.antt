@@ -36,7 +36,8 @@ something_ready (Some link) = link.opened || link.readable || link.writable
 
 -- what is given first of a link: that it is new, then that it can be read, then that it can be written
 abbrev pub entry_wake : LinkEntry → ℕ → Wake
-entry_wake link k = if link.opened then wake.Opened k else if link.readable then wake.Readable k else if link.writable then wake.Writable k else wake.Idle
+entry_wake link k = if link.opened then wake.Opened k else if link.readable then wake.Readable k
+    else if link.writable then wake.Writable k else wake.Idle
 
 abbrev pub wake_at : Option LinkEntry → ℕ → Wake
 wake_at None k = wake.Idle
@@ -44,7 +45,8 @@ wake_at (Some link) k = entry_wake link k
 
 -- what is ready after that
 abbrev pub rest_of : LinkEntry → LinkEntry
-rest_of link = if link.opened then record link { opened = false } else if link.readable then record link { readable = false } else record link { writable = false }
+rest_of link = if link.opened then record link { opened = false } else if link.readable then record link { readable = false }
+    else record link { writable = false }
 
 abbrev pub without_first_ready : Option LinkEntry → Option LinkEntry
 without_first_ready None = None
@@ -53,12 +55,14 @@ without_first_ready (Some link) = Some (rest_of link)
 -- the least number of the table that no link has
 abbrev pub IsLeastFree : List (Option LinkEntry) → Option ℕ → Type 0
 IsLeastFree links None = (k : ℕ) → k < length links → is_free (link_at links k) ≡ false
-IsLeastFree links (Some n) = (n < length links) × (is_free (link_at links n) ≡ true) × ((k : ℕ) → k < n → is_free (link_at links k) ≡ false)
+IsLeastFree links (Some n) = (n < length links) × (is_free (link_at links n) ≡ true)
+    × ((k : ℕ) → k < n → is_free (link_at links k) ≡ false)
 
 -- the first link with something ready
 abbrev pub IsFirstReady : List (Option LinkEntry) → Option ℕ → Type 0
 IsFirstReady links None = (k : ℕ) → k < length links → something_ready (link_at links k) ≡ false
-IsFirstReady links (Some n) = (n < length links) × (something_ready (link_at links n) ≡ true) × ((k : ℕ) → k < n → something_ready (link_at links k) ≡ false)
+IsFirstReady links (Some n) = (n < length links) × (something_ready (link_at links n) ≡ true)
+    × ((k : ℕ) → k < n → something_ready (link_at links k) ≡ false)
 
 -- no link below this number has something ready
 abbrev pub NothingReadyBelow : ℕ → List (Option LinkEntry) → Type 0
@@ -80,7 +84,8 @@ link_of_wake wake.Stop = 0
 
 -- The first link with something ready gives the first part of that, and nothing else changes.
 abbrev pub GivesOf : List (Option LinkEntry) → ℕ → Wake → List (Option LinkEntry) → Type 0
-GivesOf old n w new = IsFirstReady old (Some n) × (w ≡ wake_at (link_at old n) n) × (new ≡ slice_set old n (without_first_ready (link_at old n)))
+GivesOf old n w new = IsFirstReady old (Some n) × (w ≡ wake_at (link_at old n) n)
+    × (new ≡ slice_set old n (without_first_ready (link_at old n)))
 
 abbrev pub GivesFirst : List (Option LinkEntry) → Option Wake → List (Option LinkEntry) → Type 0
 GivesFirst old None new = IsFirstReady old None × (new ≡ old)

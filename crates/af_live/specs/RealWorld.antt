@@ -38,7 +38,19 @@ pub record RealState : Type 0 where
 
 -- it was just made, over a spawner with these acts
 abbrev pub begun_world : Option (List Told) → RealState
-begun_world acts = record { listens = false; links = replicate most_links free_entry; backends = none_attached; codec = begun_codec acts; round = new_round; lines = no_lines; link_faults = 0; device_faults = 0; listen_faults = 0; wait_faults = 0 }
+begun_world acts =
+    record {
+      listens = false;
+      links = replicate most_links free_entry;
+      backends = none_attached;
+      codec = begun_codec acts;
+      round = new_round;
+      lines = no_lines;
+      link_faults = 0;
+      device_faults = 0;
+      listen_faults = 0;
+      wait_faults = 0;
+    }
 
 -- what the server's calls leave alone, and the counts that they may raise
 pub record RealLeadsTo (old new : RealState) : Type 0 where
@@ -53,7 +65,18 @@ pub record RealLeadsTo (old new : RealState) : Type 0 where
   pub wait_faults : new.wait_faults ≡ old.wait_faults
 
 pub RealLeadsTo-refl : (a : RealState) → RealLeadsTo a a
-RealLeadsTo-refl a = record { listens = refl; backends = refl; orders = refl; round = refl; lines = (refl, refl); link_faults = le_refl a.link_faults; device_faults = le_refl a.device_faults; listen_faults = refl; wait_faults = refl }
+RealLeadsTo-refl a =
+    record {
+      listens = refl;
+      backends = refl;
+      orders = refl;
+      round = refl;
+      lines = (refl, refl);
+      link_faults = le_refl a.link_faults;
+      device_faults = le_refl a.device_faults;
+      listen_faults = refl;
+      wait_faults = refl;
+    }
 
 pub RealLeadsTo-trans : (a b c : RealState) → RealLeadsTo a b → RealLeadsTo b c → RealLeadsTo a c
 RealLeadsTo-trans a b c p q = record {
@@ -83,16 +106,20 @@ GivesKept (Some w) links round links' round' = GivesFirst links (Some w) links' 
 -- Each device that the round has left is asked at its one reading, and none has a frame due.
 abbrev pub PassesAll : RoundState → List (Option BackendState) → RoundState → List (Option BackendState) → Type 0
 PassesAll old backends past backends' =
-    (nanos : ℕ) × IsReadingBy old.reading old.last nanos × GoesOn nanos old None past × GoesOver nanos old None past backends backends'
+    (nanos : ℕ) × IsReadingBy old.reading old.last nanos × GoesOn nanos old None past
+    × GoesOver nanos old None past backends backends'
 
 -- A tick is that of the next device of the round with frames due, at the one reading of the round: by the system's clock, or by
 -- its program. A line changes once the round has left the last device. Any other wake was kept ready, and the round and the
 -- devices stay as they are; or it comes after the last device, when none has a frame due, and a new round begins. A wait that
 -- failed begins none.
-abbrev pub LeadsRound : Option Wake → List (Option LinkEntry) → RoundState → List (Option BackendState) → List (Option LinkEntry) → RoundState → List (Option BackendState) → Type 0
-LeadsRound None links old backends links' new backends' = ((new ≡ old) × (backends' ≡ backends)) ⊎ PassesAll old backends new backends'
+abbrev pub LeadsRound : Option Wake → List (Option LinkEntry) → RoundState → List (Option BackendState) →
+    List (Option LinkEntry) → RoundState → List (Option BackendState) → Type 0
+LeadsRound None links old backends links' new backends' = ((new ≡ old) × (backends' ≡ backends))
+    ⊎ PassesAll old backends new backends'
 LeadsRound (Some (wake.Ticked d n)) links old backends links' new backends' =
-    (nanos : ℕ) × IsReadingBy old.reading old.last nanos × GoesOn nanos old (Some (d, n)) new × GoesOver nanos old (Some (d, n)) new backends backends'
+    (nanos : ℕ) × IsReadingBy old.reading old.last nanos × GoesOn nanos old (Some (d, n)) new
+    × GoesOver nanos old (Some (d, n)) new backends backends'
 LeadsRound (Some (wake.Line d change)) links old backends links' new backends' = PassesAll old backends new backends'
 LeadsRound (Some w) links old backends links' new backends' =
     (GivesKept (Some w) links old links' new × (backends' ≡ backends))
@@ -105,7 +132,8 @@ PassesLines old lines lines' = (nanos : ℕ) × IsReadingBy old.reading old.last
 -- A change is that of the next line of the round whose program gave one, at the one reading of the round. A tick leaves the lines
 -- as they are. Any other wake was kept ready, and they stay as they are; or each line that the round has left is asked, none
 -- changes, and a new round begins. A wait that failed begins none.
-abbrev pub LeadsLines : Option Wake → List (Option LinkEntry) → RoundState → LinesState → List (Option LinkEntry) → RoundState → LinesState → Type 0
+abbrev pub LeadsLines : Option Wake → List (Option LinkEntry) → RoundState → LinesState → List (Option LinkEntry) → RoundState →
+    LinesState → Type 0
 LeadsLines None links old lines links' new lines' = (lines' ≡ lines) ⊎ PassesLines old lines lines'
 LeadsLines (Some (wake.Ticked d n)) links old lines links' new lines' = lines' ≡ lines
 LeadsLines (Some (wake.Line d change)) links old lines links' new lines' =

@@ -289,8 +289,13 @@ impl<R: Net + Clock + Files + Drop, S: Spawner + Drop, G: Programs + Drop> Live
         ensures backends { AttachesAt result kind.entry device spec.now self.old.backends self.new.backends }
         ensures codec { self.new.codec ≡ codec_after result kind.entry self.old.codec }
         ensures lines { self.new.lines ≡ lines_after result device spec.now.line self.old.lines }
-        ensures rest { self.new ≡ record self.old
-            { backends = self.new.backends; codec = self.new.codec; round = self.new.round; lines = self.new.lines; device_faults = self.new.device_faults } }
+        ensures rest { self.new ≡ record self.old {
+          backends = self.new.backends;
+          codec = self.new.codec;
+          round = self.new.round;
+          lines = self.new.lines;
+          device_faults = self.new.device_faults;
+        } }
         ensures counts { CountsStand self.old self.new }
     {
         let asked = NewDevice {
@@ -309,7 +314,8 @@ impl<R: Net + Clock + Files + Drop, S: Spawner + Drop, G: Programs + Drop> Live
     fn attach_line(&mut self, alloc: Global, device: u8, program: LineProgram<'_>) -> Ready
         ensures faults { CountsOne (result ≡ Ready.Failed) self.old.device_faults self.new.device_faults }
         ensures quiet { result ≡ Ready.Done → is_quiet (line_at self.old.lines.lines device) ≡ true }
-        ensures attaches { AttachesLine result program.entry.restarts (words_of program.entry.words.now) device self.old.lines self.new.lines }
+        ensures attaches { AttachesLine result program.entry.restarts (words_of program.entry.words.now) device self.old.lines
+            self.new.lines }
         ensures rest { self.new ≡ record self.old { lines = self.new.lines; device_faults = self.new.device_faults } }
         ensures counts { CountsStand self.old self.new }
     {
@@ -331,11 +337,18 @@ impl<R: Net + Clock + Files + Drop, S: Spawner + Drop, G: Programs + Drop> Live
             (λ wake. Opens wake self.old.links self.new.links) }
         ensures links { LeadsLinks (given_wake result) self.old.links self.new.links }
         ensures least { TakesLeast self.old.links self.new.links }
-        ensures round { LeadsRound (given_wake result) self.old.links self.old.round self.old.backends self.new.links self.new.round self.new.backends }
+        ensures round { LeadsRound (given_wake result) self.old.links self.old.round self.old.backends self.new.links
+            self.new.round self.new.backends }
         ensures frames { LosesNoFrame (given_wake result) self.old.round self.new.round }
-        ensures lines { LeadsLines (given_wake result) self.old.links self.old.round self.old.lines self.new.links self.new.round self.new.lines }
-        ensures rest { self.new ≡ record self.old
-            { links = self.new.links; backends = self.new.backends; round = self.new.round; lines = self.new.lines; wait_faults = self.new.wait_faults } }
+        ensures lines { LeadsLines (given_wake result) self.old.links self.old.round self.old.lines self.new.links self.new.round
+            self.new.lines }
+        ensures rest { self.new ≡ record self.old {
+          links = self.new.links;
+          backends = self.new.backends;
+          round = self.new.round;
+          lines = self.new.lines;
+          wait_faults = self.new.wait_faults;
+        } }
         ensures counts { CountsStand self.old self.new }
     {
         let next = next_wake(

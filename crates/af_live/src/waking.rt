@@ -126,7 +126,8 @@ pub(crate) fn next_wake<R: Clock, F: Read + Write + Drop, S: Spawner + Drop, P: 
     ensures fits { IfSome result (λ wake. WakeFits links.old devices.old.round lines.old wake) }
     ensures opens { MatchOption result (KeepsOpen links.old links.new) (λ wake. Opens wake links.old links.new) }
     ensures links { LeadsLinks result links.old links.new }
-    ensures round { LeadsRound result links.old devices.old.round devices.old.attached links.new devices.new.round devices.new.attached }
+    ensures round { LeadsRound result links.old devices.old.round devices.old.attached links.new devices.new.round
+        devices.new.attached }
     ensures lines { LeadsLines result links.old devices.old.round lines.old links.new devices.new.round lines.new }
     ensures rest { devices.new ≡ record devices.old { round = devices.new.round; attached = devices.new.attached } }
 {

@@ -32,7 +32,8 @@ make_request k (Some request) p = perform k request p
 abbrev pub after_frame : ℕ → Front → OpenLink → Option OpenLink
 after_frame k NeedMore p = None
 after_frame k Malformed p = Some (open_link p.environment (closing_link why.Malformed p.link))
-after_frame k (Frame n) p = Some (make_request k (asked_in p.link.order (take n p.link.rest)) (open_link p.environment (without_front n p.link)))
+after_frame k (Frame n) p =
+    Some (make_request k (asked_in p.link.order (take n p.link.rest)) (open_link p.environment (without_front n p.link)))
 
 -- What a setup at the front of its input makes of a link: its byte order becomes the link's. A bad one is refused and closes the
 -- link. Its answer has the number 0.

@@ -19,7 +19,8 @@ use Rattle.af_model.specs.Run.{end_state}
 abbrev pub AreRequests : Order → List ℕ → List ℕ → List ℕ → Type 0
 AreRequests order [] bytes rest = rest ≡ bytes
 AreRequests order (n ∷ sizes) bytes rest =
-    (frame_front order bytes ≡ Frame n) × (is_some (asked_in order (take n bytes)) ≡ true) × AreRequests order sizes (drop n bytes) rest
+    (frame_front order bytes ≡ Frame n) × (is_some (asked_in order (take n bytes)) ≡ true)
+    × AreRequests order sizes (drop n bytes) rest
 
 -- a good setup of a byte order and requests in it are the first of these bytes, and then there is a rest
 pub record IsServedTo (order : Order) (bytes rest : List ℕ) : Type 0 where
@@ -31,7 +32,8 @@ pub record IsServedTo (order : Order) (bytes rest : List ℕ) : Type 0 where
 -- less than a frame.
 abbrev pub AreServed : List ℕ → Type 0
 AreServed bytes =
-    (setup_front bytes ≡ front.NeedMore) ⊎ ((order : Order) × (rest : List ℕ) × IsServedTo order bytes rest × (frame_front order rest ≡ NeedMore))
+    (setup_front bytes ≡ front.NeedMore)
+    ⊎ ((order : Order) × (rest : List ℕ) × IsServedTo order bytes rest × (frame_front order rest ≡ NeedMore))
 
 -- whether bytes begin with what is no frame in this byte order, or with a frame that is no request
 abbrev pub is_malformed : Order → Front → List ℕ → Bool
@@ -53,9 +55,11 @@ abbrev pub IsCause : Why → LinkHistory → ℕ → Type 0
 IsCause why.LinkFault h owed = h.has_failed ≡ true
 IsCause why.Overrun h owed = (h.has_failed ≡ false) × (h.has_ended ≡ false) × (event_limit < owed + 20)
 IsCause why.Ended h owed = (h.has_failed ≡ false) × (h.has_ended ≡ true) × (owed ≡ 0) × AreServed h.gave
-IsCause why.BadSetup h owed = ShowsNoOther h owed × (order : Order) × (value : ℕ) × (setup_front h.gave ≡ front.BadSetup order value)
+IsCause why.BadSetup h owed = ShowsNoOther h owed × (order : Order) × (value : ℕ)
+    × (setup_front h.gave ≡ front.BadSetup order value)
 IsCause why.Malformed h owed =
-    ShowsNoOther h owed × (order : Order) × (rest : List ℕ) × IsServedTo order h.gave rest × (is_malformed order (frame_front order rest) rest ≡ true)
+    ShowsNoOther h owed × (order : Order) × (rest : List ℕ) × IsServedTo order h.gave rest
+    × (is_malformed order (frame_front order rest) rest ≡ true)
 
 -- the bytes that were queued for a link and not taken
 abbrev pub owed_of : LinkHistory → List ℕ → ℕ
@@ -64,7 +68,9 @@ owed_of h said = length said - length h.took
 -- after a run, the log shows the cause for which a link was closed, if it is not open again
 abbrev pub ShowsCauses : List DeviceSpec → Log → Type 0
 ShowsCauses config log =
-    IfSome (end_state config log) (λ s. (k : ℕ) → IfSome (history k log).closed (λ cause. IsCause cause (history k log) (owed_of (history k log) (slot_at k s).said)))
+    IfSome (end_state config log)
+    (λ s. (k : ℕ) → IfSome (history k log).closed
+    (λ cause. IsCause cause (history k log) (owed_of (history k log) (slot_at k s).said)))
 
 -- so it does for each close in a log, after the turn that has it
 abbrev pub ClosesForCauses : List DeviceSpec → Log → Type 0

@@ -66,7 +66,9 @@ named_preempt mask preempt = if names mask 4 then Some (preempt == 1) else None
 
 abbrev pub change : ℕ → ℕ → ℕ → ℤ → ℤ → OpenLink → OpenLink
 change mask ac preempt play_gain record_gain p = reply_with opcodes.change_ac plain
-    (with_contexts (with_changed p.link.contexts ac (with_settings (named_gain mask 1 play_gain) (named_gain mask 2 record_gain) (named_preempt mask preempt))) p)
+    (with_contexts
+    (with_changed p.link.contexts ac
+    (with_settings (named_gain mask 1 play_gain) (named_gain mask 2 record_gain) (named_preempt mask preempt))) p)
 
 -- a context is freed; what it had accepted stays
 abbrev pub free : ℕ → OpenLink → OpenLink

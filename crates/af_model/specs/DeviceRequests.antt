@@ -45,12 +45,17 @@ with_named mask input_on output_on input_gain output_gain c = record {
 -- link k sets them
 abbrev pub with_device_controls : ℕ → ℕ → ℕ → ℕ → ℤ → ℤ → DeviceState → DeviceState
 with_device_controls k mask input_on output_on input_gain output_gain device =
-    record device { controls = with_named mask input_on output_on input_gain output_gain device.controls; actors = device.actors ++ k ∷ [] }
+    record device {
+      controls = with_named mask input_on output_on input_gain output_gain device.controls;
+      actors = device.actors
+          ++ k ∷ [];
+    }
 
 abbrev pub set_device_controls : ℕ → ℕ → ℕ → ℕ → ℕ → ℤ → ℤ → DeviceState → OpenLink → OpenLink
 set_device_controls k d mask input_on output_on input_gain output_gain device p =
     refuse_or opcodes.set_controls (controls_refusal mask input_on output_on input_gain output_gain)
-    (λ q. reply_with opcodes.set_controls plain (in_devices d (with_device_controls k mask input_on output_on input_gain output_gain) q)) p
+    (λ q. reply_with opcodes.set_controls plain
+    (in_devices d (with_device_controls k mask input_on output_on input_gain output_gain) q)) p
 
 -- QueryControls
 abbrev pub tell_controls : DeviceState → OpenLink → OpenLink
@@ -61,7 +66,8 @@ abbrev pub switch_refusal : ℕ → ℕ → Phone → Option Refusal
 switch_refusal d off line = first_refusal (check line.dead BadLine d ∷ check (nat_lt 1 off) BadValue off ∷ [])
 
 abbrev pub with_device_hook : ℕ → Bool → DeviceState → DeviceState
-with_device_hook k off device = record device { line = option_map (with_wanted_hook off) device.line; actors = device.actors ++ k ∷ [] }
+with_device_hook k off device =
+    record device { line = option_map (with_wanted_hook off) device.line; actors = device.actors ++ k ∷ [] }
 
 abbrev pub switch_hook : ℕ → ℕ → ℕ → Phone → OpenLink → OpenLink
 switch_hook k d off line p =

@@ -36,7 +36,8 @@ mask_of l d = some_mask (slice_get l.selections d)
 -- an event that link k selects is queued for it; if more than 49152 bytes would then wait to be sent to it, it is dropped
 abbrev pub tell_selected : ℕ → Event → OpenLink → OpenLink
 tell_selected k e p =
-    if nat_le (length p.link.pending + 20) event_limit then say p (event_bytes p.link.order e p.link.sequence) else drop_link k why.Overrun p
+    if nat_le (length p.link.pending + 20) event_limit then say p (event_bytes p.link.order e p.link.sequence)
+    else drop_link k why.Overrun p
 
 abbrev pub tell_link : ℕ → Event → OpenLink → OpenLink
 tell_link k e p = if selects (mask_of p.link e.device) e.kind then tell_selected k e p else p
@@ -64,7 +65,8 @@ event_at kind d device value = record { kind = kind; device = d; time = record {
 -- the line of device d becomes another, and an event reports it
 abbrev pub line_becomes : (Phone → Phone) → EventKind → ℕ → ℕ → DeviceState → State → State
 line_becomes f kind value d device s =
-    tell (event_at kind d device value) (record s { devices = with_device d (λ device. record device { line = option_map f device.line }) s.devices })
+    tell (event_at kind d device value)
+    (record s { devices = with_device d (λ device. record device { line = option_map f device.line }) s.devices })
 
 -- the line of a device changes
 abbrev pub line_changes : LineChange → ℕ → DeviceState → State → State
@@ -76,4 +78,8 @@ abbrev pub after_hook : Bool → ℕ → DeviceState → State → State
 after_hook off d device s = line_becomes (line_after_hook true) kind.Hook (flag_value off) d device s
 
 abbrev pub after_hook_failure : ℕ → State → State
-after_hook_failure d s = record s { devices = with_device d (λ device. record device { line = option_map (line_after_hook false) device.line }) s.devices }
+after_hook_failure d s =
+    record s {
+      devices = with_device d (λ device. record device { line = option_map (line_after_hook false) device.line })
+          s.devices;
+    }

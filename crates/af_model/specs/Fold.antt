@@ -23,8 +23,12 @@ pub record IsMixOfAll (config : List DeviceSpec) (front : Log) (d : ℕ) (sent :
   pub stood : IsSomeAnd (end_state config before) (λ s. slice_get s.devices d ≡ Some device)
   pub last : DeviceState
   pub stands : slice_get end.devices d ≡ Some last
-  pub mixes : sent ≡ bytes_of device.ty (through_output_control device.controls (heard_from device.channels last.accepted device.now frames))
+  pub mixes : sent ≡ bytes_of device.ty
+      (through_output_control device.controls (heard_from device.channels last.accepted device.now frames))
 
 -- this holds of each emit in a run
 abbrev pub MixesAll : List DeviceSpec → Log → Type 0
-MixesAll config log = IfSome (end_state config log) (λ end. (front rest : Log) (d : ℕ) (sent : List ℕ) (done : Bool) → log ≡ front ++ Emitted d sent done ∷ rest → IsMixOfAll config front d sent end)
+MixesAll config log =
+    IfSome (end_state config log)
+    (λ end. (front rest : Log) (d : ℕ) (sent : List ℕ) (done : Bool) → log ≡ front ++ Emitted d sent done ∷ rest →
+    IsMixOfAll config front d sent end)

@@ -33,4 +33,5 @@ pub record IsFrontOf (took said : List ℕ) (link : Option LinkState) : Type 0 w
 
 -- this holds of each link after a run
 abbrev pub TakesInOrder : List DeviceSpec → Log → Type 0
-TakesInOrder config log = IfSome (end_state config log) (λ s. (k : ℕ) → IsFrontOf (taken k log) (slot_at k s).said (slot_at k s).link)
+TakesInOrder config log =
+    IfSome (end_state config log) (λ s. (k : ℕ) → IsFrontOf (taken k log) (slot_at k s).said (slot_at k s).link)

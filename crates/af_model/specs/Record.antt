@@ -23,7 +23,9 @@ frames_before_now device time = device.now - unwrap device.now time
 
 -- a record has at most 16000 bytes, in whole frames
 unfoldable pub record_refusal : ℕ → Context → ℕ → Option Refusal
-record_refusal channels c bytes = first_refusal (check (nat_lt longest_record bytes) BadValue bytes ∷ check (not (are_frames channels c bytes)) BadValue bytes ∷ [])
+record_refusal channels c bytes =
+    first_refusal
+    (check (nat_lt longest_record bytes) BadValue bytes ∷ check (not (are_frames channels c bytes)) BadValue bytes ∷ [])
 
 -- how many of the frames from a time on are given: all; or those before now, if the record does not block
 abbrev pub given_frames : Bool → DeviceState → ℕ → ℕ → ℕ

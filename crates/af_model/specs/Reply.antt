@@ -16,7 +16,14 @@ horizon_of device = device.rate * 4
 
 -- what the reply to a setup says of a device
 abbrev pub info_of : DeviceState → DeviceInfo
-info_of device = record { ty = device.ty; channels = device.channels; line = is_some device.line; rate = device.rate; horizon = horizon_of device }
+info_of device =
+    record {
+      ty = device.ty;
+      channels = device.channels;
+      line = is_some device.line;
+      rate = device.rate;
+      horizon = horizon_of device;
+    }
 
 abbrev pub infos_of : List DeviceState → List DeviceInfo
 infos_of devices = map info_of devices

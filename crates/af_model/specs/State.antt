@@ -119,7 +119,19 @@ none_selected = replicate most_devices 0
 
 -- a link that was just opened
 abbrev pub new_link_state : LinkState
-new_link_state = record { is_set_up = false; order = Big; rest = []; pending = []; is_ready = false; is_stuck = false; closing = None; sequence = 0; contexts = []; selections = none_selected }
+new_link_state =
+    record {
+      is_set_up = false;
+      order = Big;
+      rest = [];
+      pending = [];
+      is_ready = false;
+      is_stuck = false;
+      closing = None;
+      sequence = 0;
+      contexts = [];
+      selections = none_selected;
+    }
 
 -- a link that is to be closed, for its first cause; nothing more of its input is read, and no event is queued for it
 abbrev pub closing_link : Why → LinkState → LinkState
@@ -177,10 +189,13 @@ abbrev pub link_in_slot : EnvironmentState → Option LinkState → SlotLink
 link_in_slot a link = record { environment = a; link = link }
 
 abbrev pub slot_link_at : ℕ → State → SlotLink
-slot_link_at k s = link_in_slot (record { devices = s.devices; waiting = s.waiting; said = (slot_at k s).said }) (slot_at k s).link
+slot_link_at k s = link_in_slot (record { devices = s.devices; waiting = s.waiting; said = (slot_at k s).said })
+    (slot_at k s).link
 
 abbrev pub with_slot_link : ℕ → State → SlotLink → State
-with_slot_link k s d = with_slot k (record { link = d.link; said = d.environment.said }) (record s { devices = d.environment.devices; waiting = d.environment.waiting })
+with_slot_link k s d =
+    with_slot k (record { link = d.link; said = d.environment.said })
+    (record s { devices = d.environment.devices; waiting = d.environment.waiting })
 
 -- the links at their numbers
 abbrev pub links_of : List SlotState → List (Option LinkState)

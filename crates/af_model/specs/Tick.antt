@@ -29,11 +29,16 @@ captured_samples device n (Some bytes) = samples device.ty bytes
 -- a device after n sample periods in which these samples came to its input control, dead or not
 abbrev pub device_after : ℕ → List ℤ → Bool → DeviceState → DeviceState
 device_after n captured is_dead device =
-    record device { now = device.now + n; captured = device.captured ++ through_input_control device.controls captured; is_dead = is_dead }
+    record device {
+      now = device.now + n;
+      captured = device.captured ++ through_input_control device.controls captured;
+      is_dead = is_dead;
+    }
 
 -- the plays that a device has accepted after it completed a deferred request: a play is accepted now
 abbrev pub with_deferred : Deferred → ℕ → List AcceptedPlay → List AcceptedPlay
-with_deferred (deferred_play quiet start sound preempt) now accepted = with_play (record { start = start; samples = sound; preempt = preempt; at = now }) accepted
+with_deferred (deferred_play quiet start sound preempt) now accepted =
+    with_play (record { start = start; samples = sound; preempt = preempt; at = now }) accepted
 with_deferred (deferred_record c start frames) now accepted = accepted
 
 -- who has acted on it then
@@ -57,7 +62,8 @@ answer_deferred (deferred_record c start frames) device p = give_record c start 
 -- a link's deferred request completes, and then requests that the link may now make are performed
 abbrev pub complete_for : Deferral → Option DeviceState → OpenLink → OpenLink
 complete_for w None p = p
-complete_for w (Some device) p = advance w.link (answer_deferred w.deferred device (in_devices w.device (complete_deferred w.link w.deferred) p))
+complete_for w (Some device) p =
+    advance w.link (answer_deferred w.deferred device (in_devices w.device (complete_deferred w.link w.deferred) p))
 
 abbrev pub enter : OpenLink → SlotLink
 enter p = link_in_slot p.environment (Some p.link)
@@ -72,7 +78,8 @@ complete w s = with_slot_link w.link s (complete_at w (slot_link_at w.link s).en
 -- the longest deferred request that is due for device d leaves the list and completes; None if none is due
 abbrev pub complete_first : ℕ → State → DeviceState → Option State
 complete_first d s device =
-    option_map (λ w. complete w (record s { waiting = without_first (falls_due d device) s.waiting })) (find (falls_due d device) s.waiting)
+    option_map (λ w. complete w (record s { waiting = without_first (falls_due d device) s.waiting }))
+    (find (falls_due d device) s.waiting)
 
 abbrev pub complete_step : ℕ → State → Option State
 complete_step d s = option_and_then (complete_first d s) (slice_get s.devices d)

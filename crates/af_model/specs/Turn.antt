@@ -72,7 +72,8 @@ read_by k p (Read link got) = if link == k && is_read got then Some (after_read 
 read_by k p _ = None
 
 unfoldable pub read_phase : ℕ → OpenLink → Log → Option (Parsed OpenLink)
-read_phase k p log = if wants_read (has_deferral p.environment.waiting k) p.link then parse_one (read_by k p) log else accept p log
+read_phase k p log = if wants_read (has_deferral p.environment.waiting k) p.link then parse_one (read_by k p) log
+    else accept p log
 
 -- Writes: all that waits to be sent, as long as there is some and the link is not blocked
 

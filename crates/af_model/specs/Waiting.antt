@@ -22,8 +22,11 @@ falls_due d device w = w.device == d && nat_le (due_time device.channels (horizo
 abbrev pub AreDueLater : List DeviceState → List Deferral → Type 0
 AreDueLater devices [] = Unit {0}
 AreDueLater devices (w ∷ waiting) =
-    IfSome (slice_get devices w.device) (λ device. device.now < due_time device.channels (horizon_of device) w.deferred) × AreDueLater devices waiting
+    IfSome (slice_get devices w.device) (λ device. device.now < due_time device.channels (horizon_of device) w.deferred)
+    × AreDueLater devices waiting
 
 -- a request of link k is deferred, after all others
 abbrev pub wait : ℕ → ℕ → Deferred → OpenLink → OpenLink
-wait k d deferred p = open_link (record p.environment { waiting = p.environment.waiting ++ record { link = k; device = d; deferred = deferred } ∷ [] }) p.link
+wait k d deferred p =
+    open_link
+    (record p.environment { waiting = p.environment.waiting ++ record { link = k; device = d; deferred = deferred } ∷ [] }) p.link

@@ -30,7 +30,8 @@ pub use refusal::{Refusal, RefusalCause};
 
 /// A law of the definitions alone: a script has at most one log.
 pub fn one_log_law()
-    ensures { (config : List DeviceSpec) (steps : List Step) (a b : Log) → ScriptLog config steps a → ScriptLog config steps b → a ≡ b }
+    ensures { (config : List DeviceSpec) (steps : List Step) (a b : Log) → ScriptLog config steps a → ScriptLog config steps b →
+        a ≡ b }
 {}
 /// A law of the definitions alone: a malformed client closes itself alone. Suppose that taking off the front of its input closes
 /// a link for it. Then nothing in the link's environment changes, no device and no other request. All that is queued for the link
@@ -39,8 +40,10 @@ pub fn one_log_law()
 pub fn malformed_alone_law()
     ensures closes { (k : ℕ) (p q : OpenLink) → advance_step k p ≡ Some q → q.link.closing ≡ Some why.Malformed →
         (q.environment ≡ p.environment) × (q.link.pending ≡ p.link.pending) × (q.link.rest ≡ []) }
-    ensures others { (k j : ℕ) (s : State) (log : Log) (b : Parsed State) → serve_at k s log ≡ Some b → j ≢ k → slot_at j b.state ≡ slot_at j s }
-    ensures order { (k : ℕ) (s : State) (log : Log) (b : Parsed State) → serve_at k s log ≡ Some b → without_waiter k b.state.waiting ≡ without_waiter k s.waiting }
+    ensures others { (k j : ℕ) (s : State) (log : Log) (b : Parsed State) → serve_at k s log ≡ Some b → j ≢ k →
+        slot_at j b.state ≡ slot_at j s }
+    ensures order { (k : ℕ) (s : State) (log : Log) (b : Parsed State) → serve_at k s log ≡ Some b →
+        without_waiter k b.state.waiting ≡ without_waiter k s.waiting }
 {}
 
 /// A law of the definitions alone, of cutting: what comes to a link in two pieces, one right after the other, makes of it and of

@@ -47,5 +47,6 @@ told_beside (Some log) entries = Some entries
 
 -- an entry is added; if memory ran out for it, nothing is observable any more
 abbrev pub EntryNoted : Option Log → List Lifecycle → Result Lifecycle OutOfMemory → Option Log → List Lifecycle → Type 0
-EntryNoted log before (Ok entry) log' after = Unchanged log log' × Appended (told_beside log before) (entry ∷ []) (told_beside log' after)
+EntryNoted log before (Ok entry) log' after = Unchanged log log'
+    × Appended (told_beside log before) (entry ∷ []) (told_beside log' after)
 EntryNoted log before (Err e) log' after = log' ≡ None

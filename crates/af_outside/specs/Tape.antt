@@ -131,4 +131,5 @@ sent_in step.Idle = []
 
 -- each scripted link has room for all that the steps send on its link
 pub record HasRoomForSteps (links : List KeptClient) (steps : List Step) : Type 0 where
-  pub each : (k : ℕ) (scripted_link : KeptClient) → slice_get links k ≡ Some scripted_link → sum_by (bytes_sent_by k) steps ≤ scripted_link.room
+  pub each : (k : ℕ) (scripted_link : KeptClient) → slice_get links k ≡ Some scripted_link →
+      sum_by (bytes_sent_by k) steps ≤ scripted_link.room

@@ -12,10 +12,13 @@ use Rattle.af_world.specs.Outside.{Outside, outside_after_happening, outside_aft
 use Rattle.af_outside.specs.TapeState.{TapeState, TapeLeadsTo, Answered, lifecycle_told}
 
 -- a log of two parts is replayed part by part
-pub outside_after_log-append : (o : Outside) (front back : Log) → outside_after_log o (front ++ back) ≡ then_outside (outside_after_log o front) (λ o. outside_after_log o back)
+pub outside_after_log-append : (o : Outside) (front back : Log) →
+    outside_after_log o (front ++ back) ≡ then_outside (outside_after_log o front) (λ o. outside_after_log o back)
 outside_after_log-append o [] back = refl
 outside_after_log-append o (h ∷ front) back =
-    elim (outside_after_happening o h) as (λ x. then_outside x (λ o. outside_after_log o (front ++ back)) ≡ then_outside (then_outside x (λ o. outside_after_log o front)) (λ o. outside_after_log o back))
+    elim (outside_after_happening o h) as
+    (λ x. then_outside x (λ o. outside_after_log o (front ++ back))
+    ≡ then_outside (then_outside x (λ o. outside_after_log o front)) (λ o. outside_after_log o back))
     [ None ↦ refl | Some o' ↦ outside_after_log-append o' front back ]
 
 answered_refl : (log : Option Log) (o : Outside) → Answered log o log o
@@ -34,7 +37,15 @@ answered_trans (Some x) (Some y) (Some z) a b c p q = (
 
 -- no call leads anywhere by itself
 pub TapeLeadsTo-refl : (a : TapeState) → TapeLeadsTo a a
-TapeLeadsTo-refl a = record { config = refl; left = refl; link_faults = le_refl a.link_faults; device_faults = le_refl a.device_faults; lifecycle = refl; answered = answered_refl a.log a.outside }
+TapeLeadsTo-refl a =
+    record {
+      config = refl;
+      left = refl;
+      link_faults = le_refl a.link_faults;
+      device_faults = le_refl a.device_faults;
+      lifecycle = refl;
+      answered = answered_refl a.log a.outside;
+    }
 
 -- calls after calls are calls
 pub TapeLeadsTo-trans : (a b c : TapeState) → TapeLeadsTo a b → TapeLeadsTo b c → TapeLeadsTo a c
@@ -48,7 +59,8 @@ TapeLeadsTo-trans a b c p q = record {
 }
 
 -- calls leave the lifecycle log as it is, if it is still observable
-stays_beside : (x y : Option Log) (a b : Outside) (entries : List Lifecycle) → Answered x a y b → Unchanged (told_beside x entries) (told_beside y entries)
+stays_beside : (x y : Option Log) (a b : Outside) (entries : List Lifecycle) → Answered x a y b →
+    Unchanged (told_beside x entries) (told_beside y entries)
 stays_beside x None a b entries p = tt
 stays_beside None (Some y) a b entries p = absurd p
 stays_beside (Some x) (Some y) a b entries p = refl
@@ -56,7 +68,8 @@ stays_beside (Some x) (Some y) a b entries p = refl
 pub TapeLeadsTo-lifecycle : (a b : TapeState) → TapeLeadsTo a b → Unchanged (lifecycle_told a) (lifecycle_told b)
 TapeLeadsTo-lifecycle a b p =
     let e = ap (λ (o : LifecycleState). o.entries) p.lifecycle in
-    subst (λ entries. Unchanged (lifecycle_told a) (told_beside b.log entries)) (sym e) (stays_beside a.log b.log a.outside b.outside a.lifecycle.entries p.answered)
+    subst (λ entries. Unchanged (lifecycle_told a) (told_beside b.log entries)) (sym e)
+    (stays_beside a.log b.log a.outside b.outside a.lifecycle.entries p.answered)
 
 -- nor do they move the counts of listens and waits that failed
 pub TapeLeadsTo-listen_faults : (a b : TapeState) → TapeLeadsTo a b → b.lifecycle.listen_faults ≡ a.lifecycle.listen_faults

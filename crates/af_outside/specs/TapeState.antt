@@ -28,7 +28,16 @@ pub record TapeState : Type 0 where
 
 -- a tape as it is made
 abbrev pub new_tape : List DeviceSpec → List Step → LifecycleFaults → TapeState
-new_tape config steps faults = record { config = config; left = steps; log = Some []; outside = outside_start config; link_faults = 0; device_faults = 0; lifecycle = lifecycle_start faults }
+new_tape config steps faults =
+    record {
+      config = config;
+      left = steps;
+      log = Some [];
+      outside = outside_start config;
+      link_faults = 0;
+      device_faults = 0;
+      lifecycle = lifecycle_start faults;
+    }
 
 -- a tape as it is made, on which no listen, attach or wait fails
 abbrev pub faultless_tape : List DeviceSpec → List Step → TapeState
@@ -59,16 +68,23 @@ pub record TapeLeadsTo (old new : TapeState) : Type 0 where
 
 -- what a read or a write, which failed or did not, changes of a tape
 abbrev pub ChangedByLink : Bool → TapeState → TapeState → Type 0
-ChangedByLink failed old new = new ≡ record old { log = new.log; outside = new.outside; link_faults = faults_after old.link_faults failed }
+ChangedByLink failed old new =
+    new ≡ record old { log = new.log; outside = new.outside; link_faults = faults_after old.link_faults failed }
 
 -- what a capture, an emit or a hook, which failed or did not, changes of a tape
 abbrev pub ChangedByDevice : Bool → TapeState → TapeState → Type 0
-ChangedByDevice failed old new = new ≡ record old { log = new.log; outside = new.outside; device_faults = faults_after old.device_faults failed }
+ChangedByDevice failed old new =
+    new ≡ record old { log = new.log; outside = new.outside; device_faults = faults_after old.device_faults failed }
 
 -- what an attach, which was refused or not, changes of a tape
 abbrev pub ChangedByAttach : Bool → TapeState → TapeState → Type 0
 ChangedByAttach refused old new =
-    new ≡ record old { log = new.log; device_faults = faults_after old.device_faults refused; lifecycle = record old.lifecycle { entries = new.lifecycle.entries } }
+    new
+    ≡ record old {
+      log = new.log;
+      device_faults = faults_after old.device_faults refused;
+      lifecycle = record old.lifecycle { entries = new.lifecycle.entries };
+    }
 
 -- no count of faults falls
 pub record NoCountFalls (old new : TapeState) : Type 0 where

@@ -85,7 +85,8 @@ impl LifecycleLog {
     pub(crate) fn wait_fails(&mut self) -> bool
         ensures fails { result ≡ is_stated self.old.faults.wait self.old.waits }
         ensures rises { self.old.wait_faults ≤ self.new.wait_faults }
-        ensures counts { self.new ≡ record self.old { waits = next_count self.old.waits; wait_faults = faults_after self.old.wait_faults result } }
+        ensures counts { self.new
+            ≡ record self.old { waits = next_count self.old.waits; wait_faults = faults_after self.old.wait_faults result } }
     {
         let fails = match self.faults.wait {
             Some(stated) => u64::from(stated) == self.waits,

@@ -139,7 +139,8 @@ impl ScriptedLink {
 
     /// Answers a write of a piece: as many bytes are taken as there is room for, if it is not to fail.
     pub(crate) fn write(&mut self, piece: &[u8]) -> LinkTook
-        ensures answered { client_after_call (client_after_write (length piece.now) (took_of result piece.now)) self.old.client ≡ Some self.new.client }
+        ensures answered { client_after_call (client_after_write (length piece.now) (took_of result piece.now)) self.old.client
+            ≡ Some self.new.client }
         ensures bound { TookFits result (length piece.now) }
         ensures room { self.new.room ≡ self.old.room }
     {

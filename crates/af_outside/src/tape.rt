@@ -256,7 +256,8 @@ impl World for Tape {
         ensures bound { TookFits result (length piece.now) }
         ensures cause { result ≡ LinkTook.Failed → FaultCounted self.old.link_faults self.new.link_faults }
         ensures leads { TapeLeadsTo self.old self.new }
-        ensures answered { outside_after_happening self.old.outside (Wrote link (length piece.now) (took_of result piece.now)) ≡ Some self.new.outside }
+        ensures answered { outside_after_happening self.old.outside (Wrote link (length piece.now) (took_of result piece.now))
+            ≡ Some self.new.outside }
         ensures rest { ChangedByLink (write_failed result) self.old self.new }
     {
         let took = links::write(&mut self.links, link, piece);
@@ -283,7 +284,8 @@ impl World for Tape {
         ensures log { Appended self.old.log (Captured device frames (captured_of result into.new) ∷ []) self.new.log }
         ensures cause { result ≡ Put.Failed → FaultCounted self.old.device_faults self.new.device_faults }
         ensures leads { TapeLeadsTo self.old self.new }
-        ensures answered { outside_after_happening self.old.outside (Captured device frames (captured_of result into.new)) ≡ Some self.new.outside }
+        ensures answered { outside_after_happening self.old.outside (Captured device frames (captured_of result into.new))
+            ≡ Some self.new.outside }
         ensures rest { ChangedByDevice (not (is_done result)) self.old self.new }
     {
         let put = scripted_device::capture(&mut self.devices, &self.steps, device, into);
@@ -298,7 +300,8 @@ impl World for Tape {
         ensures log { Appended self.old.log (Emitted device sound.now (is_done result) ∷ []) self.new.log }
         ensures cause { result ≡ Put.Failed → FaultCounted self.old.device_faults self.new.device_faults }
         ensures leads { TapeLeadsTo self.old self.new }
-        ensures answered { outside_after_happening self.old.outside (Emitted device sound.now (is_done result)) ≡ Some self.new.outside }
+        ensures answered { outside_after_happening self.old.outside (Emitted device sound.now (is_done result))
+            ≡ Some self.new.outside }
         ensures rest { ChangedByDevice (not (is_done result)) self.old self.new }
     {
         let put = scripted_device::answer(&mut self.devices, device, DeviceCall::Emit);
@@ -379,10 +382,12 @@ impl Live for Tape {
 
     fn attach(&mut self, alloc: Global, device: u8, spec: &DeviceSpec, kind: Kind<'_>) -> Ready
         ensures log { Unchanged self.old.log self.new.log }
-        ensures lifecycle { Appended (lifecycle_told self.old) (attached result device spec.now (told_kind kind.entry)) (lifecycle_told self.new) }
+        ensures lifecycle { Appended (lifecycle_told self.old) (attached result device spec.now (told_kind kind.entry))
+            (lifecycle_told self.new) }
         ensures cause { result ≡ Ready.Failed → FaultCounted self.old.device_faults self.new.device_faults }
         ensures counts { NoCountFalls self.old self.new }
-        ensures answer { (result ≡ Ready.Done) ↔ ((slice_get self.old.config device ≡ Some spec.now) × (is_stated self.old.lifecycle.faults.attach device ≡ false)) }
+        ensures answer { (result ≡ Ready.Done)
+            ↔ ((slice_get self.old.config device ≡ Some spec.now) × (is_stated self.old.lifecycle.faults.attach device ≡ false)) }
         ensures memory { result ≢ Ready.OutOfMemory }
         ensures rest { ChangedByAttach (was_refused result) self.old self.new }
     {
@@ -397,7 +402,8 @@ impl Live for Tape {
 
     fn attach_line(&mut self, _alloc: Global, device: u8, program: LineProgram<'_>) -> Ready
         ensures log { Unchanged self.old.log self.new.log }
-        ensures lifecycle { Appended (lifecycle_told self.old) (line_attached result device program.entry.restarts (words_of program.entry.words.now))
+        ensures lifecycle { Appended (lifecycle_told self.old)
+            (line_attached result device program.entry.restarts (words_of program.entry.words.now))
             (lifecycle_told self.new) }
         ensures cause { result ≡ Ready.Failed → FaultCounted self.old.device_faults self.new.device_faults }
         ensures counts { NoCountFalls self.old self.new }

@@ -54,11 +54,14 @@ accept_now k play s p = tell_played play.quiet s
     (in_devices play.device (accept_play k (accepted_at s.now play.start.0 play.sound.now play.preempt)) p)
 
 abbrev pub AcceptsPlay : Play → List KeptDevice → LinkState → List KeptDevice → LinkState → Type 0
-AcceptsPlay play ds l ds' l' = (k : ℕ) (ks : List KeptDeferral) → StepsLinkFor play.device (accept_now k play) (kept_shared_state ds ks) l (kept_shared_state ds' ks) l'
+AcceptsPlay play ds l ds' l' = (k : ℕ) (ks : List KeptDeferral) →
+    StepsLinkFor play.device (accept_now k play) (kept_shared_state ds ks) l (kept_shared_state ds' ks) l'
 
 -- a deferred request of a link completes, whichever whole start its word means
 abbrev pub CompletesDeferred : Deferred → ℕ → List KeptDevice → LinkState → List KeptDevice → LinkState → Type 0
 CompletesDeferred word d ds l ds' l' =
-    (k : ℕ) (ks : List KeptDeferral) (a : EnvironmentState) (s : DeviceState) (deferred : Deferred) → StandsForSharedState (kept_shared_state ds ks) a →
+    (k : ℕ) (ks : List KeptDeferral) (a : EnvironmentState) (s : DeviceState) (deferred : Deferred) →
+    StandsForSharedState (kept_shared_state ds ks) a →
     slice_get a.devices d ≡ Some s → word ≡ with_start_word deferred → IsNear (horizon_of s) s.now deferred →
-    StandsForLink (kept_shared_state ds' ks) l' (answer_deferred deferred s (in_devices d (complete_deferred k deferred) (open_link a l)))
+    StandsForLink (kept_shared_state ds' ks) l'
+    (answer_deferred deferred s (in_devices d (complete_deferred k deferred) (open_link a l)))

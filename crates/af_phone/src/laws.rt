@@ -11,7 +11,8 @@ ghost use Rattle.af_phone.specs.declared.line.LineChange.{LineChange};
 pub fn a_hook_is_given_once()
     ensures back { (line : Phone) (off : Bool) → hook_due (with_wanted_hook line.given_off (with_wanted_hook off line)) ≡ None }
     ensures tried { (line : Phone) (done : Bool) → hook_due (line_after_hook done line) ≡ None }
-    ensures other { (line : Phone) (off : Bool) → line.dead ≡ false → off ≢ line.given_off → hook_due (with_wanted_hook off line) ≡ Some off }
+    ensures other { (line : Phone) (off : Bool) → line.dead ≡ false → off ≢ line.given_off →
+        hook_due (with_wanted_hook off line) ≡ Some off }
 {}
 
 /// What changes on a line and what is wanted of it revive no dead line and move no hook.

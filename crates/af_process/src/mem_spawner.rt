@@ -50,7 +50,17 @@ impl MemSpawner {
     /// A spawner that has done nothing. The starts, gives and finishes with these numbers, from 0, fail, and the children end
     /// with these statuses.
     pub fn new(alloc: Global, fails: &[u64], statuses: &[i32]) -> Result<MemSpawner, OutOfMemory>
-        ensures { IfOk result (λ spawner. spawner ≡ record { acts = Some []; fails = fails.now; statuses = statuses.now; calls = 0; faults = 0; started = 0; ended = 0 }) }
+        ensures { IfOk result
+            (λ spawner. spawner
+            ≡ record {
+              acts = Some [];
+              fails = fails.now;
+              statuses = statuses.now;
+              calls = 0;
+              faults = 0;
+              started = 0;
+              ended = 0;
+            }) }
     {
         Ok(MemSpawner {
             notes: Notes::new(alloc),
@@ -99,7 +109,13 @@ impl Spawner for MemSpawner {
         ensures failed { (result ≡ Started.Failed) ↔ (Contains self.old.fails self.old.calls ⊎ (self.old.started ≡ 2 ^ 32 - 1)) }
         ensures child { result ≢ Started.Failed → result ≡ Started.Child self.old.started }
         ensures calls { self.new.calls ≡ next_count self.old.calls }
-        ensures rest { self.new ≡ record self.old { acts = self.new.acts; calls = self.new.calls; faults = self.new.faults; started = started_after self.old.started result } }
+        ensures rest { self.new
+            ≡ record self.old {
+              acts = self.new.acts;
+              calls = self.new.calls;
+              faults = self.new.faults;
+              started = started_after self.old.started result;
+            } }
     {
         let number = self.started;
         let is_refused = number == u32::MAX;
@@ -134,7 +150,13 @@ impl Spawner for MemSpawner {
         ensures failed { (result ≡ Finished.Failed) ↔ Contains self.old.fails self.old.calls }
         ensures status { result ≢ Finished.Failed → result ≡ Finished.Ended (status_at self.old.statuses self.old.ended) }
         ensures calls { self.new.calls ≡ next_count self.old.calls }
-        ensures rest { self.new ≡ record self.old { acts = self.new.acts; calls = self.new.calls; faults = self.new.faults; ended = ended_after self.old.ended result } }
+        ensures rest { self.new
+            ≡ record self.old {
+              acts = self.new.acts;
+              calls = self.new.calls;
+              faults = self.new.faults;
+              ended = ended_after self.old.ended result;
+            } }
     {
         if self.calls.next_fails(self.fails.as_slice()) {
             self.notes.add(Ok(Act::Finished {

@@ -10,7 +10,8 @@ use Rattle.af_program.specs.Acts.{ToldAct, gave, took}
 
 -- what was taken is at the end of a queue
 abbrev pub TakesInto : Gave → List ℕ → List ℕ → Option (List ToldAct) → Option (List ToldAct) → Type 0
-TakesInto (gives.Bytes n) before after acts acts' = (bytes : List ℕ) × (after ≡ before ++ bytes) × Appended acts (gave bytes ∷ []) acts'
+TakesInto (gives.Bytes n) before after acts acts' = (bytes : List ℕ) × (after ≡ before ++ bytes)
+    × Appended acts (gave bytes ∷ []) acts'
 TakesInto gives.NotYet before after acts acts' = (after ≡ before) × Unchanged acts acts'
 TakesInto gives.Ended before after acts acts' = (after ≡ before) × Unchanged acts acts'
 

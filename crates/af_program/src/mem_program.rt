@@ -69,7 +69,19 @@ impl Model for MemProgram {
 impl MemProgram {
     /// A program that was not started, with this plan.
     pub fn new(alloc: Global, plan: &Plan<'_>) -> Result<MemProgram, OutOfMemory>
-        ensures { IfOk result (λ program. program ≡ record { acts = Some []; runs = false; fails = plan.now.fails.now; left = plan.now.output.now; gives = plan.now.gives.now; takes = plan.now.takes.now; starts = 0; take_calls = 0; give_calls = 0 }) }
+        ensures { IfOk result
+            (λ program. program
+            ≡ record {
+              acts = Some [];
+              runs = false;
+              fails = plan.now.fails.now;
+              left = plan.now.output.now;
+              gives = plan.now.gives.now;
+              takes = plan.now.takes.now;
+              starts = 0;
+              take_calls = 0;
+              give_calls = 0;
+            }) }
     {
         Ok(MemProgram {
             notes: Notes::new(alloc),
@@ -136,7 +148,12 @@ impl Program for MemProgram {
         ensures acts { Appended self.old.acts (launched at (words_of words.now) result ∷ []) self.new.acts }
         ensures failed { (result ≡ Launched.Failed) ↔ Contains self.old.fails self.old.starts }
         ensures runs { result ≢ Launched.Failed → result ≡ Launched.Runs }
-        ensures rest { self.new ≡ record self.old { acts = self.new.acts; runs = runs_after self.old.runs (launched at (words_of words.now) result); starts = next_count self.old.starts } }
+        ensures rest { self.new
+            ≡ record self.old {
+              acts = self.new.acts;
+              runs = runs_after self.old.runs (launched at (words_of words.now) result);
+              starts = next_count self.old.starts;
+            } }
     {
         let fails = self.fails.contains(&self.starts);
         self.starts = self.starts.saturating_add(1);
@@ -159,7 +176,8 @@ impl Program for MemProgram {
         ensures gave { result ≡ gave_of (slice_get self.old.gives self.old.take_calls) (length self.old.left) (length into.old) }
         ensures bytes { into.new ≡ take (gave_count result) self.old.left ++ drop (gave_count result) into.old }
         ensures left { self.new.left ≡ drop (gave_count result) self.old.left }
-        ensures rest { self.new ≡ record self.old { acts = self.new.acts; left = self.new.left; take_calls = next_count self.old.take_calls } }
+        ensures rest { self.new
+            ≡ record self.old { acts = self.new.acts; left = self.new.left; take_calls = next_count self.old.take_calls } }
     {
         let most = match self.gives.next_answer() {
             None => return Gave::NotYet,

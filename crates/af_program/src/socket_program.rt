@@ -58,7 +58,8 @@ impl<R: Processes + Net + Drop> Model for SocketProgram<R> {
     } };
 
     // there is room for the program that runs among those that were told to end
-    ghost invariant = { λ a. (8 ≤ vec_capacity a.ending) × (vec_len a.ending ≤ 8) × (IsTrue (is_some a.running) → vec_len a.ending < 8) × IfSome a.running (λ ways. ways ≡ a.ways) };
+    ghost invariant = { λ a. (8 ≤ vec_capacity a.ending) × (vec_len a.ending ≤ 8)
+        × (IsTrue (is_some a.running) → vec_len a.ending < 8) × IfSome a.running (λ ways. ways ≡ a.ways) };
 }
 
 impl<R: Processes + Net + Drop> SocketProgram<R> {
@@ -71,7 +72,9 @@ impl<R: Processes + Net + Drop> SocketProgram<R> {
         ways: Ways,
         input_bytes: u32,
     ) -> Result<SocketProgram<R>, OutOfMemory>
-        ensures { IfOk result (λ program. program ≡ record { ways = ways; input_bytes = input_bytes; runs = false; ending = 0; reason = None; ended = None }) }
+        ensures { IfOk result
+            (λ program. program
+            ≡ record { ways = ways; input_bytes = input_bytes; runs = false; ending = 0; reason = None; ended = None }) }
     {
         Ok(SocketProgram {
             rt,
@@ -186,7 +189,8 @@ impl<R: Processes + Net + Drop> Program for SocketProgram<R> {
     }
 
     fn end(&mut self, at: u64)
-        ensures ended { IsTrue self.old.runs → self.new ≡ record self.old { runs = false; ending = self.old.ending + 1; ended = None } }
+        ensures ended { IsTrue self.old.runs →
+            self.new ≡ record self.old { runs = false; ending = self.old.ending + 1; ended = None } }
         ensures idle { IsFalse self.old.runs → self.new ≡ self.old }
     {
         let Some(running) = self.running.take() else {

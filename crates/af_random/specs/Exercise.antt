@@ -35,7 +35,8 @@ preempts link = if link == 3 then 1 else 0
 -- SelectEvents of every kind of event
 unfoldable pub greeting : ℕ → List ℕ
 greeting link =
-    setup_bytes Big ++ request_bytes Big (create_ac 0 1 2 1 (preempts link) (pos 0) (pos 0)) ++ request_bytes Big (select_events 0 15)
+    setup_bytes Big ++ request_bytes Big (create_ac 0 1 2 1 (preempts link) (pos 0) (pos 0))
+    ++ request_bytes Big (select_events 0 15)
 
 -- each link is opened, and each greets
 unfoldable pub first_steps : List Step
@@ -121,8 +122,10 @@ step_drawn g time = turn_step (drawn_word g) (drawn_word (generator_after g)) ti
 abbrev pub steps_drawn : ℕ → Lcg → ℕ → List Step
 steps_drawn zero g time = []
 steps_drawn (suc turns) g time =
-    step_drawn g time ∷ steps_drawn turns (generator_after (generator_after g)) ((time + frames_ticked (step_drawn g time)) % 2 ^ 32)
+    step_drawn g time ∷ steps_drawn turns (generator_after (generator_after g))
+    ((time + frames_ticked (step_drawn g time)) % 2 ^ 32)
 
 -- the script of a seed and n turns
 unfoldable pub generated_script : ℕ → ℕ → StatedScript
-generated_script seed turns = record { config = exercised_devices; steps = first_steps ++ steps_drawn turns (seeded_generator seed) start_time }
+generated_script seed turns =
+    record { config = exercised_devices; steps = first_steps ++ steps_drawn turns (seeded_generator seed) start_time }

@@ -36,7 +36,8 @@ device_info_of _ _ _ _ _ = None
 abbrev pub device_in : Order → List ℕ → Option DeviceInfo
 device_in order bytes =
     if u8_at 3 bytes == 0
-    then device_info_of (type_of_code (u8_at 0 bytes)) (u8_at 1 bytes) (flag_of (u8_at 2 bytes)) (u32_at order 4 bytes) (u32_at order 8 bytes)
+    then device_info_of (type_of_code (u8_at 0 bytes)) (u8_at 1 bytes) (flag_of (u8_at 2 bytes)) (u32_at order 4 bytes)
+    (u32_at order 8 bytes)
     else None
 
 -- a device and those after it
@@ -52,7 +53,8 @@ devices_in order (suc count) bytes = device_then (device_in order (take 12 bytes
 -- the reply to a setup: version 1.0, and 1 to 8 devices
 abbrev pub setup_in : Order → List ℕ → Option Answer
 setup_in order body = let count = u32_at order 4 body in
-    if u16_at order 0 body == 1 && u16_at order 2 body == 0 && nat_le 1 count && nat_le count most_devices && length body == 8 + 12 * count
+    if u16_at order 0 body == 1 && u16_at order 2 body == 0 && nat_le 1 count && nat_le count most_devices
+    && length body == 8 + 12 * count
     then option_map setup (devices_in order count (drop 8 body))
     else None
 
@@ -87,7 +89,8 @@ controls_of _ _ _ _ = None
 abbrev pub controls_in : Order → List ℕ → Option Answer
 controls_in order body =
     if length body == 8 && is_zero (slice_range body 2 4)
-    then controls_of (flag_of (u8_at 0 body)) (flag_of (u8_at 1 body)) (gain_of (i16_at order 4 body)) (gain_of (i16_at order 6 body))
+    then controls_of (flag_of (u8_at 0 body)) (flag_of (u8_at 1 body)) (gain_of (i16_at order 4 body))
+    (gain_of (i16_at order 6 body))
     else None
 
 abbrev pub phone_of : Option Bool → Option Bool → Option Bool → Option Bool → Option Bool → Option Phone
@@ -99,7 +102,9 @@ phone_of _ _ _ _ _ = None
 abbrev pub phone_in : List ℕ → Option Answer
 phone_in body =
     if length body == 8 && is_zero (drop 5 body)
-    then option_map phone (phone_of (flag_of (u8_at 0 body)) (flag_of (u8_at 1 body)) (flag_of (u8_at 2 body)) (flag_of (u8_at 3 body)) (flag_of (u8_at 4 body)))
+    then option_map phone
+    (phone_of (flag_of (u8_at 0 body)) (flag_of (u8_at 1 body)) (flag_of (u8_at 2 body)) (flag_of (u8_at 3 body))
+    (flag_of (u8_at 4 body)))
     else None
 
 -- the replies to CreateAC, ChangeAC, FreeAC, SelectEvents, SetControls and HookSwitch have no value
@@ -121,7 +126,8 @@ answer_in order opcode body =
 
 -- what the reply to a setup says of a device
 abbrev pub device_bytes : Order → DeviceInfo → List ℕ
-device_bytes order d = (code_of d.ty ∷ d.channels ∷ flag_byte d.line ∷ 0 ∷ []) ++ u32_bytes order d.rate ++ u32_bytes order d.horizon
+device_bytes order d = (code_of d.ty ∷ d.channels ∷ flag_byte d.line ∷ 0 ∷ []) ++ u32_bytes order d.rate
+    ++ u32_bytes order d.horizon
 
 -- what the reply to QueryPhone says
 abbrev pub phone_bytes : Phone → List ℕ
@@ -130,7 +136,8 @@ phone_bytes p =
 
 -- how the body of a reply is spelled
 abbrev pub body_bytes : Order → Answer → List ℕ
-body_bytes order (setup devices) = u16_bytes order 1 ++ u16_bytes order 0 ++ u32_bytes order (length devices) ++ flat_map (device_bytes order) devices
+body_bytes order (setup devices) = u16_bytes order 1 ++ u16_bytes order 0 ++ u32_bytes order (length devices)
+    ++ flat_map (device_bytes order) devices
 body_bytes order plain = []
 body_bytes order (time now) = u32_bytes order now
 body_bytes order (played now) = u32_bytes order now
@@ -166,7 +173,8 @@ pub record IsDeviceInfo (d : DeviceInfo) : Type 0 where
 
 -- a reply that a request of an opcode may get
 abbrev pub IsReplyTo : ℕ → Answer → Type 0
-IsReplyTo opcode (setup devices) = (opcode ≡ opcodes.setup) × (1 ≤ length devices) × (length devices ≤ most_devices) × All IsDeviceInfo devices
+IsReplyTo opcode (setup devices) = (opcode ≡ opcodes.setup) × (1 ≤ length devices) × (length devices ≤ most_devices)
+    × All IsDeviceInfo devices
 IsReplyTo opcode plain = IsTrue (is_plain opcode)
 IsReplyTo opcode (time now) = (opcode ≡ opcodes.get_time) × (now < 2 ^ 32)
 IsReplyTo opcode (played now) = (opcode ≡ opcodes.play) × (now < 2 ^ 32)

@@ -30,11 +30,15 @@ get_time_row frame = row 1 (get_time (u8_at 1 frame))
 
 -- CreateAC; the detail is the device
 abbrev pub create_ac_row : Order → List ℕ → Row
-create_ac_row order frame = row 4 (create_ac (u8_at 1 frame) (u32_at order 4 frame) (u8_at 8 frame) (u8_at 9 frame) (u8_at 10 frame) (i16_at order 12 frame) (i16_at order 14 frame))
+create_ac_row order frame =
+    row 4
+    (create_ac (u8_at 1 frame) (u32_at order 4 frame) (u8_at 8 frame) (u8_at 9 frame) (u8_at 10 frame) (i16_at order 12 frame)
+    (i16_at order 14 frame))
 
 -- ChangeAC; the detail is the mask of what changes
 abbrev pub change_ac_row : Order → List ℕ → Row
-change_ac_row order frame = row 4 (change_ac (u8_at 1 frame) (u32_at order 4 frame) (u8_at 8 frame) (i16_at order 12 frame) (i16_at order 14 frame))
+change_ac_row order frame =
+    row 4 (change_ac (u8_at 1 frame) (u32_at order 4 frame) (u8_at 8 frame) (i16_at order 12 frame) (i16_at order 14 frame))
 
 -- FreeAC
 abbrev pub free_ac_row : Order → List ℕ → Row
@@ -47,11 +51,13 @@ low_bit frame = bit_and (u8_at 1 frame) 1 == 1
 -- Play; bit 0 of the detail asks for no reply, and the data are padded to a word
 abbrev pub play_run_row : Order → List ℕ → Row
 play_run_row order frame = let count = u32_at order 12 frame in
-    row (4 + words_for count) (play_run (low_bit frame) (u32_at order 4 frame) (u32_at order 8 frame) (slice_range frame 16 (16 + count)))
+    row (4 + words_for count)
+    (play_run (low_bit frame) (u32_at order 4 frame) (u32_at order 8 frame) (slice_range frame 16 (16 + count)))
 
 -- Record; bit 0 of the detail asks to wait for all samples
 abbrev pub record_run_row : Order → List ℕ → Row
-record_run_row order frame = row 4 (record_run (low_bit frame) (u32_at order 4 frame) (u32_at order 8 frame) (u32_at order 12 frame))
+record_run_row order frame =
+    row 4 (record_run (low_bit frame) (u32_at order 4 frame) (u32_at order 8 frame) (u32_at order 12 frame))
 
 -- SelectEvents; the detail is the device
 abbrev pub select_events_row : Order → List ℕ → Row
@@ -59,7 +65,9 @@ select_events_row order frame = row 2 (select_events (u8_at 1 frame) (u32_at ord
 
 -- SetControls; the detail is the device
 abbrev pub set_controls_row : Order → List ℕ → Row
-set_controls_row order frame = row 3 (set_controls (u8_at 1 frame) (u8_at 4 frame) (u8_at 5 frame) (u8_at 6 frame) (i16_at order 8 frame) (i16_at order 10 frame))
+set_controls_row order frame =
+    row 3
+    (set_controls (u8_at 1 frame) (u8_at 4 frame) (u8_at 5 frame) (u8_at 6 frame) (i16_at order 8 frame) (i16_at order 10 frame))
 
 -- QueryControls; the detail is the device
 abbrev pub query_controls_row : List ℕ → Row

@@ -37,7 +37,10 @@ i16_bytes x = to_be_bytes w16 (cast_unsigned w16 x)
 
 -- CreateAC; the detail is the device
 abbrev pub create_ac_row : List ℕ → Row
-create_ac_row frame = row 4 (create_ac (u8_at 1 frame) (u32_at 4 frame) (u8_at 8 frame) (u8_at 9 frame) (u8_at 10 frame) (i16_at 12 frame) (i16_at 14 frame))
+create_ac_row frame =
+    row 4
+    (create_ac (u8_at 1 frame) (u32_at 4 frame) (u8_at 8 frame) (u8_at 9 frame) (u8_at 10 frame) (i16_at 12 frame)
+    (i16_at 14 frame))
 
 -- ChangeAC; the detail is the mask of what changes
 abbrev pub change_ac_row : List ℕ → Row
@@ -62,7 +65,8 @@ select_events_row frame = row 2 (select_events (u8_at 1 frame) (u32_at 4 frame))
 
 -- SetControls; the detail is the device
 abbrev pub set_controls_row : List ℕ → Row
-set_controls_row frame = row 3 (set_controls (u8_at 1 frame) (u8_at 4 frame) (u8_at 5 frame) (u8_at 6 frame) (i16_at 8 frame) (i16_at 10 frame))
+set_controls_row frame =
+    row 3 (set_controls (u8_at 1 frame) (u8_at 4 frame) (u8_at 5 frame) (u8_at 6 frame) (i16_at 8 frame) (i16_at 10 frame))
 
 -- HookSwitch; the detail is the device
 abbrev pub hook_switch_row : List ℕ → Row

@@ -44,7 +44,8 @@ pub fn requests_round_trip()
 /// A reply that is written has a body of the length that its header states, which is read again as the same reply. The devices
 /// that the reply to a setup is read as are such as it may state.
 pub fn replies_round_trip()
-    ensures again { (order : Order) (opcode : ℕ) (a : Answer) → IsReplyTo opcode a → answer_in order opcode (body_bytes order a) ≡ Some a }
+    ensures again { (order : Order) (opcode : ℕ) (a : Answer) → IsReplyTo opcode a →
+        answer_in order opcode (body_bytes order a) ≡ Some a }
     ensures words { (order : Order) (a : Answer) → length (body_bytes order a) ≡ 4 * body_words a }
     ensures stated { (order : Order) (body : List ℕ) (devices : List DeviceInfo) →
         answer_in order opcodes.setup body ≡ Some (setup devices) → IsReplyTo opcodes.setup (setup devices) }
@@ -56,5 +57,6 @@ pub fn big_is_as_before()
     ensures asks { (frame : List ℕ) → asked_in Big frame ≡ big.asked_in frame }
     ensures requests { (a : Asked) → request_bytes Big a ≡ big.request_bytes a }
     ensures answers { (opcode : ℕ) (body : List ℕ) → answer_in Big opcode body ≡ big.answer_in opcode body }
-    ensures replies { (opcode : ℕ) (a : Answer) (sequence : ℕ) → reply_bytes Big opcode a sequence ≡ big.reply_bytes opcode a sequence }
+    ensures replies { (opcode : ℕ) (a : Answer) (sequence : ℕ) →
+        reply_bytes Big opcode a sequence ≡ big.reply_bytes opcode a sequence }
 {}

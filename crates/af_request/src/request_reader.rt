@@ -21,7 +21,8 @@ pub fn read_request<'a>(order: Order, frame: &'a [u8]) -> Option<Request<'a>>
 }
 
 fn request_of<'a>(order: Order, opcode: u8, frame: &'a [u8]) -> Option<Request<'a>>
-    ensures { option_map request_meaning result ≡ option_and_then (asked_by frame.entry.now) (row_of order opcode frame.entry.now) }
+    ensures { option_map request_meaning result
+        ≡ option_and_then (asked_by frame.entry.now) (row_of order opcode frame.entry.now) }
 {
     match opcode {
         opcode::NO_OP => no_op(frame),

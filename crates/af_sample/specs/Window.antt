@@ -14,4 +14,5 @@ recorded_sample channels captured begin now horizon t channel =
 -- the samples of n frames from a start on, each as it is recorded
 abbrev pub window : ℕ → List ℤ → ℕ → ℕ → ℕ → ℕ → ℕ → List ℤ
 window channels captured begin now horizon start n =
-    map (λ j. recorded_sample channels captured begin now horizon (start + j / channels) (j % channels)) (range_with_len 0 (channels * n))
+    map (λ j. recorded_sample channels captured begin now horizon (start + j / channels) (j % channels))
+    (range_with_len 0 (channels * n))

@@ -31,4 +31,5 @@ Prints (Err broken) before text after = CutOff before text after
 
 -- the same for a sink, by functions that say what it holds, and how often it has failed
 abbrev pub Puts : {K : Type 0} → (K → Option (List ℕ)) → (K → ℕ) → Result (Unit {0}) Broken → K → List ℕ → K → Type 0
-Puts held faults result before text after = Prints result (printer_with (held before) (faults before)) text (printer_with (held after) (faults after))
+Puts held faults result before text after =
+    Prints result (printer_with (held before) (faults before)) text (printer_with (held after) (faults after))

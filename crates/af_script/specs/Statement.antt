@@ -78,7 +78,10 @@ device_at ty rate start channels line = record { ty = ty; rate = rate; start = s
 -- after `device`
 abbrev pub device_with : List (List ℕ) → Option DeviceSpec
 device_with (ty ∷ rate ∷ start ∷ rest) =
-    option_and_then (λ t. option_and_then (λ r. option_and_then (λ s. option_map (device_at t r s (channels_stated rest)) (line_stated (after_channels rest))) (number_within 0 (2 ^ 32 - 1) start)) (rate_of rate)) (type_of ty)
+    option_and_then
+    (λ t. option_and_then
+    (λ r. option_and_then (λ s. option_map (device_at t r s (channels_stated rest)) (line_stated (after_channels rest)))
+    (number_within 0 (2 ^ 32 - 1) start)) (rate_of rate)) (type_of ty)
 device_with _ = None
 
 -- the device that a line of this kind states, by the words that follow its name
@@ -119,7 +122,8 @@ with_number number_in step arguments = option_map step (number_alone number_in a
 
 -- a step of a number and a value, by the words that follow its name
 abbrev pub with_value : {X : Type 0} → (List ℕ → Option ℕ) → (List ℕ → Option X) → (ℕ → X → Step) → List (List ℕ) → Option Step
-with_value number_in value_in step (number ∷ value ∷ []) = option_and_then (λ n. option_map (step n) (value_in value)) (number_in number)
+with_value number_in value_in step (number ∷ value ∷ []) =
+    option_and_then (λ n. option_map (step n) (value_in value)) (number_in number)
 with_value number_in value_in step _ = None
 
 -- the step of `send K HEX`
@@ -143,7 +147,9 @@ capture_of size _ = None
 -- the step of `tick D N` or `tick D N HEX`
 abbrev pub tick_of : List DeviceSpec → List (List ℕ) → Option Step
 tick_of config (device ∷ frames ∷ capture) =
-    option_and_then (λ d. option_and_then (λ n. option_map (step.Tick d n) (capture_of (n * frame_bytes_at config d) capture)) (number_within 1 longest_tick frames)) (device_number config device)
+    option_and_then
+    (λ d. option_and_then (λ n. option_map (step.Tick d n) (capture_of (n * frame_bytes_at config d) capture))
+    (number_within 1 longest_tick frames)) (device_number config device)
 tick_of config _ = None
 
 -- `on` or `off`

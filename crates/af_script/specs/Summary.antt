@@ -40,7 +40,13 @@ count_line name number = name ++ decimal number ++ codes "\n"
 -- the counts of a log: the bytes of all emits that were done, the bytes that links took, the closes, and the sum of the emitted
 -- bytes modulo 2^64
 abbrev pub tally_of : Log → Tally
-tally_of log = record { emitted = length (bytes_emitted log); taken = length (bytes_taken log); closed = count_by is_close log; total = sum (bytes_emitted log) % 2 ^ 64 }
+tally_of log =
+    record {
+      emitted = length (bytes_emitted log);
+      taken = length (bytes_taken log);
+      closed = count_by is_close log;
+      total = sum (bytes_emitted log) % 2 ^ 64;
+    }
 
 -- the lines of these counts, with the steps of the script before them
 abbrev pub tally_lines : ℕ → Tally → List ℕ

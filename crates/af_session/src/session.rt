@@ -37,7 +37,8 @@ impl Model for Session {
 
     ghost view = { λ s. flow s.input s.output.items };
 
-    ghost invariant = { λ s. IsFlow (flow s.input s.output.items) × (s.output.capacity ≡ output_room) × (output_room ≤ vec_capacity s.piece)
+    ghost invariant = { λ s. IsFlow (flow s.input s.output.items) × (s.output.capacity ≡ output_room)
+        × (output_room ≤ vec_capacity s.piece)
         × IfSome s.gone (λ gone. (gone ≤ length s.piece.items) × (drop gone s.piece.items ≡ s.output.items)) };
 }
 

@@ -24,7 +24,8 @@ impl Model for Unread {
 
     ghost view = { λ u. drop u.start u.bytes.items };
 
-    ghost invariant = { λ u. (u.start ≤ vec_len u.bytes) × (vec_len u.bytes ≤ most_unread) × (most_unread ≤ vec_capacity u.bytes) };
+    ghost invariant = { λ u. (u.start ≤ vec_len u.bytes) × (vec_len u.bytes ≤ most_unread)
+        × (most_unread ≤ vec_capacity u.bytes) };
 }
 
 impl Unread {

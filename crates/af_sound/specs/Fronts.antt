@@ -14,7 +14,8 @@ pub record Front : Type 0 where
 abbrev pub front_from : Place → ℕ → List ℕ → Front
 front_from place taken [] = record { says = step_at place; size = taken }
 front_from place taken (byte ∷ rest) =
-    if is_inside place then front_from (place_after_byte place byte) (suc taken) rest else record { says = step_at place; size = taken }
+    if is_inside place then front_from (place_after_byte place byte) (suc taken) rest
+    else record { says = step_at place; size = taken }
 
 unfoldable pub front_of : SoundForm → List ℕ → Front
 front_of form bytes = front_from (start form) 0 bytes

@@ -135,7 +135,8 @@ wave_after (wave.ChunkSize format) bytes = chunk_start (from_le_bytes w32 bytes)
 wave_after wave.FormatSize bytes = format_size (from_le_bytes w32 bytes)
 wave_after (wave.FormatTag more) bytes = field_start (field.Wave (wave.FormatRate more (low_half bytes) (high_half bytes)))
 wave_after (wave.FormatRate more tag channels) bytes =
-    field_start (field.Wave (wave.FormatIgnored (record { more = more; tag = tag; channels = channels; rate = from_le_bytes w32 bytes })))
+    field_start
+    (field.Wave (wave.FormatIgnored (record { more = more; tag = tag; channels = channels; rate = from_le_bytes w32 bytes })))
 wave_after (wave.FormatIgnored fields) bytes = field_start (field.Wave (wave.FormatBits fields))
 wave_after (wave.FormatBits fields) bytes = format_end fields (format_of fields (high_half bytes))
 wave_after (wave.DataSize format) bytes = Head (head_with format (from_le_bytes w32 bytes))
@@ -155,7 +156,8 @@ field_after_byte of (Three a b c) byte = after_field of (a ∷ b ∷ c ∷ byte 
 abbrev pub place_after_byte : Place → ℕ → Place
 place_after_byte (Field of part) byte = field_after_byte of part byte
 place_after_byte (Annotation left head) byte = if nat_lt 1 left then Annotation (left - 1) head else Head head
-place_after_byte (Chunk left format) byte = if nat_lt 1 left then Chunk (left - 1) format else field_start (field.Wave (wave.ChunkName format))
+place_after_byte (Chunk left format) byte = if nat_lt 1 left then Chunk (left - 1) format
+    else field_start (field.Wave (wave.ChunkName format))
 place_after_byte (Head head) byte = Head head
 place_after_byte (Bad fault) byte = Bad fault
 

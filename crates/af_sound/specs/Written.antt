@@ -81,7 +81,8 @@ little16_bytes number = to_le_bytes w16 number
 -- an .au header without an annotation
 unfoldable pub au_bytes : SoundHead → List ℕ
 au_bytes head =
-    codes ".snd" ++ big_bytes 24 ++ big_bytes (size_of head.length) ++ big_bytes (encoding_of head.coding) ++ big_bytes head.rate ++ big_bytes head.channels
+    codes ".snd" ++ big_bytes 24 ++ big_bytes (size_of head.length) ++ big_bytes (encoding_of head.coding) ++ big_bytes head.rate
+    ++ big_bytes head.channels
 
 -- the front of a WAVE header, up to the size of `fmt `
 abbrev pub riff_bytes : SoundHead → List ℕ
@@ -91,7 +92,8 @@ riff_bytes head = codes "RIFF" ++ little_bytes (riff_size head.length) ++ codes 
 abbrev pub with_format : List ℕ → SoundHead → List ℕ
 with_format front head =
     front ++ little16_bytes (tag_of head.coding) ++ little16_bytes head.channels ++ little_bytes head.rate
-    ++ little_bytes (head.rate * frame_size head % 2 ^ 32) ++ little16_bytes (frame_size head) ++ little16_bytes (sample_size head.coding * 8)
+    ++ little_bytes (head.rate * frame_size head % 2 ^ 32) ++ little16_bytes (frame_size head)
+    ++ little16_bytes (sample_size head.coding * 8)
 
 -- a WAVE header with the chunk `fmt ` and the front of `data`
 unfoldable pub wave_bytes : SoundHead → List ℕ

@@ -68,7 +68,8 @@ impl HeadReader {
     /// where they are a complete header, and else More.
     pub fn take(&mut self, byte: u8) -> HeadStep
         requires { IsOpen self.old }
-        ensures taken { (form : SoundForm) (bytes : List ℕ) → HasTaken self.old form bytes → HasTaken self.new form (bytes ++ (byte ∷ [])) }
+        ensures taken { (form : SoundForm) (bytes : List ℕ) → HasTaken self.old form bytes →
+            HasTaken self.new form (bytes ++ (byte ∷ [])) }
         ensures bad { (form : SoundForm) (bytes : List ℕ) (fault : SoundFault) → HasTaken self.old form bytes →
             (result ≡ step.Bad fault) ↔ HasFault form (bytes ++ (byte ∷ [])) fault }
         ensures head { (form : SoundForm) (bytes : List ℕ) (head : SoundHead) → HasTaken self.old form bytes →

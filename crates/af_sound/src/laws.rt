@@ -33,7 +33,8 @@ pub fn a_front_is_decided()
     ensures is_head { (form : SoundForm) (bytes : List ℕ) (n : ℕ) (head : SoundHead) →
         front_of form bytes ≡ record { says = step.Head head; size = n } → (n ≤ length bytes) × IsHead form (take n bytes) head }
     ensures has_fault { (form : SoundForm) (bytes : List ℕ) (n : ℕ) (fault : SoundFault) →
-        front_of form bytes ≡ record { says = step.Bad fault; size = n } → (n ≤ length bytes) × HasFault form (take n bytes) fault }
+        front_of form bytes ≡ record { says = step.Bad fault; size = n } → (n ≤ length bytes)
+        × HasFault form (take n bytes) fault }
     ensures is_whole { (form : SoundForm) (bytes : List ℕ) (n : ℕ) →
         front_of form bytes ≡ record { says = step.More; size = n } → n ≡ length bytes }
 {}

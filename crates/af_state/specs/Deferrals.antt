@@ -19,7 +19,8 @@ pub record KeptDeferral : Type 0 where
 
 -- a link has a request deferred for n frames of a device
 abbrev pub deferral_of : ℕ → ℕ → ℕ → Deferred → KeptDeferral
-deferral_of link device left deferred = record { wait = record { link = link; device = device; left = left }; deferred = deferred }
+deferral_of link device left deferred =
+    record { wait = record { link = link; device = device; left = left }; deferred = deferred }
 
 -- a wait, joined with what the room of its link holds
 abbrev pub kept_deferral : List Deferred → Wait → KeptDeferral
@@ -79,7 +80,8 @@ with_start_word (deferred_record c start frames) = deferred_record c (start % 2 
 -- frames
 abbrev pub IsShort : ℕ → Deferred → Type 0
 IsShort channels (deferred_play quiet start sound preempt) = (length sound ≤ longest_play) × AreWholeFrames channels sound
-IsShort channels (deferred_record c start frames) = (frames ≤ longest_record) × (frames * frame_bytes c.ty channels ≤ longest_record)
+IsShort channels (deferred_record c start frames) = (frames ≤ longest_record)
+    × (frames * frame_bytes c.ty channels ≤ longest_record)
 
 -- the start of a request is near a time: if it is completed then it loses nothing, and its word means its start
 abbrev pub IsNear : ℕ → ℕ → Deferred → Type 0

@@ -28,17 +28,21 @@ StepsLink f e l e' l' = (a : EnvironmentState) → StandsForSharedState e a → 
 
 -- the same for what touches only devices, whatever waits for them
 abbrev pub StepsDevices : (OpenLink → OpenLink) → List KeptDevice → LinkState → List KeptDevice → LinkState → Type 0
-StepsDevices f ds l ds' l' = (waits : List KeptDeferral) → StepsLink f (kept_shared_state ds waits) l (kept_shared_state ds' waits) l'
+StepsDevices f ds l ds' l' = (waits : List KeptDeferral) →
+    StepsLink f (kept_shared_state ds waits) l (kept_shared_state ds' waits) l'
 
 -- the same for what is done with a device that exists, by the state that it stands for
-abbrev pub StepsLinkFor : ℕ → (DeviceState → OpenLink → OpenLink) → KeptSharedState → LinkState → KeptSharedState → LinkState → Type 0
+abbrev pub StepsLinkFor : ℕ → (DeviceState → OpenLink → OpenLink) → KeptSharedState → LinkState → KeptSharedState → LinkState →
+    Type 0
 StepsLinkFor d f e l e' l' =
-    (a : EnvironmentState) (s : DeviceState) → StandsForSharedState e a → slice_get a.devices d ≡ Some s → StandsForLink e' l' (f s (open_link a l))
+    (a : EnvironmentState) (s : DeviceState) → StandsForSharedState e a → slice_get a.devices d ≡ Some s →
+    StandsForLink e' l' (f s (open_link a l))
 
 -- something is done to a link in this environment, which changes only in what was queued for the link
 abbrev pub ChangesLinkIn : EnvironmentState → (OpenLink → OpenLink) → LinkState → LinkState → Type 0
 ChangesLinkIn a f l l' =
-    ((f (open_link a l)).link ≡ l') × ((f (open_link a l)).environment.devices ≡ a.devices) × ((f (open_link a l)).environment.waiting ≡ a.waiting)
+    ((f (open_link a l)).link ≡ l') × ((f (open_link a l)).environment.devices ≡ a.devices)
+    × ((f (open_link a l)).environment.waiting ≡ a.waiting)
 
 -- the same in any environment
 abbrev pub ChangesLink : (OpenLink → OpenLink) → LinkState → LinkState → Type 0

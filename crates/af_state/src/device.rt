@@ -44,7 +44,16 @@ impl Model for Device {
 
     ghost Value = { KeptDevice };
 
-    ghost view = { λ d. record { ty = d.ty; rate = d.rate; next = d.next; last = d.last; controls = d.controls; line = d.line; is_dead = d.is_dead } };
+    ghost view = { λ d.
+        record {
+          ty = d.ty;
+          rate = d.rate;
+          next = d.next;
+          last = d.last;
+          controls = d.controls;
+          line = d.line;
+          is_dead = d.is_dead;
+        } };
 
     ghost invariant = { λ d. IsListedRate d.rate × (d.last.channels ≡ d.next.channels) };
 }

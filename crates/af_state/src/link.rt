@@ -65,7 +65,19 @@ impl Model for ServedLink {
 
     ghost invariant = { λ a. length a.session.pending ≤ most_pending };
 
-    ghost view = { λ a. record { is_set_up = a.is_set_up; order = a.order; rest = a.session.rest; pending = a.session.pending; is_ready = a.is_ready; is_stuck = a.is_stuck; closing = a.closing; sequence = a.sequence; contexts = a.contexts; selections = a.selections } };
+    ghost view = { λ a.
+        record {
+          is_set_up = a.is_set_up;
+          order = a.order;
+          rest = a.session.rest;
+          pending = a.session.pending;
+          is_ready = a.is_ready;
+          is_stuck = a.is_stuck;
+          closing = a.closing;
+          sequence = a.sequence;
+          contexts = a.contexts;
+          selections = a.selections;
+        } };
 }
 
 impl ServedLink {
@@ -223,7 +235,10 @@ impl ServedLink {
         requires samples { FitsMessage (reply_meaning reply.now) }
         requires size { length message.old ≡ longest_message }
         ensures { self.new ≡
-            record self.old { pending = self.old.pending ++ reply_message self.old.order opcode (reply_meaning reply.now) self.old.sequence } }
+            record self.old {
+              pending = self.old.pending
+                  ++ reply_message self.old.order opcode (reply_meaning reply.now) self.old.sequence;
+            } }
     {
         let n = write_reply(self.order, opcode, reply, self.sequence, message);
         self.session.push_out(&message[..n]);
@@ -248,7 +263,10 @@ impl ServedLink {
     pub fn refuse(&mut self, opcode: u8, refusal: Refusal)
         requires { length self.old.pending ≤ event_limit }
         ensures { self.new ≡
-            record self.old { pending = self.old.pending ++ error self.old.order (code_of_cause refusal.cause) refusal.value opcode self.old.sequence } }
+            record self.old {
+              pending = self.old.pending
+                  ++ error self.old.order (code_of_cause refusal.cause) refusal.value opcode self.old.sequence;
+            } }
     {
         let mut message = [0; 16];
         write_error(
@@ -346,7 +364,8 @@ impl ServedLink {
     /// An event is told.
     pub fn tell(&mut self, event: Event)
         requires { length self.old.pending ≤ event_limit }
-        ensures told { self.new ≡ record self.old { pending = self.old.pending ++ event_bytes self.old.order event self.old.sequence } }
+        ensures told { self.new
+            ≡ record self.old { pending = self.old.pending ++ event_bytes self.old.order event self.old.sequence } }
         ensures size { length self.new.pending ≡ length self.old.pending + 20 }
     {
         let mut message = [0; 20];

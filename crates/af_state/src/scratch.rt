@@ -22,7 +22,8 @@ impl Model for Work {
 
     ghost view = { λ a. tt };
 
-    ghost invariant = { λ a. (length a.samples.items ≡ longest_frame) × (length a.bytes.items ≡ longest_frame) × (length a.message.items ≡ longest_message) };
+    ghost invariant = { λ a. (length a.samples.items ≡ longest_frame) × (length a.bytes.items ≡ longest_frame)
+        × (length a.message.items ≡ longest_message) };
 }
 
 /// Room for input, from a link or a device, and for the work on it.

@@ -13,7 +13,8 @@ pub record Entry (A : Type 0) : Type 0 where
 abbrev pub entries_of : {A : Type 0} → (List ℕ → Bool) → (List ℕ → A) → ℕ → List (List ℕ) → List (Entry A)
 entries_of is_over said n [] = []
 entries_of is_over said n (line ∷ rest) =
-    if is_over line then entries_of is_over said (suc n) rest else record { number = n; said = said line } ∷ entries_of is_over said (suc n) rest
+    if is_over line then entries_of is_over said (suc n) rest else record { number = n; said = said line }
+    ∷ entries_of is_over said (suc n) rest
 
 -- what each of these lines says, or the number of the first that says nothing
 abbrev pub each_says : {A B : Type 0} → (A → Option B) → List (Entry A) → Result (List B) ℕ

@@ -32,7 +32,8 @@ is_value _ value = nat_le value 1
 -- how an event is spelled, with the number of the last request that was performed or begun
 unfoldable pub event_bytes : Order → Event → ℕ → List ℕ
 event_bytes order e sequence =
-    head order 2 (detail_of e.kind) sequence 3 ++ (u32_bytes order e.device ++ u32_bytes order e.time.0 ++ u32_bytes order e.value)
+    head order 2 (detail_of e.kind) sequence 3
+    ++ (u32_bytes order e.device ++ u32_bytes order e.time.0 ++ u32_bytes order e.value)
 
 -- an event of a kind, if its device is one that a server may have, and its value one of its kind
 abbrev pub event_from : Option EventKind → ℕ → ℕ → ℕ → Option Event

@@ -31,7 +31,8 @@ message_front order _ = NeedMore 8
 
 -- bytes that are one message, whatever follows them
 unfoldable pub IsOneMessage : Order → (kind detail sequence : ℕ) → List ℕ → Type 0
-IsOneMessage order kind detail sequence bytes = (rest : List ℕ) → message_front order (bytes ++ rest) ≡ Message kind detail sequence (length bytes)
+IsOneMessage order kind detail sequence bytes = (rest : List ℕ) →
+    message_front order (bytes ++ rest) ≡ Message kind detail sequence (length bytes)
 
 -- more is needed than is there, and at most what the longest message has; or a message is there; or a bad header is there
 abbrev pub IsMessageWithin : MessageFront → ℕ → Type 0

@@ -22,7 +22,8 @@ u16_bytes order n = byte_at (by_order order 1 0) n ∷ byte_at (by_order order 0
 
 abbrev pub u32_bytes : Order → ℕ → List ℕ
 u32_bytes order n =
-    byte_at (by_order order 3 0) n ∷ byte_at (by_order order 2 1) n ∷ byte_at (by_order order 1 2) n ∷ byte_at (by_order order 0 3) n ∷ []
+    byte_at (by_order order 3 0) n ∷ byte_at (by_order order 2 1) n ∷ byte_at (by_order order 1 2) n
+    ∷ byte_at (by_order order 0 3) n ∷ []
 
 -- two bytes of a number in two's complement
 abbrev pub i16_of : Order → List ℕ → ℤ

@@ -187,7 +187,8 @@ IsStep config (step.Open k) = k < most_links
 IsStep config (step.Send k bytes) = (k < most_links) × (1 ≤ length bytes) × (length bytes ≤ longest_send)
 IsStep config (step.End k) = k < most_links
 IsStep config (step.Room k room) = (k < most_links) × IsRoom room
-IsStep config (step.Tick d n captured) = (d < length config) × (1 ≤ n) × (n ≤ longest_tick) × IsCapture (n * frame_bytes_at config d) captured
+IsStep config (step.Tick d n captured) = (d < length config) × (1 ≤ n) × (n ≤ longest_tick)
+    × IsCapture (n * frame_bytes_at config d) captured
 IsStep config (step.Line d change) = IsTrue (spec_has_line config d) × IsTrue (is_change change)
 IsStep config (step.FailRead k) = k < most_links
 IsStep config (step.FailWrite k) = k < most_links
@@ -225,7 +226,8 @@ client_after_fault Failed client = Some (record client { fails_read = false })
 
 -- the client after a read with this answer; a read fails exactly if that is stated, and once
 abbrev pub client_after_read : ReadGot → ScriptedClient → Option ScriptedClient
-client_after_read got client = if client.fails_read then client_after_fault got client else client_after_give got client.gives client
+client_after_read got client = if client.fails_read then client_after_fault got client
+    else client_after_give got client.gives client
 
 -- how many bytes are taken of those offered: as many as there is room for
 abbrev pub room_taken_of : ℕ → Option ℕ → ℕ
@@ -270,19 +272,22 @@ outside_after_capture o d scripted (Some bytes) =
 
 -- an emit fails exactly if that is stated, and once
 abbrev pub outside_after_emit : Outside → ℕ → ScriptedDevice → Bool → Option Outside
-outside_after_emit o d scripted false = if scripted.fails_emit then Some (with_scripted o d (record scripted { fails_emit = false })) else None
+outside_after_emit o d scripted false =
+    if scripted.fails_emit then Some (with_scripted o d (record scripted { fails_emit = false })) else None
 outside_after_emit o d scripted true = if scripted.fails_emit then None else Some o
 
 -- a hook call fails exactly if that is stated, and once
 abbrev pub outside_after_hook : Outside → ℕ → ScriptedDevice → Bool → Option Outside
-outside_after_hook o d scripted false = if scripted.fails_hook then Some (with_scripted o d (record scripted { fails_hook = false })) else None
+outside_after_hook o d scripted false =
+    if scripted.fails_hook then Some (with_scripted o d (record scripted { fails_hook = false })) else None
 outside_after_hook o d scripted true = if scripted.fails_hook then None else Some o
 
 -- the outside after a happening, if its answer is the one that the script states
 abbrev pub outside_after_happening : Outside → Happening → Option Outside
 outside_after_happening o (Woke w) = Some o
 outside_after_happening o (Read k got) = option_map (with_client o k) (client_after_call (client_after_read got) (client_at o k))
-outside_after_happening o (Wrote k offered took) = option_map (with_client o k) (client_after_call (client_after_write offered took) (client_at o k))
+outside_after_happening o (Wrote k offered took) =
+    option_map (with_client o k) (client_after_call (client_after_write offered took) (client_at o k))
 outside_after_happening o (Closed k why) = Some (with_client o k None)
 outside_after_happening o (Captured d n got) = outside_after_capture o d (scripted_at o d) got
 outside_after_happening o (Emitted d sound done) = outside_after_emit o d (scripted_at o d) done

@@ -84,7 +84,8 @@ pub trait Live: World {
         ensures log { Unchanged (Self.World.log self.old) (Self.World.log self.new) }
         ensures lifecycle { Appended (lifecycle self.old) (attached result device spec.now (told_kind kind.entry))
             (lifecycle self.new) }
-        ensures cause { result ≡ Ready.Failed → FaultCounted (Self.World.device_faults self.old) (Self.World.device_faults self.new) }
+        ensures cause { result ≡ Ready.Failed →
+            FaultCounted (Self.World.device_faults self.old) (Self.World.device_faults self.new) }
         ensures link_count { Self.World.link_faults self.old ≤ Self.World.link_faults self.new }
         ensures device_count { Self.World.device_faults self.old ≤ Self.World.device_faults self.new }
         ensures listen_count { listen_faults self.old ≤ listen_faults self.new }
@@ -93,9 +94,11 @@ pub trait Live: World {
     /// Attaches the program that is the exchange of a device's telephone line.
     fn attach_line(&mut self, alloc: Global, device: u8, program: LineProgram<'_>) -> Ready
         ensures log { Unchanged (Self.World.log self.old) (Self.World.log self.new) }
-        ensures lifecycle { Appended (lifecycle self.old) (line_attached result device program.entry.restarts (words_of program.entry.words.now))
+        ensures lifecycle { Appended (lifecycle self.old)
+            (line_attached result device program.entry.restarts (words_of program.entry.words.now))
             (lifecycle self.new) }
-        ensures cause { result ≡ Ready.Failed → FaultCounted (Self.World.device_faults self.old) (Self.World.device_faults self.new) }
+        ensures cause { result ≡ Ready.Failed →
+            FaultCounted (Self.World.device_faults self.old) (Self.World.device_faults self.new) }
         ensures link_count { Self.World.link_faults self.old ≤ Self.World.link_faults self.new }
         ensures device_count { Self.World.device_faults self.old ≤ Self.World.device_faults self.new }
         ensures listen_count { listen_faults self.old ≤ listen_faults self.new }

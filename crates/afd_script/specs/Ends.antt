@@ -85,7 +85,8 @@ writes end.SinkFault = true
 writes _ = false
 
 -- What an end leaves alone: the source if the arguments ask for no script, and the sink if nothing was to be written.
-pub record ScriptLeavesAlone {S K : Type 0} (asked : Option ScriptJob) (ended : ScriptEnd) (before after : S) (sink sink' : K) : Type 0 where
+pub record ScriptLeavesAlone {S K : Type 0} (asked : Option ScriptJob) (ended : ScriptEnd) (before after : S)
+    (sink sink' : K) : Type 0 where
   pub unread : asked ≢ Some job.Script → after ≡ before
   pub unwritten : writes ended ≡ false → sink' ≡ sink
 

@@ -17,7 +17,8 @@ job_of_one name = if bytes_eq name (codes "script") then Some job.Script else No
 -- what three arguments ask for
 abbrev pub job_of_three : List ℕ → List ℕ → List ℕ → Option ScriptJob
 job_of_three name seed turns =
-    if bytes_eq name (codes "exercise") then exercise_of (long_number_within 0 (2 ^ 64 - 1) seed) (long_number_within 1 10000 turns) else None
+    if bytes_eq name (codes "exercise") then exercise_of (long_number_within 0 (2 ^ 64 - 1) seed)
+    (long_number_within 1 10000 turns) else None
 
 -- what a list of arguments asks for: `script`, or `exercise SEED TURNS` with a SEED of 0 to 2^64 - 1 and TURNS of 1 to 10000
 abbrev pub job_of : List (List ℕ) → Option ScriptJob

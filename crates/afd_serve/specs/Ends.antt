@@ -58,13 +58,15 @@ comes_to_wait _ = false
 
 -- What an early end leaves alone: the source if the arguments ask for nothing, the world if there is no configuration, and the
 -- log if no wait came.
-pub record ServeLeavesAlone {S W : Type 0} (log : W → Option Log) (ended : LiveEnd) (before after : S) (world world' : W) : Type 0 where
-  pub unread : ended ≡ end.Usage → after ≡ before
-  pub uncalled : calls_nothing ended ≡ true → world' ≡ world
-  pub unserved : comes_to_wait ended ≡ false → Unchanged (log world) (log world')
+pub record ServeLeavesAlone {S W : Type 0} (log : W → Option Log) (ended : LiveEnd) (before after : S) (world world' : W) : Type 0
+  where
+    pub unread : ended ≡ end.Usage → after ≡ before
+    pub uncalled : calls_nothing ended ≡ true → world' ≡ world
+    pub unserved : comes_to_wait ended ≡ false → Unchanged (log world) (log world')
 
 -- No count of a world's faults falls. If a fault of the world ended the server, its count has risen.
-pub record CountsFaults {W : Type 0} (link_faults device_faults listen_faults wait_faults : W → ℕ) (ends : LiveEnd → Type 0) (before after : W) : Type 0 where
+pub record CountsFaults {W : Type 0} (link_faults device_faults listen_faults wait_faults : W → ℕ) (ends : LiveEnd → Type 0)
+    (before after : W) : Type 0 where
   pub links : link_faults before ≤ link_faults after
   pub devices : device_faults before ≤ device_faults after
   pub attach : (d : ℕ) → ends (end.AttachFault d) → FaultCounted (device_faults before) (device_faults after)
@@ -85,25 +87,30 @@ last_entry _ s = []
 
 -- A server that came to its first wait. It listened at the stated address, attached each device that the source states, and then
 -- waited and took turns, as often as this end says.
-pub record ServerRan (end : LiveEnd) (words : List (List ℕ)) (left left' : Option (List ℕ)) (log log' : Option Log) (lifecycle lifecycle' : Option (List Lifecycle)) : Type 0 where
+pub record ServerRan (end : LiveEnd) (words : List (List ℕ)) (left left' : Option (List ℕ)) (log log' : Option Log)
+    (lifecycle lifecycle' : Option (List Lifecycle)) : Type 0 where
   pub told : IsTold words left left'
   pub waits : List WaitMade
   pub count : IsCount end (length waits) told.job.waits
-  pub served : Served told.settings.config (start_entries told.job.address told.settings) (last_entry end) waits log log' lifecycle lifecycle'
+  pub served : Served told.settings.config (start_entries told.job.address told.settings) (last_entry end) waits log log'
+      lifecycle lifecycle'
 
 -- nothing was done: the listen at the stated address failed
-pub record Unheard (words : List (List ℕ)) (left left' : Option (List ℕ)) (lifecycle lifecycle' : Option (List Lifecycle)) : Type 0 where
+pub record Unheard (words : List (List ℕ)) (left left' : Option (List ℕ)) (lifecycle lifecycle' : Option (List Lifecycle)) : Type
+    0 where
   pub told : IsTold words left left'
   pub appended : Appended lifecycle [] lifecycle'
 
 -- The attach of this device, or that of the program of its line, failed. Before it came a listen and exactly the earlier
 -- attaches: those of the devices below this one, or of all devices and of the programs of lines that are stated before.
-pub record FailedAt (d : ℕ) (words : List (List ℕ)) (left left' : Option (List ℕ)) (lifecycle lifecycle' : Option (List Lifecycle)) : Type 0 where
+pub record FailedAt (d : ℕ) (words : List (List ℕ)) (left left' : Option (List ℕ))
+    (lifecycle lifecycle' : Option (List Lifecycle)) : Type 0 where
   pub told : IsTold words left left'
   pub failed : AttachFailed d (noted.Listened told.job.address ∷ []) told.settings lifecycle lifecycle'
 
 -- a prefix of a whole start was made
-pub record StartedInPart (words : List (List ℕ)) (left left' : Option (List ℕ)) (lifecycle lifecycle' : Option (List Lifecycle)) : Type 0 where
+pub record StartedInPart (words : List (List ℕ)) (left left' : Option (List ℕ))
+    (lifecycle lifecycle' : Option (List Lifecycle)) : Type 0 where
   pub told : IsTold words left left'
   pub front : List Lifecycle
   pub rest : List Lifecycle
@@ -112,7 +119,8 @@ pub record StartedInPart (words : List (List ℕ)) (left left' : Option (List �
 
 -- What was asked of the world if no wait came: nothing if the listen failed; the listen and the attaches before the one that
 -- failed; and if memory ran out, a part of the whole, unless the world was not called.
-pub record EndsBeforeWaits {W : Type 0} (lifecycle : W → Option (List Lifecycle)) (ended : LiveEnd) (words : List (List ℕ)) (left left' : Option (List ℕ)) (world world' : W) : Type 0 where
+pub record EndsBeforeWaits {W : Type 0} (lifecycle : W → Option (List Lifecycle)) (ended : LiveEnd) (words : List (List ℕ))
+    (left left' : Option (List ℕ)) (world world' : W) : Type 0 where
   pub unlistened : ended ≡ end.ListenFault → Unheard words left left' (lifecycle world) (lifecycle world')
   pub attached : (d : ℕ) → ended ≡ end.AttachFault d → FailedAt d words left left' (lifecycle world) (lifecycle world')
   pub memory : ended ≡ end.OutOfMemory → (world' ≡ world) ⊎ StartedInPart words left left' (lifecycle world) (lifecycle world')

@@ -9,7 +9,8 @@ use Rattle.afd_serve.specs.Serving.{WaitMade, Served}
 use Rattle.afd_serve.specs.Ends.{IsCount, comes_to_wait, last_entry}
 
 -- it waited as often as this end says, of so many at most
-pub record ServedUntil (config : List DeviceSpec) (end : LiveEnd) (most : ℕ) (log log' : Option Log) (lifecycle lifecycle' : Option (List Lifecycle)) : Type 0 where
+pub record ServedUntil (config : List DeviceSpec) (end : LiveEnd) (most : ℕ) (log log' : Option Log)
+    (lifecycle lifecycle' : Option (List Lifecycle)) : Type 0 where
   pub is_end : comes_to_wait end ≡ true
   pub asked : List WaitMade
   pub count : IsCount end (length asked) most

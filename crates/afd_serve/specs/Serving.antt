@@ -76,7 +76,8 @@ start_entries address settings = noted.Listened address ∷ (all_attached settin
 -- What a server did with these devices from its opening state on. What was added to the log is a run. The lifecycle log grew by
 -- what came before the waits, by the waits, and by what comes after them in the last state. Each wait had its turn. The laws of
 -- whole runs hold for the run.
-pub record Served (config : List DeviceSpec) (front : List Lifecycle) (last : State → List Lifecycle) (waits : List WaitMade) (log log' : Option Log) (lifecycle lifecycle' : Option (List Lifecycle)) : Type 0 where
+pub record Served (config : List DeviceSpec) (front : List Lifecycle) (last : State → List Lifecycle) (waits : List WaitMade)
+    (log log' : Option Log) (lifecycle lifecycle' : Option (List Lifecycle)) : Type 0 where
   pub added : Log
   pub appended : Appended log added log'
   pub end : State

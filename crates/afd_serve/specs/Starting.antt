@@ -48,7 +48,8 @@ pub record IsBeforeLine (d : ℕ) (settings : Settings) (entries : List Lifecycl
   pub entries_are : entries ≡ all_attached settings ++ take number (all_lines settings)
 
 -- the attach of this device, or that of the program of its line, failed, after exactly those that come before it
-pub record AttachFailed (d : ℕ) (front : List Lifecycle) (settings : Settings) (lifecycle lifecycle' : Option (List Lifecycle)) : Type 0 where
+pub record AttachFailed (d : ℕ) (front : List Lifecycle) (settings : Settings)
+    (lifecycle lifecycle' : Option (List Lifecycle)) : Type 0 where
   pub is_device : d < length settings.config
   pub before : List Lifecycle
   pub cause : IsBelow d settings before ⊎ IsBeforeLine d settings before
@@ -56,7 +57,8 @@ pub record AttachFailed (d : ℕ) (front : List Lifecycle) (settings : Settings)
 
 -- exactly the devices below the one whose attach failed were attached, or some if memory ran out
 abbrev pub DevicesUntil : LiveEnd → Settings → Option (List Lifecycle) → Option (List Lifecycle) → Type 0
-DevicesUntil (end.AttachFault d) settings lifecycle lifecycle' = (d < length settings.config) × Appended lifecycle (take d (all_attached settings)) lifecycle'
+DevicesUntil (end.AttachFault d) settings lifecycle lifecycle' = (d < length settings.config)
+    × Appended lifecycle (take d (all_attached settings)) lifecycle'
 DevicesUntil end.OutOfMemory settings lifecycle lifecycle' = AppendedInPart (all_attached settings) lifecycle lifecycle'
 DevicesUntil _ settings lifecycle lifecycle' = ⊥
 
@@ -77,12 +79,15 @@ LinesUntil _ settings lifecycle lifecycle' = ⊥
 -- the same for devices, and then for the programs of lines
 abbrev pub AttachedUntil : LiveEnd → Settings → Option (List Lifecycle) → Option (List Lifecycle) → Type 0
 AttachedUntil (end.AttachFault d) settings lifecycle lifecycle' = AttachFailed d [] settings lifecycle lifecycle'
-AttachedUntil end.OutOfMemory settings lifecycle lifecycle' = AppendedInPart (all_attached settings ++ all_lines settings) lifecycle lifecycle'
+AttachedUntil end.OutOfMemory settings lifecycle lifecycle' =
+    AppendedInPart (all_attached settings ++ all_lines settings) lifecycle lifecycle'
 AttachedUntil _ settings lifecycle lifecycle' = ⊥
 
 -- the same after a listen, which may have failed
 abbrev pub StartedUntil : LiveEnd → List ℕ → Settings → Option (List Lifecycle) → Option (List Lifecycle) → Type 0
 StartedUntil end.ListenFault address settings lifecycle lifecycle' = Appended lifecycle [] lifecycle'
-StartedUntil (end.AttachFault d) address settings lifecycle lifecycle' = AttachFailed d (noted.Listened address ∷ []) settings lifecycle lifecycle'
-StartedUntil end.OutOfMemory address settings lifecycle lifecycle' = AppendedInPart (start_entries address settings) lifecycle lifecycle'
+StartedUntil (end.AttachFault d) address settings lifecycle lifecycle' =
+    AttachFailed d (noted.Listened address ∷ []) settings lifecycle lifecycle'
+StartedUntil end.OutOfMemory address settings lifecycle lifecycle' =
+    AppendedInPart (start_entries address settings) lifecycle lifecycle'
 StartedUntil _ address settings lifecycle lifecycle' = ⊥

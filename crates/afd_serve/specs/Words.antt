@@ -23,7 +23,8 @@ job_at address waits = record { address = address; waits = waits }
 -- what three arguments ask for
 abbrev pub serve_job_of_three : List ℕ → List ℕ → List ℕ → Option ServeJob
 serve_job_of_three name address waits =
-    if bytes_eq name (codes "serve") then (if is_address address then option_map (job_at address) (waits_stated waits) else None) else None
+    if bytes_eq name (codes "serve") then (if is_address address then option_map (job_at address) (waits_stated waits) else None)
+    else None
 
 -- what the arguments ask for
 abbrev pub serve_job_of : List (List ℕ) → Option ServeJob

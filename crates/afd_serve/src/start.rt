@@ -99,7 +99,8 @@ fn attach_all<W: Live>(alloc: Global, setting: &Setting, world: &mut W) -> Resul
     requires few { length setting.now.config ≤ most_devices }
     requires lines { All (λ program. IsTrue (spec_has_line setting.now.config program.device)) setting.now.phones }
     ensures log { Unchanged (W.World.log world.old) (W.World.log world.new) }
-    ensures all { IfOk result (λ _. Appended (W.lifecycle world.old) (all_attached setting.now ++ all_lines setting.now) (W.lifecycle world.new)) }
+    ensures all { IfOk result
+        (λ _. Appended (W.lifecycle world.old) (all_attached setting.now ++ all_lines setting.now) (W.lifecycle world.new)) }
     ensures some { IfErr result (λ end. AttachedUntil end setting.now (W.lifecycle world.old) (W.lifecycle world.new)) }
     ensures world { CountsFaults W.World.link_faults W.World.device_faults W.listen_faults W.wait_faults
         (λ end. result ≡ Err end) world.old world.new }

@@ -16,8 +16,8 @@ calls_succeed left sent faults value_of asked old new answer called usable still
     BothTold-map (left old.link) (left new.link) _ _ (e.answers (λ f. still (e.failed f)))
     (λ b a t good. subst IsOk (sym t.0) good)
 
--- On every connection, also one that can no longer be used: bytes that are observable stay so, and a call that answers LinkFault has
--- met a fault of the link.
+-- On every connection, also one that can no longer be used: bytes that are observable stay so, and a call that answers LinkFault
+-- has met a fault of the link.
 module _ {L X : Type 0} {left sent : L → Option (List ℕ)} {faults : L → ℕ} {asked : Asked} {value_of : Answer → Option X} {old new : ConnState L} {result : Result X ConnFault}
     (called : Called left sent faults asked value_of old new result) where
   leaves : (cause : Option Cause) → old.cause ≡ cause → (IsSome (left old.link) → IsSome (left new.link)) × CountsFault (result ≡ Err fault.LinkFault) (faults old.link) (faults new.link)

@@ -3,6 +3,7 @@ use Rattle.std.proofs.Common.{◌≡◌, ℕ, zero, suc, ◌+◌, ◌<◌, ◌�
 use Rattle.std.specs.Prelude.{◌==◌, Option, Some, None, option_and_then, option_to_list}
 use Rattle.std.specs.Str.{is_utf8}
 use Rattle.std.proofs.lemmas.Bool.{and_parts, not-true, eq-eqb, ne_eqb, cases_eq}
+use Rattle.std.proofs.Math.Bool.{or-false, or-true}
 use Rattle.std.proofs.lemmas.Option.{cond_some}
 use Rattle.af_text.specs.Lines.{words}
 use Rattle.af_text.specs.Words.{only_if}
@@ -50,16 +51,8 @@ line_within (c ∷ config) (suc d) e = let less = line_within config d e in omeg
 
 -- How many devices have a program
 
-or_false : (a : Bool) → a || false ≡ a
-or_false true = refl
-or_false false = refl
-
-or_true : (a : Bool) → a || true ≡ true
-or_true true = refl
-or_true false = refl
-
 has_more : (programs : List LineProgram) (p : LineProgram) (n : ℕ) → has_program (programs ++ p ∷ []) n ≡ has_program programs n || (p.device == n)
-has_more [] p n = or_false (p.device == n)
+has_more [] p n = or-false (p.device == n)
 has_more (q ∷ programs) p n =
     elim (q.device == n) as (λ t. t || has_program (programs ++ p ∷ []) n ≡ (t || has_program programs n) || (p.device == n)) [
       | true ↦ refl
@@ -69,11 +62,11 @@ has_more (q ∷ programs) p n =
 -- a program for another device makes no difference for this one
 has_other : (programs : List LineProgram) (p : LineProgram) (n : ℕ) → (p.device ≡ n → ⊥) → has_program (programs ++ p ∷ []) n ≡ has_program programs n
 has_other programs p n other =
-    has_more programs p n ∙ ap (λ b. has_program programs n || b) (ne_eqb p.device n other) ∙ or_false (has_program programs n)
+    has_more programs p n ∙ ap (λ b. has_program programs n || b) (ne_eqb p.device n other) ∙ or-false (has_program programs n)
 
 has_own : (programs : List LineProgram) (p : LineProgram) (n : ℕ) → p.device ≡ n → has_program (programs ++ p ∷ []) n ≡ true
 has_own programs p n own =
-    has_more programs p n ∙ ap (λ b. has_program programs n || b) (eq-eqb p.device n own) ∙ or_true (has_program programs n)
+    has_more programs p n ∙ ap (λ b. has_program programs n || b) (eq-eqb p.device n own) ∙ or-true (has_program programs n)
 
 pub none_programmed : (n : ℕ) (config : List DeviceSpec) → programmed_count [] n config ≡ 0
 none_programmed n [] = refl

@@ -1,6 +1,7 @@
 -- Bounds on the numbers of links that are to be read, written or closed. The others have no part in a turn.
 use Rattle.std.proofs.Common.{◌≡◌, ◌≢◌, ℕ, zero, suc, ◌≤◌, ◌<◌, ◌+◌, ◌-◌, ◌||◌, max, nat_lt, replicate, inl, inr, Bool, true, false, List, [], ◌∷◌, get_or, length, map, slice_get, slice_set, option_and_then, is_some, refl, sym, ap, ◌∙◌, subst, arith}
 use Rattle.std.proofs.lemmas.Bool.{cases_lt, le-ltb, lt-ltb}
+use Rattle.std.proofs.Math.Bool.{or-true}
 use Rattle.std.specs.declared.option.Option.{Option}
 use Rattle.std.specs.declared.option.Option.TheVariants.{None, Some}
 use Rattle.af_limits.specs.Limits.{most_links}
@@ -172,11 +173,7 @@ wants_here k zero f (x ∷ links) e =
     ap (λ b. b || any_wants (k + 1) f links) (subst (λ i. open_wants (f i) x ≡ true) same e)
 wants_here k (suc n) f (x ∷ links) e =
     let same : k + suc n ≡ k + 1 + n = omega arith in
-    ap (λ b. open_wants (f k) x || b) (wants_here (k + 1) n f links (subst (λ i. open_wants (f i) (option_and_then (λ link. link) (slice_get links n)) ≡ true) same e)) ∙ or_true (open_wants (f k) x)
-  where
-    or_true : (b : Bool) → (b || true) ≡ true
-    or_true true = refl
-    or_true false = refl
+    ap (λ b. open_wants (f k) x || b) (wants_here (k + 1) n f links (subst (λ i. open_wants (f i) (option_and_then (λ link. link) (slice_get links n)) ≡ true) same e)) ∙ or-true (open_wants (f k) x)
 
 wants_none : (k : ℕ) (f : ℕ → Bool) (links : List (Option LinkState)) → ((n : ℕ) → open_wants (f (k + n)) (option_and_then (λ link. link) (slice_get links n)) ≡ false) → any_wants k f links ≡ false
 wants_none k f [] none = refl

@@ -2,6 +2,7 @@
 use Rattle.std.proofs.Common.{◌≡◌, ℕ, zero, suc, ◌+◌, ◌-◌, Bool, true, false, cond, ◌&&◌, List, [], ◌∷◌, ◌++◌, length, take, drop, refl, sym, ap, ◌∙◌, arith, append_assoc, append-nil, length-append}
 use Rattle.std.specs.Prelude.{Option, Some, None, option_map, Result, Ok, Err, nat_lt, nat_eq}
 use Rattle.std.proofs.lemmas.Bool.Decides.{nat_tests}
+use Rattle.std.proofs.Math.Bool.{and-false}
 use Rattle.af_text.specs.Reading.{go_on, read_on}
 use Rattle.af_text.proofs.LineByLine.{entries_over, entries_read}
 use Rattle.af_world.specs.declared.script.DeviceSpec.{DeviceSpec}
@@ -16,10 +17,6 @@ abbrev pub read_from : StatedScript → ℕ → List (List ℕ) → Result State
 read_from s n ls = read_on with_line wants_device s n ls
 
 -- One line
-
-and_false : (b : Bool) → (b && false) ≡ false
-and_false true = refl
-and_false false = refl
 
 nil_push : {A : Type 0} (xs : List A) (x : A) → is_nil (xs ++ x ∷ []) ≡ false
 nil_push [] x = refl
@@ -41,7 +38,7 @@ words_step s ws other some =
 
 words_none : (s : StatedScript) (ws : List (List ℕ)) → is_device_line ws ≡ false → is_nil s.config ≡ true → with_words s ws ≡ None
 words_none s ws other none =
-    ap (λ t. cond t (option_map (with_script_device s) (device_of ws)) (cond (is_nil s.config) None (by_step s ws))) (ap (λ d. can_take_device s && d) other ∙ and_false (can_take_device s))
+    ap (λ t. cond t (option_map (with_script_device s) (device_of ws)) (cond (is_nil s.config) None (by_step s ws))) (ap (λ d. can_take_device s && d) other ∙ and-false (can_take_device s))
     ∙ ap (λ t. cond t None (by_step s ws)) none
 
 pub words_device : (s : StatedScript) (ws : List (List ℕ)) → can_take_device s ≡ true → is_device_line ws ≡ true → with_words s ws ≡ option_map (with_script_device s) (device_of ws)
@@ -146,7 +143,7 @@ devices_too config (suc room) n (line ∷ rest) some count =
                   | Some d ↦ devices_too (config ++ d ∷ []) room (suc n) rest (nil_push config d) (let len = length-append config (d ∷ []) in omega (arith, len)) ∙ more_device config d n (each_says device_of (take k es)) (drop k es)
                 ]
             | false ↦ λ device.
-                step_line s n line rest states (ap (λ d. can_take_device s && d) device ∙ and_false (can_take_device s)) some (λ x. steps_only (with_step s x) (suc n) rest some (takes_no_more s x))
+                step_line s n line rest states (ap (λ d. can_take_device s && d) device ∙ and-false (can_take_device s)) some (λ x. steps_only (with_step s x) (suc n) rest some (takes_no_more s x))
                 ∙ ap (steps_from s) (read n line rest states) ∙ steps_now config (entry n line ∷ es)
           ] refl)
           ∙ ap (λ xs. devices_from (device_lines (suc room) xs) config xs) (sym (read n line rest states))

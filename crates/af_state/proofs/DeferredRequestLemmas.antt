@@ -1,6 +1,7 @@
 -- Deferred requests, and the room that holds them.
 use Rattle.std.proofs.Common.{◌≡◌, ◌≢◌, ℕ, ℤ, zero, suc, ◌%◌, ◌^◌, ◌<◌, ◌==◌, ◌||◌, Bool, true, false, not, cond, List, [], ◌∷◌, ◌++◌, length, map, find, get_or, slice_set, option_map, IfSome, refl, sym, ap, ◌∙◌, subst, arith}
 use Rattle.std.proofs.lemmas.Bool.Decides.{nat_tests}
+use Rattle.std.proofs.Math.Bool.{or-true}
 use Rattle.std.specs.declared.option.Option.{Option}
 use Rattle.std.specs.declared.option.Option.TheVariants.{None, Some}
 use Rattle.af_context.specs.declared.Context.{Context}
@@ -132,12 +133,8 @@ due_waits d [] link e = absurd cc
 due_waits d (k ∷ ks) link e =
     elim (kept_due d k) as (λ b. option_map (λ (k : KeptDeferral). k.wait.link) (cond b (Some k) (find (kept_due d) ks)) ≡ Some link → has_waiting (k ∷ ks) link ≡ true) [
       | true ↦ λ f. let is : k.wait.link ≡ link = cc in let same : (k.wait.link == link) ≡ true = grind (arith, nat_tests) in ap (λ b. b || has_waiting ks link) same
-      | false ↦ λ f. ap (λ b. k.wait.link == link || b) (due_waits d ks link f) ∙ or_true (k.wait.link == link)
+      | false ↦ λ f. ap (λ b. k.wait.link == link || b) (due_waits d ks link f) ∙ or-true (k.wait.link == link)
     ] e
-  where
-    or_true : (b : Bool) → (b || true) ≡ true
-    or_true true = refl
-    or_true false = refl
 
 -- a link is dropped
 pub kept_dropped : (room : List Deferred) (order : List Wait) (link : ℕ) → map (kept_deferral room) (without_link order link) ≡ kept_without link (map (kept_deferral room) order)

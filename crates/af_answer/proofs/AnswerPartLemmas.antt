@@ -1,21 +1,22 @@
 -- Parts of an answering machine, one after the other.
 use Rattle.std.proofs.Common.{◌≡◌, ◌≤◌, ℕ, IsSome, Option, None, true, false, List, sym, ap, ◌∙◌, append_assoc, append-nil, refl, inl, inr, subst}
 use Rattle.std.specs.Prelude.{Result, Ok, Err}
-use Rattle.af_dialogue.specs.Parts.{IsProgramKind, Stopped, after_deeds, followed, goes_on, has_value}
+use Rattle.af_dialogue.specs.Parts.{IsProgramKind, Stopped, after_deeds, followed, goes_on, has_value, stops}
 use Rattle.af_dialogue.proofs.PartLemmas.{Reached, front_followed, goes_stop, goes_value, reached_goes, reached_here, reached_on}
 use Rattle.af_io.proofs.AppendedLemmas.{appended_none, appended_on}
 use Rattle.af_lib.specs.Calls.{ConnState}
+use Rattle.af_toolkit.specs.ToolParts.{LinkSight}
 use Rattle.af_answer.specs.declared.end.AnswerEnd.{AnswerEnd}
 use Rattle.af_answer.specs.declared.end.AnswerEnd.TheVariants as end
-use Rattle.af_answer.specs.AnswerTrace.{MachineTrace, AnswerFinish, MachineDeeds, MachineOutcome, MachinePart, ToCome, Work, both_works, doing, no_work, stops}
-use Rattle.af_answer.specs.AnswerParts.{Added, MatchesAnswer, Seen, Stand, Went, answering, is_from_outside, is_of_calls}
+use Rattle.af_answer.specs.AnswerTrace.{MachineTrace, AnswerFinish, MachineDeeds, MachineOutcome, MachinePart, ToCome, Work, working, doing}
+use Rattle.af_answer.specs.AnswerParts.{Added, MatchesAnswer, Seen, Went, answering, is_from_outside, is_of_calls, seen_as}
 use Rattle.af_answer.specs.Children.{ChildRun}
 
 -- work and deeds, one after the other
-pub works_on : (a b c : Work) → both_works (both_works a b) c ≡ both_works a (both_works b c)
+pub works_on : (a b c : Work) → working.joined (working.joined a b) c ≡ working.joined a (working.joined b c)
 works_on a b c = simp append_assoc
 
-pub works_end : (w : Work) → both_works w no_work ≡ w
+pub works_end : (w : Work) → working.joined w working.nothing ≡ w
 works_end w = simp append-nil
 
 pub deeds_on : (a b c : MachineDeeds) → doing.joined (doing.joined a b) c ≡ doing.joined a (doing.joined b c)
@@ -25,12 +26,12 @@ pub deeds_end : (d : MachineDeeds) → doing.joined d doing.nothing ≡ d
 deeds_end d = simp append-nil
 
 -- no work was added, and some after some
-pub added_none : (s : Seen) → Added s no_work s
-added_none s = record { link = appended_none s.sent; children = appended_none s.acts; sink = appended_none s.held }
+pub added_none : (s : Seen (Option (List ℕ))) → Added s working.nothing s
+added_none s = record { link = appended_none s.far; children = appended_none s.acts; sink = appended_none s.held }
 
-pub added_on : {a b c : Seen} {w v : Work} → Added a w b → Added b v c → Added a (both_works w v) c
+pub added_on : {a b c : Seen (Option (List ℕ))} {w v : Work} → Added a w b → Added b v c → Added a (working.joined w v) c
 added_on {a} {b} {c} {w} {v} f g = record {
-  link = appended_on a.sent b.sent c.sent w.sends v.sends f.link g.link;
+  link = appended_on a.far b.far c.far w.sends v.sends f.link g.link;
   children = appended_on a.acts b.acts c.acts w.told v.told f.children g.children;
   sink = appended_on a.held b.held c.held w.output v.output f.sink g.sink;
 }
@@ -39,7 +40,7 @@ pub is_answering : IsProgramKind answering
 is_answering = record {
   nothing_first = λ d. refl;
   joined_twice = deeds_on;
-  shows_nothing = λ p. added_none p.seen;
+  shows_nothing = λ p. added_none (seen_as p.0.far.sent p.0.acts p.0.held);
   shows_joined = λ p q r d e shows more. added_on shows more;
 }
 
@@ -51,32 +52,32 @@ pub record StaysUsable {L : Type 0} (left : L → Option (List ℕ)) (faults : L
   pub count : faults old.link ≤ faults new.link
 
 -- a machine has come to another part, which is what is left of the first
-pub record GotTo {X : Type 0} (part now : MachinePart X) (old new : List ChildRun → Stand) : Type 0 where
+pub record GotTo {X : Type 0} (part now : MachinePart X) (old new : Seen LinkSight) : Type 0 where
   pub runs : (later : List ChildRun) → List ChildRun
-  pub reached : (later : List ChildRun) → Reached answering part now (old (runs later)) (new later)
+  pub reached : (later : List ChildRun) → Reached answering part now (old, runs later) (new, later)
 
-pub went_here : {X : Type 0} {part : MachinePart X} {p : List ChildRun → Stand} → GotTo part part p p
+pub went_here : {X : Type 0} {part : MachinePart X} {p : Seen LinkSight} → GotTo part part p p
 went_here = record { runs = λ later. later; reached = λ later. reached_here is_answering }
 
 -- it comes further, or it ends there
-pub went_on : {X Y : Type 0} {part : MachinePart Y} {first : MachinePart X} (next : X → MachinePart Y) {x : X} {p q r : List ChildRun → Stand} → GotTo part (goes_on doing first next) p q → Went first (Ok x) q r → GotTo part (next x) p r
+pub went_on : {X Y : Type 0} {part : MachinePart Y} {first : MachinePart X} (next : X → MachinePart Y) {x : X} {p q r : Seen LinkSight} → GotTo part (goes_on doing first next) p q → Went first (Ok x) q r → GotTo part (next x) p r
 went_on next g w = record { runs = λ later. g.runs (w.runs later); reached = λ later. reached_on is_answering next (g.reached (w.runs later)) (w.goes later) }
 
-pub went_by : {X : Type 0} {part now : MachinePart X} {result : Result X AnswerEnd} {p q r : List ChildRun → Stand} → GotTo part now p q → Went now result q r → Went part result p r
+pub went_by : {X : Type 0} {part now : MachinePart X} {result : Result X AnswerEnd} {p q r : Seen LinkSight} → GotTo part now p q → Went now result q r → Went part result p r
 went_by {result} g w = record { runs = λ later. g.runs (w.runs later); goes = λ later. reached_goes is_answering result (g.reached (w.runs later)) (w.goes later) }
 
-pub went_through : {X Y : Type 0} {part : MachinePart X} (next : X → MachinePart Y) {x : X} {result : Result Y AnswerEnd} {p q r : List ChildRun → Stand} → Went part (Ok x) p q → Went (next x) result q r → Went (goes_on doing part next) result p r
+pub went_through : {X Y : Type 0} {part : MachinePart X} (next : X → MachinePart Y) {x : X} {result : Result Y AnswerEnd} {p q r : Seen LinkSight} → Went part (Ok x) p q → Went (next x) result q r → Went (goes_on doing part next) result p r
 went_through next f g = went_by (went_on next went_here f) g
 
-pub went_stop : {X Y : Type 0} {part : MachinePart X} (next : X → MachinePart Y) {how : AnswerEnd} {result : Result Y AnswerEnd} {p q : List ChildRun → Stand} → result ≡ Err how → Went {X = X} part (Err how) p q → Went (goes_on doing part next) result p q
+pub went_stop : {X Y : Type 0} {part : MachinePart X} (next : X → MachinePart Y) {how : AnswerEnd} {result : Result Y AnswerEnd} {p q : Seen LinkSight} → result ≡ Err how → Went {X = X} part (Err how) p q → Went (goes_on doing part next) result p q
 went_stop next same w = record { runs = w.runs; goes = λ later. goes_stop is_answering next same (w.goes later) }
 
 -- a part that does nothing
-pub went_value : {X : Type 0} (x : X) {p : List ChildRun → Stand} → Went (has_value doing x) (Ok x) p p
+pub went_value : {X : Type 0} (x : X) {p : Seen LinkSight} → Went (has_value doing x) (Ok x) p p
 went_value x = record { runs = λ later. later; goes = λ later. goes_value is_answering x }
 
-pub went_stops : {X : Type 0} (finish : AnswerFinish) {how : AnswerEnd} {p : List ChildRun → Stand} → answering.Reports how finish → Went {X = X} (stops finish) (Err how) p p
-went_stops finish {p} reports = record { runs = λ later. later; goes = λ later. record { came = λ a stands. (doing.nothing, inr (finish, reports, refl), added_none (p later).seen) } }
+pub went_stops : {X : Type 0} (finish : AnswerFinish) {how : AnswerEnd} {p : Seen LinkSight} → answering.Reports how finish → Went {X = X} (stops doing finish) (Err how) p p
+went_stops finish {p} reports = record { runs = λ later. later; goes = λ later. record { came = λ a stands. (doing.nothing, inr (finish, reports, refl), added_none (seen_as p.far.sent p.acts p.held)) } }
 
 -- within its calls only a link that failed ends a machine from outside
 outer_of_calls : (how : AnswerEnd) → is_of_calls how ≡ true → is_from_outside how ≡ true → how ≡ end.LinkFault

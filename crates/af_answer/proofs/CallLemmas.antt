@@ -1,12 +1,12 @@
 -- Calls of a line: one is awaited, event by event; it is taken; and then the next.
 use Rattle.std.proofs.Common.{◌≡◌, ℕ, zero, suc, ◌-◌, ◌<◌, ◌==◌, if◌then◌else◌, arith, refl}
 use Rattle.af_wire.specs.declared.event.Event.{Event}
-use Rattle.af_dialogue.specs.Parts.{goes_on, has_value}
+use Rattle.af_dialogue.specs.Parts.{goes_on, has_value, stops}
 use Rattle.af_answer.specs.declared.child.ChildEnd.{ChildEnd}
 use Rattle.af_answer.specs.declared.job.AnswerJob.{AnswerJob}
 use Rattle.af_answer.specs.declared.tally.Tally.{Tally}
 use Rattle.af_answer.specs.Acts.{rings_after, tally_after}
-use Rattle.af_answer.specs.AnswerTrace.{MachinePart, attends, awaits_call, awaits_event, child_starved, doing, most_for_a_call, stops, takes_call}
+use Rattle.af_answer.specs.AnswerTrace.{MachinePart, attends, awaits_call, awaits_event, child_starved, doing, most_for_a_call, takes_call}
 use Rattle.af_answer.specs.Children.{is_starved}
 
 -- what follows an event: the call is taken, or awaited on
@@ -20,7 +20,7 @@ awaits_next (suc n) job rings some = let less : suc n - 1 ≡ n = omega arith in
 
 -- what follows a call, by how it ended
 abbrev pub after_call : (n : ℕ) → AnswerJob → Tally → ChildEnd → MachinePart Tally
-after_call n job t how = if is_starved how then stops child_starved else attends n job (tally_after how t)
+after_call n job t how = if is_starved how then stops doing child_starved else attends n job (tally_after how t)
 
 pub attends_next : (n : ℕ) (job : AnswerJob) (t : Tally) → 0 < n →
     attends n job t ≡ goes_on doing (awaits_call most_for_a_call job 0) (λ _. goes_on doing (takes_call job) (after_call (n - 1) job t))

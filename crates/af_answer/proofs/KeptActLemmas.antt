@@ -6,7 +6,7 @@ use Rattle.af_wire.specs.declared.order.Order.{Order}
 use Rattle.af_wire.specs.declared.event.Event.{Event}
 use Rattle.af_request.specs.Asked.{hook_switch, select_events}
 use Rattle.af_request.specs.Requests.{request_bytes}
-use Rattle.af_dialogue.specs.Parts.{called, followed, goes_on, outcome}
+use Rattle.af_dialogue.specs.Parts.{called, end_among, followed, goes_on, outcome, stops}
 use Rattle.af_dialogue.proofs.PartLemmas.{goes_on_twice, value_first}
 use Rattle.af_lib.specs.declared.fault.ConnFault.{ConnFault}
 use Rattle.af_lib.specs.Calls.{as_done}
@@ -16,7 +16,7 @@ use Rattle.af_answer.specs.declared.child.ChildEnd.TheVariants as ended
 use Rattle.af_answer.specs.declared.job.AnswerJob.{AnswerJob}
 use Rattle.af_answer.specs.declared.tally.Tally.{Tally}
 use Rattle.af_answer.specs.Acts.{MachineAct, acts_after, acts_after_greeting, acts_from, greet, leaves_off, no_calls, off_after, off_hook, on_hook, record_message, rings_after, tally_after, write_tally}
-use Rattle.af_answer.specs.AnswerTrace.{MachineTrace, ToCome, AnswerFinish, MachineOutcome, MachinePart, Work, after_event, attends, attends_all, awaits_call, awaits_event, both_works, by_answer, child_starved, deeds_of_work, doing, exchanges, finish_of, first_run, hears, leaves_message, met_fault, most_for_a_call, next_event, no_work, off_hook_fault, refusal, rang_too_little, requests, runs_child, sending, stops, takes_call, writes_tally}
+use Rattle.af_answer.specs.AnswerTrace.{MachineTrace, ToCome, AnswerFinish, MachineOutcome, MachinePart, Work, after_event, attends, attends_all, awaits_call, awaits_event, working, child_starved, deeds_of_work, doing, exchanges, finish_of, first_run, hears, leaves_message, met_fault, most_for_a_call, next_event, off_hook_fault, refusal, rang_too_little, requests, runs_child, work, takes_call, writes_tally}
 use Rattle.af_answer.specs.Answered.{StopsAtOffHook, SwitchesHook, acts_asked, later_runs, work_of, work_of_act, work_of_job}
 use Rattle.af_answer.specs.Children.{ChildRun, is_starved, run_end, start_failed}
 use Rattle.af_answer.proofs.AnswerPartLemmas.{is_answering, works_end, works_on}
@@ -29,19 +29,19 @@ acts_of_call ends next = off_hook ∷ greet ∷ acts_after_greeting (get_or ends
 -- fault. Where an OffHook was, it stops at that.
 pub record Keeps (todo : Work) (Stops : List ℕ → Type 0) (work : Work) (finish : AnswerFinish) : Type 0 where
   pub undone : Work
-  pub all : todo ≡ both_works work undone
-  pub whole : SwitchesHook finish → undone ≡ no_work
+  pub all : todo ≡ working.joined work undone
+  pub whole : SwitchesHook finish → undone ≡ working.nothing
   pub stops : (f : ConnFault) → finish ≡ off_hook_fault f → Stops work.sends
 
 -- all is done
 keeps_all : {todo : Work} {Stops : List ℕ → Type 0} {finish : AnswerFinish} → ((f : ConnFault) → finish ≢ off_hook_fault f) → Keeps todo Stops todo finish
-keeps_all {todo} other = record { undone = no_work; all = sym (works_end todo); whole = λ switched. refl; stops = λ f met. absurd (other f met) }
+keeps_all {todo} other = record { undone = working.nothing; all = sym (works_end todo); whole = λ switched. refl; stops = λ f met. absurd (other f met) }
 
 -- some work comes before
-keeps_after : (w : Work) {todo work : Work} {Stops Stops' : List ℕ → Type 0} {finish : AnswerFinish} → ((sends : List ℕ) → Stops sends → Stops' (w.sends ++ sends)) → Keeps todo Stops work finish → Keeps (both_works w todo) Stops' (both_works w work) finish
+keeps_after : (w : Work) {todo work : Work} {Stops Stops' : List ℕ → Type 0} {finish : AnswerFinish} → ((sends : List ℕ) → Stops sends → Stops' (w.sends ++ sends)) → Keeps todo Stops work finish → Keeps (working.joined w todo) Stops' (working.joined w work) finish
 keeps_after w {work = work} later k = record {
   undone = k.undone;
-  all = ap (λ (v : Work). both_works w v) k.all ∙ sym (works_on w work k.undone);
+  all = ap (λ (v : Work). working.joined w v) k.all ∙ sym (works_on w work k.undone);
   whole = k.whole;
   stops = λ f met. later work.sends (k.stops f met);
 }
@@ -60,17 +60,17 @@ KeepsTo order off job acts runs t = Keeps (work_of order job acts runs) (StopsOf
 module _ (order : Order) (off : Bool) (job : AnswerJob) (act : MachineAct) (acts : List MachineAct) (runs : List ChildRun) where
   -- an act was done
   did : {work : Work} {finish : AnswerFinish} → Keeps (work_of order job acts (later_runs act runs)) (StopsOff order (off_after off act) job acts (later_runs act runs)) work finish →
-      Keeps (work_of order job (act ∷ acts) runs) (StopsOff order off job (act ∷ acts) runs) (both_works (work_of_act order job act (first_run runs)) work) finish
+      Keeps (work_of order job (act ∷ acts) runs) (StopsOff order off job (act ∷ acts) runs) (working.joined (work_of_act order job act (first_run runs)) work) finish
   did k =
       let w = work_of_act order job act (first_run runs) in
       keeps_after w (λ sends s. record { before = act ∷ s.before; later = s.later; are = ap (λ l. act ∷ l) s.are; sent = ap (λ l. w.sends ++ l) s.sent; on = s.on }) k
 
   -- a HookSwitch was answered with a fault: none of the acts after it was done
-  refused : {finish : AnswerFinish} → (SwitchesHook finish → ⊥) → ((f : ConnFault) → finish ≡ off_hook_fault f → StopsOff order off job (act ∷ acts) runs (both_works (work_of_act order job act (first_run runs)) no_work).sends) →
-      Keeps (work_of order job (act ∷ acts) runs) (StopsOff order off job (act ∷ acts) runs) (both_works (work_of_act order job act (first_run runs)) no_work) finish
+  refused : {finish : AnswerFinish} → (SwitchesHook finish → ⊥) → ((f : ConnFault) → finish ≡ off_hook_fault f → StopsOff order off job (act ∷ acts) runs (working.joined (work_of_act order job act (first_run runs)) working.nothing).sends) →
+      Keeps (work_of order job (act ∷ acts) runs) (StopsOff order off job (act ∷ acts) runs) (working.joined (work_of_act order job act (first_run runs)) working.nothing) finish
   refused never stopped = record {
     undone = work_of order job acts (later_runs act runs);
-    all = ap (λ (v : Work). both_works v (work_of order job acts (later_runs act runs))) (sym (works_end (work_of_act order job act (first_run runs))));
+    all = ap (λ (v : Work). working.joined v (work_of order job acts (later_runs act runs))) (sym (works_end (work_of_act order job act (first_run runs))));
     whole = λ switched. absurd (never switched);
     stops = stopped;
   }
@@ -80,7 +80,7 @@ branch_first : {X Y : Type 0} (b : Bool) (one other : MachinePart X) (next : X �
 branch_first true one other next = refl
 branch_first false one other next = refl
 
-stop_first : {X Y : Type 0} (finish : AnswerFinish) (next : X → MachinePart Y) → goes_on doing (stops finish) next ≡ stops finish
+stop_first : {X Y : Type 0} (finish : AnswerFinish) (next : X → MachinePart Y) → goes_on doing (stops doing finish) next ≡ stops doing finish
 unfolding goes_on
 stop_first finish next = refl
 
@@ -101,7 +101,7 @@ module _ (w : ClientState) (job : AnswerJob) (acts : List Event → List Machine
   later = next tt here
 
   abbrev switched_by : ℕ → Result (Unit {0}) ConnFault → MachineTrace
-  switched_by off r = trace_by (called (deeds_of_work (sending (request_bytes w.order (hook_switch job.device off)))) (by_answer (refusal (hook_switch job.device off)) r) here) next
+  switched_by off r = trace_by (called (deeds_of_work (work (request_bytes w.order (hook_switch job.device off)) [] [])) (end_among (refusal (hook_switch job.device off)) r) here) next
 
   taken_off : (r : Result (Unit {0}) ConnFault) → KeepsTo w.order true job (acts later.did.heard) runs later → (let t = switched_by 1 r in KeepsTo w.order false job (off_hook ∷ acts t.did.heard) runs t)
   taken_off (Ok u) k = did w.order false job off_hook _ runs k
@@ -174,7 +174,7 @@ module _ (job : AnswerJob) (t : Tally) (runs : List ChildRun) (taken : MachinePa
   unfolding acts_from
   none_left order rings other = keeps_all other
 
-  handed_keeps : (n rings : ℕ) (r : Result Event ConnFault) (w : ClientState) → KeepsWaiting n w → KeepsFrom w.order rings (trace_by (called doing.nothing (by_answer met_fault r) (record { wire = w; runs = runs })) (λ e. goes_on doing (hears e) (rung n rings)))
+  handed_keeps : (n rings : ℕ) (r : Result Event ConnFault) (w : ClientState) → KeepsWaiting n w → KeepsFrom w.order rings (trace_by (called doing.nothing (end_among met_fault r) (record { wire = w; runs = runs })) (λ e. goes_on doing (hears e) (rung n rings)))
   unfolding acts_from goes_on
   handed_keeps n rings (Ok e) w more =
       let ends = map run_end runs in
@@ -189,7 +189,7 @@ module _ (job : AnswerJob) (t : Tally) (runs : List ChildRun) (taken : MachinePa
   unfolding goes_on
   waited_keeps n rings w more = handed_keeps n rings (next_event w) (after_event w) more
 
-  wait_floods : (rings : ℕ) → goes_on doing (awaits_call zero job rings) (λ _. taken) ≡ stops rang_too_little
+  wait_floods : (rings : ℕ) → goes_on doing (awaits_call zero job rings) (λ _. taken) ≡ stops doing rang_too_little
   unfolding awaits_call
   wait_floods rings = stop_first rang_too_little (λ _. taken)
 
@@ -214,7 +214,7 @@ counts_one how t n calls is = omega (arith, is)
 
 -- what follows a call, by how it ended
 abbrev after_call : AnswerJob → ℕ → Tally → ChildEnd → MachinePart (Unit {0})
-after_call job n t how = if is_starved how then stops child_starved else goes_on doing (attends n job (tally_after how t)) writes_tally
+after_call job n t how = if is_starved how then stops doing child_starved else goes_on doing (attends n job (tally_after how t)) writes_tally
 
 later_keeps : (job : AnswerJob) (n : ℕ) (t : Tally) (w : ClientState) → ((how : ChildEnd) → AttendsKept job n (tally_after how t)) → KeepsLater job (after_call job n t) (later_acts job t) w
 later_keeps job n t w kept ended.NoMemory runs = keeps_all (λ x e. cc e)
@@ -229,7 +229,7 @@ unfolding attends
 attends_first job n t = simp (goes_on_twice is_answering, branch_first, stop_first)
 
 attends_keeps : (job : AnswerJob) (n : ℕ) (t : Tally) → t.answered + n ≡ job.calls → AttendsKept job n t
-attends_keeps job zero t all w runs = rw (attends_last job t, eq-eqb t.answered job.calls (omega (arith, all))) (record { undone = no_work; all = refl; whole = λ switched. refl; stops = λ f met. cc met })
+attends_keeps job zero t all w runs = rw (attends_last job t, eq-eqb t.answered job.calls (omega (arith, all))) (record { undone = working.nothing; all = refl; whole = λ switched. refl; stops = λ f met. cc met })
 attends_keeps job (suc n) t all w runs =
     let other = ne_eqb t.answered job.calls (λ same. absurd (omega (arith, all, same))) in
     rw (attends_first job n t, other) (awaited_keeps job t runs (goes_on doing (takes_call job) (after_call job n t))
@@ -244,10 +244,10 @@ module _ (job : AnswerJob) (w : ClientState) (runs : List ChildRun) (some : (0 =
   calls u = goes_on doing (attends job.calls job no_calls) writes_tally
 
   asked_keeps : (r : Result (Unit {0}) ConnFault) →
-      KeepsAll w.order job (trace_by (called (deeds_of_work (sending (request_bytes w.order (select_events job.device 3)))) (by_answer (refusal (select_events job.device 3)) r) (record { wire = after_reply w; runs = runs })) calls) runs
+      KeepsAll w.order job (trace_by (called (deeds_of_work (work (request_bytes w.order (select_events job.device 3)) [] [])) (end_among (refusal (select_events job.device 3)) r) (record { wire = after_reply w; runs = runs })) calls) runs
   unfolding acts_from
   asked_keeps (Ok u) =
-      keeps_after (sending (request_bytes w.order (select_events job.device 3)))
+      keeps_after (work (request_bytes w.order (select_events job.device 3)) [] [])
       (λ sends s. record { before = s.before; later = s.later; are = s.are; sent = ap (λ l. request_bytes w.order (select_events job.device 3) ++ l) s.sent; on = s.on })
       (rw some at (attends_keeps job job.calls no_calls (omega arith) (after_reply w) runs))
   asked_keeps (Err f) = keeps_all (λ x e. cc e)

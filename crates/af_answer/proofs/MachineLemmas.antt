@@ -8,21 +8,22 @@ use Rattle.af_io.specs.declared.flow.Put.{Put}
 use Rattle.af_io.specs.declared.flow.Put.TheVariants as puts
 use Rattle.af_io.specs.Flow.{AppendedPrefix, Written as Wrote}
 use Rattle.af_io.proofs.AppendedLemmas.{appended_none}
-use Rattle.af_dialogue.specs.Parts.{followed, goes_on}
+use Rattle.af_dialogue.specs.Parts.{followed, goes_on, stops}
 use Rattle.af_wire.specs.declared.order.Order.{Order}
 use Rattle.af_process.specs.Acts.{Told}
 use Rattle.af_request.specs.declared.reply.DeviceInfo.{DeviceInfo}
 use Rattle.af_lib.specs.declared.fault.ConnFault.{ConnFault}
 use Rattle.af_lib.specs.declared.fault.ConnFault.TheVariants as fault
 use Rattle.af_toolkit.specs.Trace.{ClientState}
+use Rattle.af_toolkit.specs.ToolParts.{LinkSight}
 use Rattle.af_answer.specs.declared.end.AnswerEnd.{AnswerEnd}
 use Rattle.af_answer.specs.declared.end.AnswerEnd.TheVariants as end
 use Rattle.af_answer.specs.declared.job.AnswerJob.{AnswerJob}
 use Rattle.af_answer.specs.declared.tally.Tally.{Tally}
 use Rattle.af_answer.specs.Acts.{MachineAct, no_calls}
-use Rattle.af_answer.specs.AnswerTrace.{MachineTrace, ToCome, AnswerFinish, MachineDeeds, MachineOutcome, MachinePart, Work, all_answered, attends_all, both_works, child_starved, connection_end, deeds_of_work, device_missing, doing, finish_of, line_at, line_missing, missing, machine_end, met_fault, off_hook_fault, on_hook_fault, rang_too_little, stops, tally_text, writes_tally, writing}
-use Rattle.af_answer.specs.AnswerParts.{Added, MatchesAnswer, Seen, Went, is_from_outside, is_of_calls, seen_as, stand}
-use Rattle.af_answer.specs.Answered.{AnswerRan, HangsUp, HasLine, IsReplied, KeepsToActs, LeavesHook, PutsOn, RanAs, StopsAtOffHook, SwitchesHook, acts_asked, work_of_job}
+use Rattle.af_answer.specs.AnswerTrace.{MachineTrace, ToCome, AnswerFinish, MachineDeeds, MachineOutcome, MachinePart, Work, all_answered, attends_all, working, child_starved, connection_end, deeds_of_work, device_missing, doing, finish_of, line_at, line_missing, missing, machine_end, met_fault, off_hook_fault, on_hook_fault, rang_too_little, tally_text, work, writes_tally}
+use Rattle.af_answer.specs.AnswerParts.{Added, MatchesAnswer, Seen, Went, is_from_outside, is_of_calls, seen_as}
+use Rattle.af_answer.specs.Answered.{AnswerRan, HangsUp, HasLine, KeepsToActs, LeavesHook, PutsOn, RanAs, StopsAtOffHook, SwitchesHook, acts_asked, work_of_job}
 use Rattle.af_answer.specs.Children.{ChildRun, run_end}
 use Rattle.af_answer.proofs.AnswerPartLemmas.{added_none, added_on, matches_after, stopped_matches, works_end, works_on}
 use Rattle.af_answer.proofs.KeptActLemmas.{KeepsAll, acts_leave_on, line_keeps}
@@ -51,15 +52,15 @@ switched_where_done : (finish : AnswerFinish) → end.Done ≡ machine_end finis
 switched_where_done finish is = (λ f met. fault_is_other f (ap machine_end (sym met) ∙ sym is), λ f met. fault_is_other f (ap machine_end (sym met) ∙ sym is))
 
 -- a machine that its trace ended is done, unless memory ran out for a child
-by_finish : (finish : AnswerFinish) (how : AnswerEnd) → how ≡ machine_end finish → is_of_line how ≡ true → IsReplied finish → finish ≢ rang_too_little → (how ≡ end.Done) ⊎ (finish ≡ child_starved) ⊎ (is_from_outside how ≡ true)
-by_finish all_answered how is way served enough = inl is
-by_finish (device_missing n) how is way served enough = absurd (is_other is_of_line way refl is)
-by_finish (line_missing n) how is way served enough = absurd (is_other is_of_line way refl is)
-by_finish (off_hook_fault x) how is way served enough = absurd (served.0.1 x refl)
-by_finish (on_hook_fault x) how is way served enough = absurd (served.0.0 x refl)
-by_finish (met_fault x) how is way served enough = absurd (served.1 x refl)
-by_finish rang_too_little how is way served enough = absurd (enough refl)
-by_finish child_starved how is way served enough = inr (inl refl)
+by_finish : (finish : AnswerFinish) (how : AnswerEnd) → how ≡ machine_end finish → is_of_line how ≡ true → SwitchesHook finish → ((f : ConnFault) → finish ≢ met_fault f) → finish ≢ rang_too_little → (how ≡ end.Done) ⊎ (finish ≡ child_starved) ⊎ (is_from_outside how ≡ true)
+by_finish all_answered how is way switched met enough = inl is
+by_finish (device_missing n) how is way switched met enough = absurd (is_other is_of_line way refl is)
+by_finish (line_missing n) how is way switched met enough = absurd (is_other is_of_line way refl is)
+by_finish (off_hook_fault x) how is way switched met enough = absurd (switched.1 x refl)
+by_finish (on_hook_fault x) how is way switched met enough = absurd (switched.0 x refl)
+by_finish (met_fault x) how is way switched met enough = absurd (met x refl)
+by_finish rang_too_little how is way switched met enough = absurd (enough refl)
+by_finish child_starved how is way switched met enough = inr (inl refl)
 
 -- if no OnHook was answered with a fault, none of the two was, or an OffHook was
 refused_by : (finish : AnswerFinish) → PutsOn finish → SwitchesHook finish ⊎ ((f : ConnFault) × (finish ≡ off_hook_fault f))
@@ -79,16 +80,16 @@ module _ (order : Order) (job : AnswerJob) (t : MachineTrace) (runs : List Child
         ap (λ (d : MachineDeeds). d.work.told) m.all ∙ ap (λ l. done.work.told ++ l) undone.1 ∙ append-nil done.work.told,
       )
 
-  hangs : {how : AnswerEnd} → MatchesAnswer t how done → how ≢ end.LinkFault → SwitchesHook (finish_of t) → HangsUp order job acts runs done.work
+  hangs : {how : AnswerEnd} → MatchesAnswer t how done → how ≢ end.LinkFault → SwitchesHook (finish_of t) → HangsUp (work_of_job order job acts runs) acts done.work
   hangs m acting switched =
-      let same : work_of_job order job acts runs ≡ t.did.work = k.all ∙ ap (λ (w : Work). both_works t.did.work w) (k.whole switched) ∙ works_end t.did.work in
+      let same : work_of_job order job acts runs ≡ t.did.work = k.all ∙ ap (λ (w : Work). working.joined t.did.work w) (k.whole switched) ∙ works_end t.did.work in
       record {
         sent = sym (ap (λ (w : Work). w.sends) same ∙ (all_acted m acting).0);
         children = sym (ap (λ (w : Work). w.told) same ∙ (all_acted m acting).1);
         on = acts_leave_on job 0 no_calls t.did.heard (map run_end runs);
       }
 
-  hook_left : (how : AnswerEnd) → is_of_line how ≡ true → MatchesAnswer t how done → LeavesHook how (finish_of t) (HangsUp order job acts runs done.work) (StopsAtOffHook order job acts runs done.work.sends) done.work.sends
+  hook_left : (how : AnswerEnd) → is_of_line how ≡ true → MatchesAnswer t how done → LeavesHook how (finish_of t) (HangsUp (work_of_job order job acts runs) acts done.work) (StopsAtOffHook order job acts runs done.work.sends) done.work.sends
   hook_left end.Done way m = hangs m (λ e. cc e) (switched_where_done (finish_of t) (m.whole refl).0)
   hook_left end.SinkFault way m = hangs m (λ e. cc e) (rw (m.reported refl) (λ f e. cc e, λ f e. cc e))
   hook_left end.OutOfMemory way m = hangs m (λ e. cc e) (rw (m.starved refl) (λ f e. cc e, λ f e. cc e))
@@ -104,13 +105,13 @@ module _ (order : Order) (job : AnswerJob) (t : MachineTrace) (runs : List Child
   hook_left how way m = cc way
 
   module _ (how : AnswerEnd) (m : MatchesAnswer t how done) where
-    kept_acts : KeepsToActs order job acts runs how done.work
+    kept_acts : KeepsToActs (work_of_job order job acts runs) how done.work
     kept_acts = record {
-      undone = both_works m.undone.work k.undone;
-      all = k.all ∙ ap (λ (d : MachineDeeds). both_works d.work k.undone) m.all ∙ works_on done.work m.undone.work k.undone;
+      undone = working.joined m.undone.work k.undone;
+      all = k.all ∙ ap (λ (d : MachineDeeds). working.joined d.work k.undone) m.all ∙ works_on done.work m.undone.work k.undone;
       whole = λ is.
           let w = m.whole (ap is_from_outside is) in
-          ap₂ both_works (ap (λ (d : MachineDeeds). d.work) w.1) (k.whole (switched_where_done (finish_of t) (sym is ∙ w.0)));
+          ap₂ (λ (w v : Work). working.joined w v) (ap (λ (d : MachineDeeds). d.work) w.1) (k.whole (switched_where_done (finish_of t) (sym is ∙ w.0)));
     }
 
     -- it ended as its trace does, unless something from outside ended it
@@ -127,22 +128,22 @@ line_of_put puts.Done = refl
 line_of_put puts.Failed = refl
 
 -- the line was written, or a part of it
-module _ (tally : Tally) (a : ToCome) (s : Seen) (held : Option (List ℕ)) where
+module _ (tally : Tally) (a : ToCome) (s : Seen (Option (List ℕ))) (held : Option (List ℕ)) where
   abbrev Written : AnswerEnd → Type 0
-  Written how = (front : List ℕ) × MatchesAnswer (writes_tally tally a) how (deeds_of_work (writing front)) × Added s (writing front) (record s { held = held })
+  Written how = (front : List ℕ) × MatchesAnswer (writes_tally tally a) how (deeds_of_work (work [] [] front)) × Added s (work [] [] front) (record s { held = held })
 
   writes : (how : AnswerEnd) (p : AppendedPrefix s.held (tally_text tally) held) → (is_from_outside how ≡ false → (how ≡ end.Done) × (p.rest ≡ [])) → how ≢ end.OutOfMemory → Written how
   writes how p only other = (
     p.front,
     record {
-      undone = deeds_of_work (writing p.rest);
-      all = ap (λ l. deeds_of_work (writing l)) p.whole;
-      whole = λ inner. ((only inner).0, ap (λ l. deeds_of_work (writing l)) (only inner).1);
+      undone = deeds_of_work (work [] [] p.rest);
+      all = ap (λ l. deeds_of_work (work [] [] l)) p.whole;
+      whole = λ inner. ((only inner).0, ap (λ l. deeds_of_work (work [] [] l)) (only inner).1);
       acted = λ _. (refl, refl);
       starved = λ e. absurd (other e);
       reported = λ e. refl;
     },
-    record { link = appended_none s.sent; children = appended_none s.acts; sink = p.appended },
+    record { link = appended_none s.far; children = appended_none s.acts; sink = p.appended },
   )
 
   written : (put : Put) → Wrote put s.held (tally_text tally) held → Written (put_end put)
@@ -151,7 +152,7 @@ module _ (tally : Tally) (a : ToCome) (s : Seen) (held : Option (List ℕ)) wher
 
 -- a machine by whether its device exists, and has a line
 abbrev answers_on : AnswerJob → Option Bool → List DeviceInfo → MachinePart (Unit {0})
-answers_on job line devices = option_map_or (λ finish. stops finish) (missing job line (length devices)) (goes_on doing (attends_all job) writes_tally)
+answers_on job line devices = option_map_or (λ finish. stops doing finish) (missing job line (length devices)) (goes_on doing (attends_all job) writes_tally)
 
 -- a machine on a line, by how it came through its calls
 module _ (job : AnswerJob) (devices : List DeviceInfo) (some : 1 ≤ job.calls) (line : HasLine job devices) where
@@ -159,66 +160,63 @@ module _ (job : AnswerJob) (devices : List DeviceInfo) (some : 1 ≤ job.calls) 
   line_trace a = goes_on doing (attends_all job) writes_tally a
 
   -- it ran as its trace
-  ended_ran : (w : ClientState) (runs : List ChildRun) {how : AnswerEnd} {s s' : Seen} (done : MachineDeeds) → is_of_line how ≡ true → MatchesAnswer (line_trace (record { wire = w; runs = runs })) how done → Added s done.work s' → AnswerRan job devices w how s s'
+  ended_ran : (w : ClientState) (runs : List ChildRun) {how : AnswerEnd} {s s' : Seen (Option (List ℕ))} (done : MachineDeeds) → is_of_line how ≡ true → MatchesAnswer (line_trace (record { wire = w; runs = runs })) how done → Added s done.work s' → AnswerRan job devices w how s s'
   ended_ran w runs {how} {s} {s'} done way m added =
       let a : ToCome = record { wire = w; runs = runs } in
       let t = line_trace a in
       let k = line_keeps job w runs (ne_eqb 0 job.calls (λ none. absurd (omega (arith, some, none)))) in
-      let ran : RanAs w.order job devices t runs how s s' = record {
-        done = done;
-        added = added;
+      let ran : RanAs w.order job devices t runs how done = record {
         followed = m;
         answered = λ _. kept_acts w.order job t runs k done how m;
         hung_up = hook_left w.order job t runs k done how way m;
-        complete = λ _ served enough. by_cause w.order job t runs k done how m (λ outer. inr (inr outer)) (λ ends. by_finish (finish_of t) how ends way served enough);
+        starves = λ starved. by_cause w.order job t runs k done how m inr (λ ends. inl (ends ∙ ap machine_end starved));
+        complete = λ _ switched met enough. by_cause w.order job t runs k done how m (λ outer. inr (inr outer)) (λ ends. by_finish (finish_of t) how ends way switched met enough);
       } in
-      record { runs = runs; ran = subst (λ (x : MachineTrace). RanAs w.order job devices x runs how s s') (sym (ap (λ (x : Option Bool). answers_on job x devices a) line)) ran }
+      record { runs = runs; done = done; added = added; ran = subst (λ (x : MachineTrace). RanAs w.order job devices x runs how done) (sym (ap (λ (x : Option Bool). answers_on job x devices a) line)) ran }
 
-  module _ {left left' : Option (List ℕ)} {client client' : List ℕ → ClientState} {sent sent' : Option (List ℕ)} {acts acts' : Option (List Told)} {held : Option (List ℕ)} {input : List ℕ} (told : left ≡ Some input) where
+  module _ {link link' : LinkSight} {acts acts' : Option (List Told)} {held : Option (List ℕ)} {input : List ℕ} (told : link.left ≡ Some input) where
     -- it ended within them
-    pub stopped_ran : {how : AnswerEnd} → is_of_calls how ≡ true → Went {X = Tally} (attends_all job) (Err how) (stand left client sent acts held) (stand left' client' sent' acts' held) → AnswerRan job devices (client input) how (seen_as sent acts held) (seen_as sent' acts' held)
+    pub stopped_ran : {how : AnswerEnd} → is_of_calls how ≡ true → Went {X = Tally} (attends_all job) (Err how) (seen_as link acts held) (seen_as link' acts' held) → AnswerRan job devices (link.client input) how (seen_as link.sent acts held) (seen_as link'.sent acts' held)
     unfolding goes_on
     stopped_ran {how} way w =
-        let a : ToCome = record { wire = client input; runs = w.runs [] } in
+        let a : ToCome = record { wire = link.client input; runs = w.runs [] } in
         let c = (w.goes []).came a (input, told, refl) in
-        ended_ran (client input) (w.runs []) c.0 (line_of_calls how way) (stopped_matches (attends_all job a) (λ y. writes_tally y.0 y.1) how c.0 way c.1) c.2
+        ended_ran (link.client input) (w.runs []) c.0 (line_of_calls how way) (stopped_matches (attends_all job a) (λ y. writes_tally y.0 y.1) how c.0 way c.1) c.2
 
     -- it took them all, and wrote the line, or a part of it
-    pub reported_ran : {tally : Tally} {held' : Option (List ℕ)} (put : Put) → Went (attends_all job) (Ok tally) (stand left client sent acts held) (stand left' client' sent' acts' held) → Wrote put held (tally_text tally) held' →
-        AnswerRan job devices (client input) (put_end put) (seen_as sent acts held) (seen_as sent' acts' held')
+    pub reported_ran : {tally : Tally} {held' : Option (List ℕ)} (put : Put) → Went (attends_all job) (Ok tally) (seen_as link acts held) (seen_as link' acts' held) → Wrote put held (tally_text tally) held' →
+        AnswerRan job devices (link.client input) (put_end put) (seen_as link.sent acts held) (seen_as link'.sent acts' held')
     unfolding goes_on
     reported_ran {tally} {held'} put w wrote =
-        let a : ToCome = record { wire = client input; runs = w.runs [] } in
+        let a : ToCome = record { wire = link.client input; runs = w.runs [] } in
         let c = (w.goes []).came a (input, told, refl) in
-        let t = written tally c.0 (seen_as sent' acts' held) held' put wrote in
+        let t = written tally c.0 (seen_as link'.sent acts' held) held' put wrote in
         let whole = λ (o : MachineOutcome Tally). followed doing o.did o.end (λ y. writes_tally y.0 y.1) in
-        ended_ran (client input) (w.runs []) (doing.joined c.2 (deeds_of_work (writing t.0))) (line_of_put put) (matches_after c.2 (ap whole c.3) t.1) (added_on c.4 t.2)
+        ended_ran (link.client input) (w.runs []) (doing.joined c.2 (deeds_of_work (work [] [] t.0))) (line_of_put put) (matches_after c.2 (ap whole c.3) t.1) (added_on c.4 t.2)
 
 -- a machine whose device is missing, or has no line
-module _ (job : AnswerJob) (devices : List DeviceInfo) (w : ClientState) (s : Seen) (none : HasLine job devices → ⊥) where
-  lacking_by : (finish : AnswerFinish) → machine_end finish ≢ end.OutOfMemory → machine_end finish ≢ end.SinkFault → ((hung_up refused_off : Type 0) → LeavesHook (machine_end finish) finish hung_up refused_off []) →
-      RanAs w.order job devices (stops finish (record { wire = w; runs = [] })) [] (machine_end finish) s s
-  lacking_by finish fed wrote untouched = record {
-    done = doing.nothing;
-    added = added_none s;
+module _ (job : AnswerJob) (devices : List DeviceInfo) (w : ClientState) where
+  lacking_by : (HasLine job devices → ⊥) → (finish : AnswerFinish) → machine_end finish ≢ end.OutOfMemory → machine_end finish ≢ end.SinkFault → ((hung_up refused_off : Type 0) → LeavesHook (machine_end finish) finish hung_up refused_off []) →
+      RanAs w.order job devices (stops doing finish (record { wire = w; runs = [] })) [] (machine_end finish) doing.nothing
+  lacking_by none finish fed wrote untouched = record {
     followed = record { undone = doing.nothing; all = refl; whole = λ inner. (refl, refl); acted = λ other. (refl, refl); starved = λ e. absurd (fed e); reported = λ e. absurd (wrote e) };
     answered = λ l. absurd (none l);
     hung_up = untouched _ _;
+    starves = λ e. absurd (fed (ap machine_end e));
     complete = λ l. absurd (none l);
   }
 
-lacking_at : (job : AnswerJob) (devices : List DeviceInfo) (w : ClientState) {how : AnswerEnd} (s : Seen) (line : Option Bool) → line_at job devices ≡ line → option_map machine_end (missing job line (length devices)) ≡ Some how →
-    RanAs w.order job devices (answers_on job line devices (record { wire = w; runs = [] })) [] how s s
-lacking_at job devices w s (Some true) at is = cc is
-lacking_at job devices w {how} s (Some false) at is =
-    let same : how ≡ end.NoLine job.device = cc in
-    rw same (lacking_by job devices w s (λ l. (let bad : Some false ≡ Some true = sym at ∙ l in cc bad)) (line_missing job.device) (λ e. cc e) (λ e. cc e) (λ _ _. refl))
-lacking_at job devices w {how} s None at is =
-    let same : how ≡ end.NoDevice (length devices) = cc in
-    rw same (lacking_by job devices w s (λ l. (let bad : None ≡ Some true = sym at ∙ l in cc bad)) (device_missing (length devices)) (λ e. cc e) (λ e. cc e) (λ _ _. refl))
+  lacking_at : {how : AnswerEnd} (line : Option Bool) → line_at job devices ≡ line → option_map machine_end (missing job line (length devices)) ≡ Some how → RanAs w.order job devices (answers_on job line devices (record { wire = w; runs = [] })) [] how doing.nothing
+  lacking_at (Some true) at is = cc is
+  lacking_at {how} (Some false) at is =
+      let same : how ≡ end.NoLine job.device = cc in
+      rw same (lacking_by (λ l. (let bad : Some false ≡ Some true = sym at ∙ l in cc bad)) (line_missing job.device) (λ e. cc e) (λ e. cc e) (λ _ _. refl))
+  lacking_at {how} None at is =
+      let same : how ≡ end.NoDevice (length devices) = cc in
+      rw same (lacking_by (λ l. (let bad : None ≡ Some true = sym at ∙ l in cc bad)) (device_missing (length devices)) (λ e. cc e) (λ e. cc e) (λ _ _. refl))
 
-pub lacking_ran : (job : AnswerJob) (devices : List DeviceInfo) (w : ClientState) {how : AnswerEnd} {s : Seen} → option_map machine_end (missing job (line_at job devices) (length devices)) ≡ Some how → AnswerRan job devices w how s s
-lacking_ran job devices w {s} is = record { runs = []; ran = lacking_at job devices w s (line_at job devices) refl is }
+  pub lacking_ran : {how : AnswerEnd} {s : Seen (Option (List ℕ))} → option_map machine_end (missing job (line_at job devices) (length devices)) ≡ Some how → AnswerRan job devices w how s s
+  lacking_ran {s} is = record { runs = []; done = doing.nothing; added = added_none s; ran = lacking_at (line_at job devices) refl is }
 
 -- a device with a number past the last does not exist
 past_last : (job : AnswerJob) (devices : List DeviceInfo) → (line_at job devices ≡ None) ↔ (length devices ≤ job.device)

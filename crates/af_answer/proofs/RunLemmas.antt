@@ -7,7 +7,7 @@ use Rattle.af_io.specs.Dial.{AppendedBack, IsFirstOf, ToldLink}
 use Rattle.af_io.proofs.AppendedLemmas.{appended_none}
 use Rattle.af_wire.specs.declared.order.Order.TheVariants.{Big}
 use Rattle.af_wire.specs.Front.{setup_bytes}
-use Rattle.af_dialogue.specs.Parts.{called, followed, goes_on}
+use Rattle.af_dialogue.specs.Parts.{called, end_among, followed, goes_on}
 use Rattle.af_process.specs.Acts.{Told}
 use Rattle.af_request.specs.declared.reply.DeviceInfo.{DeviceInfo}
 use Rattle.af_lib.specs.declared.fault.ConnFault.{ConnFault}
@@ -20,11 +20,11 @@ use Rattle.af_toolkit.proofs.ToolPartLemmas.{client_begun, setup_known}
 use Rattle.af_answer.specs.declared.end.AnswerEnd.{AnswerEnd}
 use Rattle.af_answer.specs.declared.end.AnswerEnd.TheVariants as end
 use Rattle.af_answer.specs.declared.job.AnswerJob.{AnswerJob}
-use Rattle.af_answer.specs.AnswerTrace.{MachineOutcome, ToCome, answers, connection_end, deeds_of_work, doing, by_answer, met_fault, sending}
-use Rattle.af_answer.specs.AnswerParts.{Went, is_of_calls, seen_as, stand}
+use Rattle.af_answer.specs.AnswerTrace.{MachineOutcome, ToCome, answers, connection_end, deeds_of_work, doing, met_fault, work}
+use Rattle.af_answer.specs.AnswerParts.{Seen, Went, is_of_calls, seen_as}
 use Rattle.af_answer.specs.Answered.{AnswerRan, RanAs}
 use Rattle.af_answer.specs.AnswerWords.{AnswerWords, answer_words, words_of_job}
-use Rattle.af_answer.specs.AnswerRun.{Attended, LinkRan, RanAsked, RanOver, Surroundings, sets_up, whole_trace}
+use Rattle.af_answer.specs.AnswerRun.{DialSight, LinkRan, RanAsked, RanOver, sets_up, whole_trace}
 use Rattle.af_answer.proofs.AnswerPartLemmas.{added_on, matches_after, stopped_matches}
 use Rattle.af_answer.proofs.AnswerStepLemmas.{exchange_went}
 
@@ -45,8 +45,8 @@ pub not_set_up_ran : {L : Type 0} {left sent : L → Option (List ℕ)} {faults 
 unfolding whole_trace goes_on
 not_set_up_ran {left} {sent} {faults} job {input} {old} {new} {ring} {f} {acts} {held} is told =
     let known = setup_known Big left sent faults old new ring input (Err f) is told in
-    let went : Went {X = List DeviceInfo} sets_up (Err (connection_end f)) (stand (left old) (client_before_setup Big) (sent old) acts held) (stand (left new) (new_client Big ring) (sent new) acts held) =
-    exchange_went met_fault (λ f. refl) (λ w. setup_bytes Big) (λ w. setup_answer Big w.input) (λ w. client_after_setup Big w.input) acts held (Err f) is.fresh (λ i t. (is.sends, setup_known Big left sent faults old new ring i (Err f) is t)) in
+    let went : Went {X = List DeviceInfo} sets_up (Err (connection_end f)) (seen_as (record { left = left old; client = client_before_setup Big; sent = sent old }) acts held) (seen_as (record { left = left new; client = new_client Big ring; sent = sent new }) acts held) =
+    exchange_went met_fault (λ f. refl) (λ w. setup_bytes Big) (λ w. setup_answer Big w.input) (λ w. client_after_setup Big w.input) _ _ acts held (Err f) is.fresh (λ i t. (is.sends, setup_known Big left sent faults old new ring i (Err f) is t)) in
     let at : ToCome = record { wire = client_before_setup Big input; runs = went.runs [] } in
     let c = (went.goes []).came at (input, told, refl) in
     record {
@@ -66,26 +66,26 @@ set_up_ran {left} {sent} {faults} job {input} {far} conn {how} {s'} {a} {a'} {h}
     let k = setup_known Big left sent faults far conn.link conn.ring input (Ok conn.devices) is told (λ e. cc e) in
     let r = answered k.0 k.1 in
     let place : client_of conn k.0 ≡ client_after_setup Big input = client_begun Big conn k.0 same_order first ∙ k.3 in
-    let ran = subst (λ (v : ClientState). RanAs v.order job conn.devices (answers job conn.devices (record { wire = v; runs = r.runs })) r.runs how (seen_as (sent conn.link) a h) (seen_as s' a' h')) place r.ran in
+    let ran = subst (λ (v : ClientState). RanAs v.order job conn.devices (answers job conn.devices (record { wire = v; runs = r.runs })) r.runs how r.done) place r.ran in
     let set : Appended (sent far) (setup_bytes Big) (sent conn.link) = is.sends.whole (λ e. cc e) in
-    let setup = deeds_of_work (sending (setup_bytes Big)) in
+    let setup = deeds_of_work (work (setup_bytes Big) [] []) in
     let whole = λ (x : Result (List DeviceInfo) ConnFault).
-    let o : MachineOutcome (List DeviceInfo) = called setup (by_answer met_fault x) (record { wire = client_after_setup Big input; runs = r.runs }) in
+    let o : MachineOutcome (List DeviceInfo) = called setup (end_among met_fault x) (record { wire = client_after_setup Big input; runs = r.runs }) in
     followed doing o.did o.end (λ y. answers job y.0 y.1) in
     record {
       runs = r.runs;
-      done = doing.joined setup ran.done;
-      added = added_on {b = seen_as (sent conn.link) a h} {w = sending (setup_bytes Big)} {v = ran.done.work} (record { link = set; children = appended_none a; sink = appended_none h }) ran.added;
+      done = doing.joined setup r.done;
+      added = added_on {b = seen_as (sent conn.link) a h} {w = work (setup_bytes Big) [] []} {v = r.done.work} (record { link = set; children = appended_none a; sink = appended_none h }) r.added;
       followed = matches_after setup (ap whole (sym k.2)) ran.followed;
       attended = λ devices same.
           let both : (let x : Result (List DeviceInfo) ConnFault = Ok conn.devices in x ≡ Ok devices) = k.2 ∙ same in
           let devices_are : conn.devices ≡ devices = cc in
-          inr (subst (λ (ds : List DeviceInfo). Attended job ds input r.runs how (seen_as (sent far) a h) (seen_as s' a' h')) devices_are (record { between = sent conn.link; set = set; ran = ran }));
+          inr (r.done, refl, subst (λ (ds : List DeviceInfo). RanAs Big job ds (answers job ds (record { wire = client_after_setup Big input; runs = r.runs })) r.runs how r.done) devices_are ran);
     }
 
 -- the first link of a dial
-pub first_ran : {F : Type 0} (left sent : F → Option (List ℕ)) {asked : AnswerWords} (job : AnswerJob) {how : AnswerEnd} (far : F) {after : Option (List ℕ)} (links : List ToldLink) {between : Option (List ToldLink)} {back : Option (List (List ℕ))} {old new : Surroundings} →
-    words_of_job asked.server job ≡ asked → old.links ≡ Some links → IsFirstOf left sent far old.links between → new.links ≡ between → back ≡ old.back → AppendedBack back after new.back →
+pub first_ran : {F : Type 0} (left sent : F → Option (List ℕ)) {asked : AnswerWords} (job : AnswerJob) {how : AnswerEnd} (far : F) {after : Option (List ℕ)} (links : List ToldLink) {between : Option (List ToldLink)} {back : Option (List (List ℕ))} {old new : Seen DialSight} →
+    words_of_job asked.server job ≡ asked → old.far.links ≡ Some links → IsFirstOf left sent far old.far.links between → new.far.links ≡ between → back ≡ old.far.back → AppendedBack back after new.far.back →
     ((input : List ℕ) → left far ≡ Some input → RanOver job input how (seen_as (sent far) old.acts old.held) (seen_as after new.acts new.held)) → RanAsked asked how old new
 first_ran left sent job far [] {between} of told first stay same added ran = absurd (subst (λ (l : Option (List ToldLink)). IsFirstOf left sent far l between) told first)
 first_ran left sent job {how} far {after} (link ∷ links) {between} {old} {new} of told first stay same added ran =
@@ -98,7 +98,7 @@ first_ran left sent job {how} far {after} (link ∷ links) {between} {old} {new}
       links_are = told;
       links_stay = stay ∙ is.2;
       sent = after;
-      given_back = subst (λ (b : Option (List (List ℕ))). AppendedBack b after new.back) same added;
+      given_back = subst (λ (b : Option (List (List ℕ))). AppendedBack b after new.far.back) same added;
       ran = subst (λ (s : Option (List ℕ)). RanOver job link.gives how (seen_as s old.acts old.held) (seen_as after new.acts new.held)) is.1 (ran link.gives is.0);
     }
 

@@ -7,7 +7,7 @@ use Rattle.af_wire.specs.declared.event.Event.{Event}
 use Rattle.af_request.specs.declared.reply.DeviceInfo.{DeviceInfo}
 use Rattle.af_request.specs.Asked.{Asked, hook_switch, select_events}
 use Rattle.af_request.specs.Requests.{request_bytes}
-use Rattle.af_dialogue.specs.Parts.{Deeds, Outcome, Part, called, goes_on, has_value, outcome}
+use Rattle.af_dialogue.specs.Parts.{Deeds, Outcome, Part, called, end_among, goes_on, has_value, stops}
 use Rattle.af_process.specs.Acts.{Told}
 use Rattle.af_lib.specs.declared.fault.ConnFault.{ConnFault}
 use Rattle.af_lib.specs.declared.fault.ConnFault.TheVariants as fault
@@ -49,21 +49,12 @@ pub record Work : Type 0 where
   pub told : List Told
   pub output : List ℕ
 
-abbrev pub no_work : Work
-no_work = record { sends = []; told = []; output = [] }
+abbrev pub work : (sends : List ℕ) → List Told → (output : List ℕ) → Work
+work sends told output = record { sends = sends; told = told; output = output }
 
-abbrev pub sending : List ℕ → Work
-sending bytes = record { sends = bytes; told = []; output = [] }
-
-abbrev pub running : List Told → Work
-running told = record { sends = []; told = told; output = [] }
-
-abbrev pub writing : List ℕ → Work
-writing text = record { sends = []; told = []; output = text }
-
--- one after the other
-abbrev pub both_works : Work → Work → Work
-both_works w v = record { sends = w.sends ++ v.sends; told = w.told ++ v.told; output = w.output ++ v.output }
+-- no work, or some and then other work
+abbrev pub working : Deeds Work
+working = record { nothing = work [] [] []; joined = λ w v. work (w.sends ++ v.sends) (w.told ++ v.told) (w.output ++ v.output) }
 
 -- what a machine has done: the events that it got, and its work
 pub record MachineDeeds : Type 0 where
@@ -76,8 +67,8 @@ deeds_of_work w = record { heard = []; work = w }
 -- a machine does nothing, or some deeds and then others
 abbrev pub doing : Deeds MachineDeeds
 doing = record {
-  nothing = deeds_of_work no_work;
-  joined = λ d e. record { heard = d.heard ++ e.heard; work = both_works d.work e.work };
+  nothing = deeds_of_work working.nothing;
+  joined = λ d e. record { heard = d.heard ++ e.heard; work = working.joined d.work e.work };
 }
 
 -- A part of a machine goes by what is to come. It ends with a value, or with the end of the machine.
@@ -91,25 +82,16 @@ MachineOutcome X = Outcome MachineDeeds (X × ToCome) AnswerFinish
 abbrev pub MachineTrace : Type 0
 MachineTrace = MachineOutcome (Unit {0})
 
--- nothing more is done
-abbrev pub stops : {X : Type 0} → AnswerFinish → MachinePart X
-stops finish a = outcome doing.nothing (Err finish)
-
 -- why a machine ends if its request is answered with a fault
 abbrev pub refusal : Asked → ConnFault → AnswerFinish
 refusal (hook_switch device zero) fault = on_hook_fault fault
 refusal (hook_switch device (suc off)) fault = off_hook_fault fault
 refusal _ fault = met_fault fault
 
--- an answer of a connection: a fault ends the machine, for this reason
-abbrev pub by_answer : {X : Type 0} → (ConnFault → AnswerFinish) → Result X ConnFault → Result X AnswerFinish
-by_answer reason (Ok x) = Ok x
-by_answer reason (Err fault) = Err (reason fault)
-
--- a message is sent, and its answer is the value
+-- a message is sent, and its answer is the value; a fault ends the machine, for this reason
 abbrev pub exchanges : {X : Type 0} → (ConnFault → AnswerFinish) → (bytes : ClientState → List ℕ) →
     (answer : ClientState → Result X ConnFault) → (after : ClientState → ClientState) → MachinePart X
-exchanges reason bytes answer after a = called (deeds_of_work (sending (bytes a.wire))) (by_answer reason (answer a.wire))
+exchanges reason bytes answer after a = called (deeds_of_work (work (bytes a.wire) [] [])) (end_among reason (answer a.wire))
     (record { wire = after a.wire; runs = a.runs })
 
 -- a request is sent, and its answer is the value
@@ -129,7 +111,7 @@ after_event w = record w {
 
 -- an event is heard
 abbrev pub hears : Event → MachinePart Event
-hears e a = called (record { heard = e ∷ []; work = no_work }) (Ok e) a
+hears e a = called (record { heard = e ∷ []; work = working.nothing }) (Ok e) a
 
 -- an event is waited for, for which nothing is sent, and heard
 unfoldable pub awaits_event : MachinePart Event
@@ -141,7 +123,7 @@ first_run runs = get_or runs 0 start_failed
 
 -- a text is run as a child, and how that ended is the value
 unfoldable pub runs_child : List ℕ → MachinePart ChildEnd
-runs_child text a = called (deeds_of_work (running (told_of_run (shell_words text) (first_run a.runs))))
+runs_child text a = called (deeds_of_work (work [] (told_of_run (shell_words text) (first_run a.runs)) []))
     (Ok (run_end (first_run a.runs))) (record { wire = a.wire; runs = drop 1 a.runs })
 
 -- the message is recorded after a good greeting, and else the call ends as the greeting did
@@ -164,7 +146,7 @@ most_for_a_call = 1000000
 
 -- It rings until a call is to be taken, or n events were read without that.
 unfoldable pub awaits_call : ℕ → AnswerJob → (rings : ℕ) → MachinePart (Unit {0})
-awaits_call zero job rings = stops rang_too_little
+awaits_call zero job rings = stops doing rang_too_little
 awaits_call (suc n) job rings = goes_on doing awaits_event (λ e.
     if rings_after job rings e == job.rings then has_value doing tt else awaits_call n job (rings_after job rings e))
 
@@ -174,7 +156,7 @@ attends zero job t = has_value doing t
 attends (suc n) job t =
     goes_on doing (awaits_call most_for_a_call job 0) (λ _.
     goes_on doing (takes_call job) (λ how.
-    if is_starved how then stops child_starved else attends n job (tally_after how t)))
+    if is_starved how then stops doing child_starved else attends n job (tally_after how t)))
 
 -- rings and hooks are asked for, and then all calls are taken
 unfoldable pub attends_all : AnswerJob → MachinePart Tally
@@ -188,7 +170,7 @@ tally_text t =
 
 -- the line is written
 abbrev pub writes_tally : Tally → MachinePart (Unit {0})
-writes_tally t a = called (deeds_of_work (writing (tally_text t))) (Ok tt) a
+writes_tally t a = called (deeds_of_work (work [] [] (tally_text t))) (Ok tt) a
 
 -- whether the device of a job has a line, if it exists
 abbrev pub line_at : AnswerJob → List DeviceInfo → Option Bool
@@ -203,7 +185,7 @@ missing job None devices = Some (device_missing devices)
 -- a machine on a link that is set up, by the devices of the server: if nothing is missing, it takes its calls and writes their
 -- numbers
 abbrev pub answers : AnswerJob → List DeviceInfo → MachinePart (Unit {0})
-answers job devices = option_map_or (λ finish. stops finish) (missing job (line_at job devices) (length devices))
+answers job devices = option_map_or (λ finish. stops doing finish) (missing job (line_at job devices) (length devices))
     (goes_on doing (attends_all job) writes_tally)
 
 -- why a machine ends: one that came to the end of its parts has answered all calls

@@ -1,6 +1,6 @@
 -- What an answering machine has done at its end.
 use Rattle.std.specs.Prelude.{◌≡◌, ◌≢◌, ◌<◌, ◌≤◌, ◌⊎◌, ⊤, ℕ, true, false, List, [], ◌∷◌, ◌++◌, map, drop, length}
-use Rattle.std.specs.Prelude.{Some}
+use Rattle.std.specs.Prelude.{Option, Some}
 use Rattle.af_limits.specs.Limits.{most_devices}
 use Rattle.af_wire.specs.declared.order.Order.{Order}
 use Rattle.af_lib.specs.declared.fault.ConnFault.{ConnFault}
@@ -12,9 +12,9 @@ use Rattle.af_answer.specs.declared.end.AnswerEnd.{AnswerEnd}
 use Rattle.af_answer.specs.declared.end.AnswerEnd.TheVariants as end
 use Rattle.af_answer.specs.declared.job.AnswerJob.{AnswerJob}
 use Rattle.af_answer.specs.Acts.{MachineAct, answer_acts, greet, leaves_off, off_hook, on_hook, record_message, write_tally}
-use Rattle.af_answer.specs.AnswerTrace.{AnswerFinish, MachineDeeds, MachineTrace, Work, answers, both_works, child_starved}
-use Rattle.af_answer.specs.AnswerTrace.{finish_of, first_run, line_at, met_fault, no_work, off_hook_fault, on_hook_fault, rang_too_little}
-use Rattle.af_answer.specs.AnswerTrace.{running, sending, tally_text, writing}
+use Rattle.af_answer.specs.AnswerTrace.{AnswerFinish, MachineDeeds, MachineTrace, Work, answers, child_starved, finish_of}
+use Rattle.af_answer.specs.AnswerTrace.{first_run, line_at, met_fault, off_hook_fault, on_hook_fault, rang_too_little, tally_text}
+use Rattle.af_answer.specs.AnswerTrace.{work, working}
 use Rattle.af_answer.specs.AnswerParts.{Added, MatchesAnswer, Seen, is_from_outside}
 use Rattle.af_answer.specs.Children.{ChildRun, run_end, told_of_run, shell_words}
 
@@ -28,11 +28,11 @@ pub record IsAnswerJob (job : AnswerJob) : Type 0 where
 
 -- what an act does, by how its child runs: it sends a request, runs a child, or writes
 abbrev pub work_of_act : Order → AnswerJob → MachineAct → ChildRun → Work
-work_of_act order job off_hook run = sending (request_bytes order (hook_switch job.device 1))
-work_of_act order job on_hook run = sending (request_bytes order (hook_switch job.device 0))
-work_of_act order job greet run = running (told_of_run (shell_words job.greeting.bytes) run)
-work_of_act order job record_message run = running (told_of_run (shell_words job.message.bytes) run)
-work_of_act order job (write_tally t) run = writing (tally_text t)
+work_of_act order job off_hook run = work (request_bytes order (hook_switch job.device 1)) [] []
+work_of_act order job on_hook run = work (request_bytes order (hook_switch job.device 0)) [] []
+work_of_act order job greet run = work [] (told_of_run (shell_words job.greeting.bytes) run) []
+work_of_act order job record_message run = work [] (told_of_run (shell_words job.message.bytes) run) []
+work_of_act order job (write_tally t) run = work [] [] (tally_text t)
 
 -- how the children run that come after an act
 abbrev pub later_runs : MachineAct → List ChildRun → List ChildRun
@@ -42,26 +42,25 @@ later_runs act runs = runs
 
 -- the work of acts, in order, by how their children run
 abbrev pub work_of : Order → AnswerJob → List MachineAct → List ChildRun → Work
-work_of order job [] runs = no_work
+work_of order job [] runs = working.nothing
 work_of order job (act ∷ acts) runs =
-    both_works (work_of_act order job act (first_run runs)) (work_of order job acts (later_runs act runs))
+    working.joined (work_of_act order job act (first_run runs)) (work_of order job acts (later_runs act runs))
 
 -- all that the machine is to do after the setup: it asks for rings and hooks, and then come its acts
 abbrev pub work_of_job : Order → AnswerJob → List MachineAct → List ChildRun → Work
 work_of_job order job acts runs =
-    both_works (sending (request_bytes order (select_events job.device 3))) (work_of order job acts runs)
+    working.joined (work (request_bytes order (select_events job.device 3)) [] []) (work_of order job acts runs)
 
--- What was done is the first of what these acts have, in order, and all of it at Done.
-pub record KeepsToActs (order : Order) (job : AnswerJob) (acts : List MachineAct) (runs : List ChildRun) (how : AnswerEnd)
-    (done : Work) : Type 0 where
+-- What was done is the first of this work, in order, and all of it at Done.
+pub record KeepsToActs (todo : Work) (how : AnswerEnd) (done : Work) : Type 0 where
   pub undone : Work
-  pub all : work_of_job order job acts runs ≡ both_works done undone
-  pub whole : how ≡ end.Done → undone ≡ no_work
+  pub all : todo ≡ working.joined done undone
+  pub whole : how ≡ end.Done → undone ≡ working.nothing
 
--- all that these acts have was sent and done, and they leave the hook on
-pub record HangsUp (order : Order) (job : AnswerJob) (acts : List MachineAct) (runs : List ChildRun) (done : Work) : Type 0 where
-  pub sent : done.sends ≡ (work_of_job order job acts runs).sends
-  pub children : done.told ≡ (work_of_job order job acts runs).told
+-- all that is to be sent and all children of this work were, and its acts leave the hook on
+pub record HangsUp (todo : Work) (acts : List MachineAct) (done : Work) : Type 0 where
+  pub sent : done.sends ≡ todo.sends
+  pub children : done.told ≡ todo.told
   pub on : leaves_off acts ≡ false
 
 -- the device of a job exists, and has a line
@@ -75,10 +74,6 @@ PutsOn finish = (f : ConnFault) → finish ≢ on_hook_fault f
 -- and so does each OffHook
 abbrev pub SwitchesHook : AnswerFinish → Type 0
 SwitchesHook finish = PutsOn finish × ((f : ConnFault) → finish ≢ off_hook_fault f)
-
--- each request gets its reply, and each wait an event
-abbrev pub IsReplied : AnswerFinish → Type 0
-IsReplied finish = SwitchesHook finish × ((f : ConnFault) → finish ≢ met_fault f)
 
 -- An OffHook was sent last, and the acts before it leave the hook on.
 pub record StopsAtOffHook (order : Order) (job : AnswerJob) (acts : List MachineAct) (runs : List ChildRun)
@@ -107,27 +102,28 @@ LeavesHook how finish hung_up refused_off sends = sends ≡ []
 abbrev pub acts_asked : AnswerJob → MachineTrace → List ChildRun → List MachineAct
 acts_asked job trace runs = answer_acts job trace.did.heard (map run_end runs)
 
--- A machine did what this trace has, in a byte order, with its children running in this way.
+-- A machine did this of what its trace has, in a byte order, with its children running in this way.
 pub record RanAs (order : Order) (job : AnswerJob) (devices : List DeviceInfo) (trace : MachineTrace) (runs : List ChildRun)
-    (how : AnswerEnd) (before after : Seen) : Type 0 where
-  -- what was done
-  pub done : MachineDeeds
-  pub added : Added before done.work after
+    (how : AnswerEnd) (done : MachineDeeds) : Type 0 where
   -- it is what the trace has, and the machine ended as the trace does, unless something from outside ended it
   pub followed : MatchesAnswer trace how done
   -- it is what was asked for
-  pub answered : HasLine job devices → KeepsToActs order job (acts_asked job trace runs) runs how done.work
+  pub answered : HasLine job devices → KeepsToActs (work_of_job order job (acts_asked job trace runs) runs) how done.work
   -- the hook is left as this end has it
   pub hung_up : LeavesHook how (finish_of trace)
-      (HangsUp order job (acts_asked job trace runs) runs done.work)
+      (HangsUp (work_of_job order job (acts_asked job trace runs) runs) (acts_asked job trace runs) done.work)
       (StopsAtOffHook order job (acts_asked job trace runs) runs done.work.sends) done.work.sends
-  -- If there is a line, each request gets its reply, and each call rings enough, then it is done, unless memory ran out for a
-  -- child or something from outside ended it.
-  pub complete : HasLine job devices → IsReplied (finish_of trace) → finish_of trace ≢ rang_too_little →
-      (how ≡ end.Done) ⊎ (finish_of trace ≡ child_starved) ⊎ (is_from_outside how ≡ true)
+  -- if memory ran out for a child, the machine ends so, unless something from outside ended it
+  pub starves : finish_of trace ≡ child_starved → (how ≡ end.OutOfMemory) ⊎ (is_from_outside how ≡ true)
+  -- If there is a line, each request gets its reply and each wait an event, and each call rings enough, then it is done, unless
+  -- memory ran out for a child or something from outside ended it.
+  pub complete : HasLine job devices → SwitchesHook (finish_of trace) → ((f : ConnFault) → finish_of trace ≢ met_fault f) →
+      finish_of trace ≢ rang_too_little → (how ≡ end.Done) ⊎ (finish_of trace ≡ child_starved) ⊎ (is_from_outside how ≡ true)
 
 -- An answering machine ran, by what its link gives: its children ran in some way, and it did what its trace has for that.
 pub record AnswerRan (job : AnswerJob) (devices : List DeviceInfo) (w : ClientState) (how : AnswerEnd)
-    (before after : Seen) : Type 0 where
+    (before after : Seen (Option (List ℕ))) : Type 0 where
   pub runs : List ChildRun
-  pub ran : RanAs w.order job devices (answers job devices (record { wire = w; runs = runs })) runs how before after
+  pub done : MachineDeeds
+  pub added : Added before done.work after
+  pub ran : RanAs w.order job devices (answers job devices (record { wire = w; runs = runs })) runs how done

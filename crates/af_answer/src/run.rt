@@ -5,8 +5,8 @@ ghost use Rattle.af_io.specs.Observed.{Appended, CountsFault, FaultCounted};
 ghost use Rattle.af_cli.specs.Ranges.{IsAddress};
 ghost use Rattle.af_answer.specs.Answered.{IsAnswerJob};
 ghost use Rattle.af_answer.specs.AnswerWords.{answer_words, is_answer_spelled, words_of_call, AnswerWords};
-ghost use Rattle.af_answer.specs.AnswerRun.{surroundings, IsIdle, RanOver, RunsAsked};
-ghost use Rattle.af_answer.specs.AnswerParts.{is_of_answer, is_of_dial, seen_as};
+ghost use Rattle.af_answer.specs.AnswerRun.{dial_sight, IsIdle, RanOver, RunsAsked};
+ghost use Rattle.af_answer.specs.AnswerParts.{is_of_answer, seen_as};
 
 use crate::end::AnswerEnd;
 use crate::job::AnswerJob;
@@ -56,10 +56,10 @@ fn answer_on<K: Sink, D: Dial, S: Spawner>(
     requires range { IsAnswerJob call.now.job }
     requires server { IsAddress call.now.server.now }
     ensures ran { RunsAsked (words_of_call call.now) result
-        (surroundings (D.links dial.old) (D.back dial.old) (S.acts spawner.old) (K.held sink.old))
-        (surroundings (D.links dial.new) (D.back dial.new) (S.acts spawner.new) (K.held sink.new)) }
+        (seen_as (dial_sight D.links D.back dial.old) (S.acts spawner.old) (K.held sink.old))
+        (seen_as (dial_sight D.links D.back dial.new) (S.acts spawner.new) (K.held sink.new)) }
     ensures asked { Appended (D.asked dial.old) (call.now.server.now ∷ []) (D.asked dial.new) }
-    ensures end { is_of_dial result ≡ true }
+    ensures end { result ≢ AnswerEnd.Usage }
     ensures dialled { CountsFault (result ≡ AnswerEnd.DialFault) (D.faults dial.old) (D.faults dial.new) }
     ensures link { CountsFault (result ≡ AnswerEnd.LinkFault) (D.hurt dial.old) (D.hurt dial.new) }
     ensures sink { CountsFault (result ≡ AnswerEnd.SinkFault) (K.faults sink.old) (K.faults sink.new) }
@@ -96,8 +96,8 @@ pub fn answer_run<K: Sink, D: Dial, S: Spawner>(
     ensures asked { (a : AnswerWords) → answer_words words.now ≡ Some a → result ≢ AnswerEnd.Usage →
         IsIdle result (D.asked dial.old) (D.asked dial.new) ⊎ Appended (D.asked dial.old) (a.server ∷ []) (D.asked dial.new) }
     ensures ran { (a : AnswerWords) → answer_words words.now ≡ Some a → result ≢ AnswerEnd.Usage → RunsAsked a result
-        (surroundings (D.links dial.old) (D.back dial.old) (S.acts spawner.old) (K.held sink.old))
-        (surroundings (D.links dial.new) (D.back dial.new) (S.acts spawner.new) (K.held sink.new)) }
+        (seen_as (dial_sight D.links D.back dial.old) (S.acts spawner.old) (K.held sink.old))
+        (seen_as (dial_sight D.links D.back dial.new) (S.acts spawner.new) (K.held sink.new)) }
 
     // each end has its cause
     ensures dialled { CountsFault (result ≡ AnswerEnd.DialFault) (D.faults dial.old) (D.faults dial.new) }

@@ -11,7 +11,7 @@ use Rattle.af_answer.proofs.call.leave_message.Goals as goal
 -- after another greeting no child runs
 none_left : (job : AnswerJob) (greeting : ChildEnd) (acts : Option (List Told)) → greeting ≢ ended.Good → RunsBy acts acts (leaves_message job greeting) greeting
 none_left job ended.Good acts other = absurd (other refl)
-none_left job greeting acts other = λ left sent held client. went_value greeting
+none_left job greeting acts other = λ link held. went_value greeting
 
 pub returns-in-Bad-clause-left : goal.returns-in-Bad-clause-left
 returns-in-Bad-clause-left g c = none_left c.args.job.now c.args.greeting _ (search rules)

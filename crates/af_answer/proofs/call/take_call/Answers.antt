@@ -14,8 +14,8 @@ unfolding takes_call
 returns-in_err-hook-2-clause-goes g c held =
     let usable : c.hook.new.self.cause ≡ None = ap (λ (conn : ConnState _). conn.cause) (c.in_ok-hook.ensures.keeps c.requires) in
     went_through _ (requested_went c.in_ok-hook.ensures c.requires held)
-    (went_through _ (c.run_child-greeting.ensures.ran _ _ _ _)
-    (went_through _ (c.leave_message-end.ensures.left _ _ _ _)
+    (went_through _ (c.run_child-greeting.ensures.ran _ _)
+    (went_through _ (c.leave_message-end.ensures.left _ _)
     (went_stop _ (search rules) (requested_went c.in_err-hook-2.ensures usable held))))
 
 pub returns-clause-goes : goal.returns-clause-goes
@@ -23,6 +23,6 @@ unfolding takes_call
 returns-clause-goes g c held =
     let usable : c.hook.new.self.cause ≡ None = ap (λ (conn : ConnState _). conn.cause) (c.in_ok-hook.ensures.keeps c.requires) in
     went_through _ (requested_went c.in_ok-hook.ensures c.requires held)
-    (went_through _ (c.run_child-greeting.ensures.ran _ _ _ _)
-    (went_through _ (c.leave_message-end.ensures.left _ _ _ _)
+    (went_through _ (c.run_child-greeting.ensures.ran _ _)
+    (went_through _ (c.leave_message-end.ensures.left _ _)
     (went_through _ (requested_went c.in_ok-hook-2.ensures usable held) (went_value _))))

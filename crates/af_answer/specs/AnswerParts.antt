@@ -28,12 +28,6 @@ is_of_calls end.EventFlood = true
 is_of_calls end.OutOfMemory = true
 is_of_calls _ = false
 
--- all ends but those for bad arguments and of a dial
-abbrev pub is_of_answer : AnswerEnd → Bool
-is_of_answer end.Usage = false
-is_of_answer end.DialFault = false
-is_of_answer _ = true
-
 -- A machine ended and has done this: the first of what its trace has. If nothing from outside ended it, this is all of that, and
 -- the end is that of the trace.
 pub record MatchesAnswer (trace : MachineTrace) (how : AnswerEnd) (done : MachineDeeds) : Type 0 where

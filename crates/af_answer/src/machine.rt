@@ -1,10 +1,10 @@
 // The answering machine, over a connection.
-ghost use Rattle.std.specs.Prelude.{◌≡◌, ◌≤◌, ◌↔◌, ℕ, length, option_map, false, true, List};
+ghost use Rattle.std.specs.Prelude.{◌≡◌, ◌≢◌, ◌≤◌, ◌↔◌, ℕ, length, option_map, false, true, List};
 ghost use Rattle.std.specs.declared.option.Option.TheVariants.{None, Some};
 ghost use Rattle.af_io.specs.Observed.{CountsFault};
 ghost use Rattle.af_toolkit.specs.Ends.{client_of};
 ghost use Rattle.af_answer.specs.AnswerTrace.{line_at, machine_end, missing};
-ghost use Rattle.af_answer.specs.AnswerParts.{is_of_answer, seen_as};
+ghost use Rattle.af_answer.specs.AnswerParts.{seen_as};
 ghost use Rattle.af_answer.specs.Answered.{AnswerRan, IsAnswerJob};
 
 use crate::attend::attend;
@@ -55,7 +55,7 @@ pub fn answer<L: Link + Drop, S: Spawner, K: Sink>(
 
     // each end has its cause: NoDevice, with the number of devices, exactly if that of the job is not below it; NoLine exactly if
     // the device exists and has no line
-    ensures end { is_of_answer result ≡ true }
+    ensures end { (result ≢ AnswerEnd.Usage) × (result ≢ AnswerEnd.DialFault) }
     ensures no_device { (n : ℕ) → (result ≡ AnswerEnd.NoDevice n)
         ↔ ((n ≡ length conn.old.devices) × (length conn.old.devices ≤ job.now.device)) }
     ensures no_line { (n : ℕ) → (result ≡ AnswerEnd.NoLine n)

@@ -6,7 +6,7 @@ ghost use Rattle.af_cli.specs.Ranges.{IsAddress};
 ghost use Rattle.af_answer.specs.Answered.{IsAnswerJob};
 ghost use Rattle.af_answer.specs.AnswerWords.{answer_words, is_answer_spelled, words_of_call, AnswerWords};
 ghost use Rattle.af_answer.specs.AnswerRun.{dial_sight, IsIdle, RanOver, RunsAsked};
-ghost use Rattle.af_answer.specs.AnswerParts.{is_of_answer, seen_as};
+ghost use Rattle.af_answer.specs.AnswerParts.{seen_as};
 
 use crate::end::AnswerEnd;
 use crate::job::AnswerJob;
@@ -31,7 +31,7 @@ fn answer_over<L: Link + Drop, S: Spawner, K: Sink>(
     ensures ran { (input : List ℕ) → L.left far ≡ Some input → RanOver job.now input result.0
         (seen_as (L.sent far) (S.acts spawner.old) (K.held sink.old))
         (seen_as (L.sent result.1) (S.acts spawner.new) (K.held sink.new)) }
-    ensures end { is_of_answer result.0 ≡ true }
+    ensures end { (result.0 ≢ AnswerEnd.Usage) × (result.0 ≢ AnswerEnd.DialFault) }
     ensures link { result.0 ≡ AnswerEnd.LinkFault → FaultCounted (L.faults far) (L.faults result.1) }
     ensures sink { CountsFault (result.0 ≡ AnswerEnd.SinkFault) (K.faults sink.old) (K.faults sink.new) }
     ensures children { S.faults spawner.old ≤ S.faults spawner.new }

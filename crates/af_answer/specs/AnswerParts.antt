@@ -40,7 +40,7 @@ pub record MatchesAnswer (trace : MachineTrace) (how : AnswerEnd) (done : Machin
   pub starved : how ≡ end.OutOfMemory → finish_of trace ≡ child_starved
   pub reported : how ≡ end.SinkFault → finish_of trace ≡ all_answered
 
--- what is observable of a machine: this of its link or of its dial, the acts of its children, and what its sink holds
+-- what is observable of a machine: what its link or its dial tells, the acts of its children, and what its sink holds
 pub record Seen (A : Type 0) : Type 0 where
   pub far : A
   pub acts : Option (List Told)
@@ -49,14 +49,13 @@ pub record Seen (A : Type 0) : Type 0 where
 abbrev pub seen_as : {A : Type 0} → A → (acts : Option (List Told)) → (held : Option (List ℕ)) → Seen A
 seen_as far acts held = record { far = far; acts = acts; held = held }
 
--- this work was added, by what the link was sent
+-- this work was added to what a link was sent, the acts of the children, and what the sink holds
 pub record Added (before : Seen (Option (List ℕ))) (work : Work) (after : Seen (Option (List ℕ))) : Type 0 where
   pub link : Appended before.far work.sends after.far
   pub children : Appended before.acts work.told after.acts
   pub sink : Appended before.held work.output after.held
 
--- Answering machines, as programs. A machine stands where its connection does, and its children are going to run so. How they are
--- is not known before.
+-- Answering machines, as programs. How children are going to run is not known before, so where a machine stands goes by it.
 abbrev pub answering : ProgramKind ToCome MachineDeeds AnswerFinish AnswerEnd (Seen LinkSight × List ChildRun)
 answering = record {
   deeds = doing;

@@ -57,7 +57,7 @@ pub record KeepsToActs (todo : Work) (how : AnswerEnd) (done : Work) : Type 0 wh
   pub all : todo ≡ working.joined done undone
   pub whole : how ≡ end.Done → undone ≡ working.nothing
 
--- all that is to be sent and all children of this work were, and its acts leave the hook on
+-- all bytes of this work were sent and all its children were run, and its acts leave the hook on
 pub record HangsUp (todo : Work) (acts : List MachineAct) (done : Work) : Type 0 where
   pub sent : done.sends ≡ todo.sends
   pub children : done.told ≡ todo.told
@@ -102,7 +102,7 @@ LeavesHook how finish hung_up refused_off sends = sends ≡ []
 abbrev pub acts_asked : AnswerJob → MachineTrace → List ChildRun → List MachineAct
 acts_asked job trace runs = answer_acts job trace.did.heard (map run_end runs)
 
--- A machine did this of what its trace has, in a byte order, with its children running in this way.
+-- A machine did this by this trace, in a byte order, and its children ran in this way.
 pub record RanAs (order : Order) (job : AnswerJob) (devices : List DeviceInfo) (trace : MachineTrace) (runs : List ChildRun)
     (how : AnswerEnd) (done : MachineDeeds) : Type 0 where
   -- it is what the trace has, and the machine ended as the trace does, unless something from outside ended it

@@ -1,169 +1,141 @@
 -- How a relay ends, by its two devices and its trace.
-use Rattle.std.proofs.Common.{◌≡◌, ◌≢◌, ◌==◌, ℕ, Bool, true, false, List, [], ◌∷◌, ◌++◌, length, slice_get, append_assoc, append-nil, sym, ap, ap₂, ◌∙◌, subst, refl, inl, inr, if◌then◌else◌}
-use Rattle.std.specs.Prelude.{Result, Ok, Err, IsOk}
-use Rattle.std.specs.declared.option.Option.{Option}
-use Rattle.std.specs.declared.option.Option.TheVariants.{None, Some}
+use Rattle.std.proofs.Common.{◌≡◌, ◌≢◌, ◌↔◌, ◌==◌, ◌++◌, ℕ, Bool, true, false, List, [], slice_get, ok_or, append-nil, sym, ap, ◌∙◌, subst, refl, inl, inr, if◌then◌else◌}
+use Rattle.std.specs.Prelude.{Result, Ok, Err, IsOk, Option, None, Some}
+use Rattle.std.proofs.lemmas.Bool.{eqb-true}
 use Rattle.af_io.specs.Observed.{Appended}
 use Rattle.af_request.specs.declared.reply.DeviceInfo.{DeviceInfo}
-use Rattle.std.proofs.lemmas.Bool.{eqb-true}
-use Rattle.af_lib.specs.Calls.{channels_or_one}
+use Rattle.af_lib.specs.Calls.{channels_or_one, device_channels}
 use Rattle.af_lib.specs.declared.fault.ConnFault.{ConnFault}
 use Rattle.af_toolkit.specs.declared.end.ToolEnd.{ToolEnd}
 use Rattle.af_toolkit.specs.declared.end.ToolEnd.TheVariants as end
 use Rattle.af_cli.specs.declared.job.PassJob.{PassJob}
-use Rattle.af_toolkit.specs.Trace.{Finish, ClientState, channel_mismatch, done, tool_end, ends, mismatch, no_device, writes_first}
-use Rattle.af_dialogue.specs.Parts.{Goes, Stopped}
+use Rattle.af_toolkit.specs.Trace.{Finish, ClientState, channel_mismatch, done, tool_end, ends, mismatch, no_device, one_shape, refused, writes_first}
+use Rattle.af_dialogue.specs.Parts.{Goes, Outcome, end_among, followed, goes_on, part_among, part_by}
 use Rattle.af_toolkit.specs.ToolParts.{IsClientOf, LinkSight}
-use Rattle.af_relay.specs.RelayParts.{ObservedRelayTrace, relaying}
-use Rattle.af_toolkit.specs.Ends.{MatchesTrace, ObservedTrace}
-use Rattle.af_relay.specs.Pair.{pair_of, pair_or_end, EndsByPair, HaveChannels}
-use Rattle.af_relay.specs.Pass.{Both, RelayOutcome, RelayTrace, apass_trace, both, of_one_shape, ends_both, on_from, on_one, on_to, passed_between, passed_text, passes_between, relay_ending, relay_of, relay_writes_first, sends_first_from, sends_first_to}
-use Rattle.af_relay.specs.Results.{ApassRan}
-use Rattle.af_relay.specs.Relayed.{IsRelayed}
+use Rattle.af_relay.specs.RelayParts.{RelayDid, SendsBoth, relaying}
+use Rattle.af_toolkit.specs.Ends.{MatchesTrace, ObservedTrace, is_outer}
+use Rattle.af_relay.specs.Pair.{pair_of, value_by, EndsByPair}
+use Rattle.af_relay.specs.Pass.{Both, RelayDeeds, RelayPart, apass_trace, both, deeds, doing, finish_of, on_from, passed_text, passes_between, relay_of, relays, writes_line}
+use Rattle.af_relay.specs.Relayed.{ApassRan, IsRelayed}
 use Rattle.af_io.proofs.AppendedLemmas.{appended_none, appended_on}
-use Rattle.af_toolkit.proofs.ToolPartLemmas.{ended_at_once, ended_early, ended_then}
-use Rattle.af_toolkit.proofs.ToolEndLemmas.{IsDoneOrRefused, done_where_answered, finish_done, reply_of}
+use Rattle.af_toolkit.proofs.ToolPartLemmas.{ended_at_once}
+use Rattle.af_toolkit.proofs.ToolEndLemmas.{IsDoneOrRefused, done_where_answered, finish_done, finish_is, reply_of}
+use Rattle.af_relay.proofs.RelayPartLemmas.{matches_whole, relay_goes_on, relay_stops}
 
--- two devices, and what follows them
-abbrev on_two : Option DeviceInfo → ℕ → Option DeviceInfo → ℕ → (DeviceInfo → RelayTrace) → RelayTrace
-on_two o n p m next = on_one o n (λ a. on_one p m (λ b. of_one_shape a b (next a)))
+-- a pair has as many channels, and no pair that is missing is an end as done
+abbrev pub IsPair : Option DeviceInfo → Option DeviceInfo → Result DeviceInfo Finish → Type 0
+IsPair o p (Ok a) = (other : DeviceInfo) × (o ≡ Some a) × (p ≡ Some other) × (other.channels ≡ a.channels)
+IsPair o p (Err finish) = finish ≢ done
 
--- the same by whether they have one rate and as many channels, and which pair they are
-abbrev for_shapes : (b c : Bool) (x y : DeviceInfo) → RelayTrace → RelayTrace
-for_shapes b c x y next = if b then (if c then next else ends_both (channel_mismatch x.channels y.channels)) else ends_both (mismatch x.rate y.rate)
+shapes : (b c : Bool) (x y : DeviceInfo) → (x.channels == y.channels) ≡ c →
+    IsPair (Some x) (Some y) (value_by (let r : Result (Unit {0}) Finish = if b then (if c then Ok tt else Err (channel_mismatch x.channels y.channels)) else Err (mismatch x.rate y.rate) in r) (λ _. Ok x))
+shapes true true x y channels = (y, refl, refl, sym (eqb-true x.channels y.channels channels))
+shapes true false x y channels = λ e. cc e
+shapes false c x y channels = λ e. cc e
 
-abbrev of_shape : (b c : Bool) (x y : DeviceInfo) → Result DeviceInfo ToolEnd
-of_shape b c x y = if b then (if c then Ok x else Err (end.ChannelMismatch x.channels y.channels)) else Err (end.RateMismatch x.rate y.rate)
+pairs : (o p : Option DeviceInfo) (n m : ℕ) → IsPair o p (value_by (ok_or o (no_device n)) (λ one. value_by (ok_or p (no_device m)) (λ other. value_by (one_shape one.rate one.channels other.rate other.channels) (λ _. Ok one))))
+pairs None p n m = λ e. cc e
+pairs (Some x) None n m = λ e. cc e
+pairs (Some x) (Some y) n m = shapes (x.rate == y.rate) (x.channels == y.channels) x y refl
 
--- what follows is what follows the first, which has as many channels as the other; or the relay ends at once, and is not done
-abbrev IsPair : Option DeviceInfo → ℕ → Option DeviceInfo → ℕ → Result DeviceInfo ToolEnd → Type 0
-IsPair o n p m (Ok a) = (other : DeviceInfo) × (o ≡ Some a) × (p ≡ Some other) × (other.channels ≡ a.channels) × ((next : DeviceInfo → RelayTrace) → on_two o n p m next ≡ next a)
-IsPair o n p m (Err how) = (finish : Finish) × (how ≡ tool_end finish) × (finish ≢ done) × ((next : DeviceInfo → RelayTrace) → on_two o n p m next ≡ ends_both finish)
+-- a value or an end, by the same under another name
+pub among_ok : {X : Type 0} {x : X} (r : Result X Finish) → (let ok : Result X ToolEnd = Ok x in ok ≡ end_among tool_end r) → r ≡ Ok x
+among_ok (Ok y) is = cc
+among_ok (Err finish) is = cc
 
-shapes : (b c : Bool) (x y : DeviceInfo) (n m : ℕ) → (x.rate == y.rate) ≡ b → (x.channels == y.channels) ≡ c → IsPair (Some x) n (Some y) m (of_shape b c x y)
-shapes true true x y n m rates channels = (y, refl, refl, sym (eqb-true x.channels y.channels channels), λ next. ap₂ (λ (b c : Bool). for_shapes b c x y (next x)) rates channels)
-shapes true false x y n m rates channels = (channel_mismatch x.channels y.channels, refl, λ e. cc e, λ next. ap₂ (λ (b c : Bool). for_shapes b c x y (next x)) rates channels)
-shapes false c x y n m rates channels = (mismatch x.rate y.rate, refl, λ e. cc e, λ next. ap (λ (b : Bool). for_shapes b (x.channels == y.channels) x y (next x)) rates)
-
-pairs : (o : Option DeviceInfo) (n : ℕ) (p : Option DeviceInfo) (m : ℕ) → IsPair o n p m (pair_or_end o n p m)
-pairs None n p m = (no_device n, refl, λ e. cc e, λ next. refl)
-pairs (Some x) n None m = (no_device m, refl, λ e. cc e, λ next. refl)
-pairs (Some x) n (Some y) m = shapes (x.rate == y.rate) (x.channels == y.channels) x y n m refl refl
+pub among_err : {X : Type 0} {how : ToolEnd} (r : Result X Finish) → (let err : Result X ToolEnd = Err how in err ≡ end_among tool_end r) → (finish : Finish) × (r ≡ Err finish) × (how ≡ tool_end finish)
+among_err (Ok y) is = absurd (cc)
+among_err (Err finish) is = (finish, refl, cc)
 
 -- what follows the last block
-abbrev pub reports : PassJob → ℕ → ClientState → ClientState → RelayTrace
-reports job resynced v w = relay_writes_first (passed_text job.blocks resynced) (ends_both done)
+abbrev pub reports : PassJob → ℕ → RelayPart Finish (Unit {0})
+reports job resynced = writes_line (passed_text job.blocks resynced)
+
+abbrev pub between : PassJob → DeviceInfo → RelayPart Finish (Unit {0})
+between job device = goes_on doing (part_among refused (passes_between job device)) (reports job)
 
 module _ (job : PassJob) (from to : List DeviceInfo) where
-  pub pair_is : (r : Result DeviceInfo ToolEnd) → r ≡ pair_of from job.from_device to job.to_device → IsPair (slice_get from job.from_device) (length from) (slice_get to job.to_device) (length to) r
-  pair_is r is = subst (λ (r : Result DeviceInfo ToolEnd). IsPair (slice_get from job.from_device) (length from) (slice_get to job.to_device) (length to) r) (sym is) (pairs (slice_get from job.from_device) (length from) (slice_get to job.to_device) (length to))
+  pub pair_is : (r : Result DeviceInfo Finish) → pair_of from job.from_device to job.to_device ≡ r → IsPair (slice_get from job.from_device) (slice_get to job.to_device) r
+  pair_is r is = subst (λ (r : Result DeviceInfo Finish). IsPair (slice_get from job.from_device) (slice_get to job.to_device) r) is (pairs (slice_get from job.from_device) (slice_get to job.to_device) _ _)
 
   -- the devices of a relay have as many channels as the one that is recorded
-  pub pair_alike : (a : DeviceInfo) → (let r : Result DeviceInfo ToolEnd = Ok a in r ≡ pair_of from job.from_device to job.to_device) → HaveChannels job from to a.channels
+  pub pair_alike : (a : DeviceInfo) → pair_of from job.from_device to job.to_device ≡ Ok a → (device_channels from job.from_device ≡ a.channels) × (device_channels to job.to_device ≡ a.channels)
   pair_alike a is = let q = pair_is (Ok a) is in (ap channels_or_one q.1, ap channels_or_one q.2 ∙ q.3)
 
-  pub apass_there : (v w : ClientState) (a : DeviceInfo) → (let r : Result DeviceInfo ToolEnd = Ok a in r ≡ pair_of from job.from_device to job.to_device) → apass_trace job from to v w ≡ passed_between job a v w (reports job)
-  unfolding apass_trace
-  apass_there v w a is = (pair_is (Ok a) is).4 (λ a. passed_between job a v w (reports job))
-
-  pub apass_apart : (v w : ClientState) (how : ToolEnd) → (let r : Result DeviceInfo ToolEnd = Err how in r ≡ pair_of from job.from_device to job.to_device) → (finish : Finish) × (how ≡ tool_end finish) × (finish ≢ done) × (apass_trace job from to v w ≡ ends_both finish)
-  unfolding apass_trace
-  apass_apart v w how is = let q = pair_is (Err how) is in (q.0, q.1, q.2, q.3 (λ a. passed_between job a v w (reports job)))
-
-no_sends : (a b : List ℕ) → (let none : List ℕ = [] in none ≡ a ++ b) → a ≡ []
-no_sends [] b is = refl
-no_sends (x ∷ a) b is = cc
-
--- a relay that ended within its first part, whatever was to follow
-relay_stopped : {X : Type 0} (o : RelayOutcome X) (next : X → ClientState → ClientState → RelayTrace) (how : ToolEnd) (did : Both (List ℕ)) → Stopped relaying o how did →
-    MatchesTrace (on_from (relay_of o next)) how did.from [] × MatchesTrace (on_to (relay_of o next)) how did.to []
-relay_stopped o next how did (inl within) =
-    let r = relay_of o next in
-    let rest = within.1.0 in
-    let last = relay_ending o.end next in (
-      ended_early (on_from r) how did.from [] (rest.from ++ last.from) last.output within.0 (ap (λ (d : Both (List ℕ)). d.from ++ last.from) within.1.1 ∙ append_assoc did.from rest.from last.from) refl,
-      ended_early (on_to r) how did.to [] (rest.to ++ last.to) last.output within.0 (ap (λ (d : Both (List ℕ)). d.to ++ last.to) within.1.1 ∙ append_assoc did.to rest.to last.to) refl,
-    )
-relay_stopped o next how did (inr ended) = rw ended.2 (ended_at_once _ how did.from [] (append-nil did.from) refl ended.1, ended_at_once _ how did.to [] (append-nil did.to) refl ended.1)
+  pub relays_by : (r : Result DeviceInfo Finish) → pair_of from job.from_device to job.to_device ≡ r → relays job from to ≡ part_by doing r (between job)
+  unfolding relays
+  relays_by r is = ap (λ (r : Result DeviceInfo Finish). part_by doing r (between job)) is
 
 -- a relay that passes blocks and then writes how that went, by how code came through the first of these
 module _ (job : PassJob) (device : DeviceInfo) (v w : ClientState) where
-  pub between_stopped : {how : ToolEnd} {before after : Both LinkSight} {held : Option (List ℕ)} → Goes relaying (passes_between job device) (Err how) before after → IsClientOf before.from v → IsClientOf before.to w →
-      ObservedRelayTrace (passed_between job device v w (reports job)) how before.from.sent after.from.sent before.to.sent after.to.sent held held
-  unfolding passed_between
-  between_stopped {how} {held} g from to =
+  pub between_stopped : {how : ToolEnd} {before after : Both LinkSight} {held : Option (List ℕ)} → Goes (relaying refused) (passes_between job device) (Err how) before after → IsClientOf before.from v → IsClientOf before.to w →
+      RelayDid (relay_of (between job device (both v w))) how held held (λ did. SendsBoth did (both before.from.sent before.to.sent) (both after.from.sent after.to.sent))
+  between_stopped {held} g from to =
       let c = g.came (both v w) (from, to) in
-      let e = relay_stopped (passes_between job device (both v w)) (reports job) how c.0 c.1 in
-      record { sends_from = c.0.from; sends_to = c.0.to; output = []; recorded = e.0; played = e.1; link_from = c.2.0; link_to = c.2.1; sink = appended_none held }
+      record { did = c.0; matches = relay_stops (passes_between job device) (reports job) c.1; sink = subst (λ (l : List ℕ). Appended held l held) (sym c.2.2) (appended_none held); sent = (c.2.0, c.2.1) }
 
-  pub between_reported : {how : ToolEnd} {resynced : ℕ} {before after : Both LinkSight} {held held' : Option (List ℕ)} → Goes relaying (passes_between job device) (Ok resynced) before after → IsClientOf before.from v → IsClientOf before.to w →
+  pub between_reported : {how : ToolEnd} {resynced : ℕ} {before after : Both LinkSight} {held held' : Option (List ℕ)} → Goes (relaying refused) (passes_between job device) (Ok resynced) before after → IsClientOf before.from v → IsClientOf before.to w →
       ObservedTrace (writes_first (passed_text job.blocks resynced) (ends done)) how after.from.sent after.from.sent held held' →
-      ObservedRelayTrace (passed_between job device v w (reports job)) how before.from.sent after.from.sent before.to.sent after.to.sent held held'
-  unfolding passed_between
-  between_reported {how} {resynced} {before} {after} g from to f =
+      RelayDid (relay_of (between job device (both v w))) how held held' (λ did. SendsBoth did (both before.from.sent before.to.sent) (both after.from.sent after.to.sent))
+  between_reported {how} {resynced} {before} {after} {held} {held'} g from to f =
       let c = g.came (both v w) (from, to) in
-      let text = writes_first (passed_text job.blocks resynced) (ends done) in
-      let relay = passed_between job device v w (reports job) in
       let did = c.2 in
-      let whole : relay ≡ sends_first_from did.from (sends_first_to did.to (relay_writes_first (passed_text job.blocks resynced) (ends_both done))) = ap (λ (o : RelayOutcome ℕ). relay_of o (reports job)) c.3 in
-      let none : f.sends ≡ [] = no_sends f.sends f.ended.unsent f.ended.sent in
+      let text = passed_text job.blocks resynced in
+      let line : MatchesTrace (record { sends = []; output = text; finish = done }) how [] f.output = record {
+        unsent = [];
+        unwritten = f.ended.unwritten;
+        sent = refl;
+        wrote = sym (append-nil text) ∙ f.ended.wrote;
+        whole = λ inner. (let e = f.ended.whole inner in (e.0, refl, e.2));
+      } in
       record {
-        sends_from = did.from ++ f.sends;
-        sends_to = did.to ++ f.sends;
-        output = f.output;
-        recorded = ended_then text (on_from relay) how did.from [] f.sends f.output (ap on_from whole) f.ended;
-        played = ended_then text (on_to relay) how did.to [] f.sends f.output (ap on_to whole) f.ended;
-        link_from = appended_on before.from.sent after.from.sent after.from.sent did.from f.sends c.4.0 f.link;
-        link_to = appended_on before.to.sent after.to.sent after.to.sent did.to f.sends c.4.1 (subst (λ (l : List ℕ). Appended after.to.sent l after.to.sent) (sym none) (appended_none after.to.sent));
-        sink = f.sink;
+        did = doing.joined did (deeds [] [] f.output);
+        matches = relay_goes_on (passes_between job device) (reports job) c.3 (record { recorded = line; played = line });
+        sink = subst (λ (l : List ℕ). Appended held (l ++ f.output) held') (sym c.4.2) f.sink;
+        sent = (appended_on before.from.sent after.from.sent after.from.sent did.from [] c.4.0 (appended_none after.from.sent), appended_on before.to.sent after.to.sent after.to.sent did.to [] c.4.1 (appended_none after.to.sent));
       }
 
--- a relay whose devices exist and have one rate and as many channels is done if each request gets its reply
-relay_finish : {X : Type 0} (end : Result (X × Both ClientState) ConnFault) (next : X → ClientState → ClientState → RelayTrace) → ((x : X) (v w : ClientState) → IsDoneOrRefused (next x v w).finish) → IsDoneOrRefused (relay_ending end next).finish
-relay_finish (Ok y) next more = more y.0 y.1.from y.1.to
-relay_finish (Err f) next more = inr (f, refl)
-
-pub between_finish : (job : PassJob) (device : DeviceInfo) (v w : ClientState) (next : ℕ → ClientState → ClientState → RelayTrace) → ((n : ℕ) (v w : ClientState) → IsDoneOrRefused (next n v w).finish) → IsDoneOrRefused (passed_between job device v w next).finish
-unfolding passed_between
-between_finish job device v w next more = relay_finish (passes_between job device (both v w)).end next more
-
 -- an end for want of devices, of one rate, or of as many channels, and any other end
-pub ends_apart : (how : ToolEnd) (r : Result DeviceInfo ToolEnd) → (let e : Result DeviceInfo ToolEnd = Err how in e ≡ r) → EndsByPair r how
-ends_apart how r is = record { no_device = λ n. (λ same. cc, λ refused. cc); rates = λ a b. (λ same. cc, λ refused. cc); shapes = λ a b. (λ same. cc, λ refused. cc) }
+pub ends_apart : {how : ToolEnd} (finish : Finish) → how ≡ tool_end finish → EndsByPair (Err finish) how
+ends_apart {how} finish way =
+    let is : (g : Finish) → is_outer (tool_end g) ≡ false → (how ≡ tool_end g) ↔ (let e : Result DeviceInfo Finish = Err finish in e ≡ Err g) =
+    λ g inner. (λ same. ap (λ (f : Finish). (let e : Result DeviceInfo Finish = Err f in e)) (finish_is (ends finish) how [] [] (ended_at_once (ends finish) how [] [] refl refl way) g inner same), λ same. (let one : finish ≡ g = cc in way ∙ ap tool_end one)) in
+    record { no_device = λ n. is (no_device n) refl; rates = λ a b. is (mismatch a b) refl; shapes = λ a b. is (channel_mismatch a b) refl }
 
-pub ends_together : (a : DeviceInfo) (how : ToolEnd) (r : Result DeviceInfo ToolEnd) → (let e : Result DeviceInfo ToolEnd = Ok a in e ≡ r) → (test : ToolEnd → Bool) → test how ≡ true →
-    ((n : ℕ) → test (end.NoDevice n) ≡ false) → ((m n : ℕ) → test (end.RateMismatch m n) ≡ false) → ((m n : ℕ) → test (end.ChannelMismatch m n) ≡ false) → EndsByPair r how
-ends_together a how r is test passes none rates shapes =
+pub ends_together : (a : DeviceInfo) (how : ToolEnd) (test : ToolEnd → Bool) → test how ≡ true → ((n : ℕ) → test (end.NoDevice n) ≡ false) → ((m n : ℕ) → test (end.RateMismatch m n) ≡ false) → ((m n : ℕ) → test (end.ChannelMismatch m n) ≡ false) → EndsByPair (Ok a) how
+ends_together a how test passes none rates shapes =
     record { no_device = λ n. (λ same. cc (none n), λ refused. cc); rates = λ m n. (λ same. cc (rates m n), λ refused. cc); shapes = λ m n. (λ same. cc (shapes m n), λ refused. cc) }
 
--- a relay between two devices of one rate and as many channels is done or refused
-paired_finish : (job : PassJob) (from to : List DeviceInfo) (v w : ClientState) (r : Result DeviceInfo ToolEnd) → r ≡ pair_of from job.from_device to job.to_device → IsOk r → IsDoneOrRefused (apass_trace job from to v w).finish
-paired_finish job from to v w (Ok device) is ok = rw (apass_there job from to v w device is) (between_finish job device v w (reports job) (λ n v w. inl refl))
+-- a relay that begins with a part that ends for faults alone is done or refused if what follows is
+followed_finish : {X : Type 0} (did : RelayDeeds) (end : Result (X × Both ClientState) ConnFault) (next : X × Both ClientState → Outcome RelayDeeds (Unit {0} × Both ClientState) Finish) → ((y : X × Both ClientState) → IsDoneOrRefused (finish_of (next y).end)) →
+    IsDoneOrRefused (finish_of (followed doing did (end_among refused end) next).end)
+followed_finish did (Ok y) next more = more y
+followed_finish did (Err f) next more = inr (f, refl)
+
+-- so is one between two devices of one rate and as many channels
+paired_finish : (job : PassJob) (from to : List DeviceInfo) (v w : ClientState) (r : Result DeviceInfo Finish) → pair_of from job.from_device to job.to_device ≡ r → IsOk r → IsDoneOrRefused (apass_trace job from to v w).finish
+unfolding goes_on
+paired_finish job from to v w (Ok device) is ok = rw (relays_by job from to (Ok device) is) (followed_finish _ (passes_between job device (both v w)).end _ (λ y. inl refl))
 paired_finish job from to v w (Err how) is ok = absurd (cc)
 
 -- what a relay has done that followed its trace
-pub pass_ran : (job : PassJob) (from to : List DeviceInfo) (v w : ClientState) {how : ToolEnd} {s s' t t' h h' : Option (List ℕ)} → ObservedRelayTrace (apass_trace job from to v w) how s s' t t' h h' →
-    (how ≡ end.Done → IsRelayed job from v w s s' t t' h h') → ApassRan job from to v w how s s' t t' h h'
+pub pass_ran : (job : PassJob) (from to : List DeviceInfo) (v w : ClientState) {how : ToolEnd} {sent sent' : Both (Option (List ℕ))} {h h' : Option (List ℕ)} → RelayDid (apass_trace job from to v w) how h h' (λ did. SendsBoth did sent sent') →
+    (how ≡ end.Done → IsRelayed job from v w sent sent' h h') → ApassRan job from to v w how sent sent' h h'
 pass_ran job from to v w {how} f relayed = record {
   followed = f;
   relayed = relayed;
-  reply = reply_of (on_from (apass_trace job from to v w)) how f.sends_from f.output f.recorded;
-  complete = λ ok answered. done_where_answered (on_from (apass_trace job from to v w)) how f.sends_from f.output f.recorded
+  reply = reply_of (on_from (apass_trace job from to v w)) how f.did.from f.did.output f.matches.recorded;
+  complete = λ ok answered. done_where_answered (on_from (apass_trace job from to v w)) how f.did.from f.did.output f.matches.recorded
       (paired_finish job from to v w (pair_of from job.from_device to job.to_device) refl ok) answered;
 }
 
 -- what one has done whose devices are not there or differ
-pub apart_ran : (job : PassJob) (from to : List DeviceInfo) (v w : ClientState) {how : ToolEnd} {s t h : Option (List ℕ)} → (let r : Result DeviceInfo ToolEnd = Err how in r ≡ pair_of from job.from_device to job.to_device) →
-    ApassRan job from to v w how s s t t h h
-apart_ran job from to v w {how} {s} {t} {h} is =
-    let e = apass_apart job from to v w how is in
-    pass_ran job from to v w (rw e.3 (record {
-      sends_from = [];
-      sends_to = [];
-      output = [];
-      recorded = ended_at_once _ how [] [] refl refl e.1;
-      played = ended_at_once _ how [] [] refl refl e.1;
-      link_from = appended_none s;
-      link_to = appended_none t;
+pub apart_ran : (job : PassJob) (from to : List DeviceInfo) (v w : ClientState) {how : ToolEnd} {sent : Both (Option (List ℕ))} {h : Option (List ℕ)} (finish : Finish) → pair_of from job.from_device to job.to_device ≡ Err finish → how ≡ tool_end finish →
+    ApassRan job from to v w how sent sent h h
+apart_ran job from to v w {sent} {h} finish is way =
+    pass_ran job from to v w (rw (relays_by job from to (Err finish) is) (record {
+      did = doing.nothing;
+      matches = matches_whole (record { did = doing.nothing; finish = finish }) way;
       sink = appended_none h;
-    })) (λ is_done. absurd (e.2 (finish_done e.0 (sym e.1 ∙ is_done))))
+      sent = (appended_none sent.from, appended_none sent.to);
+    })) (λ is_done. absurd (pair_is job from to (Err finish) is (finish_done finish (sym way ∙ is_done))))

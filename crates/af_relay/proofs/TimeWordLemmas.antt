@@ -1,9 +1,7 @@
 -- Times in replies are words of 32 bits.
 use Rattle.std.proofs.Common.{◌≡◌, ◌<◌, ◌^◌, ℕ, nat_lt, Bool, true, false, List, drop, subst, refl, arith, if◌then◌else◌}
 use Rattle.std.proofs.lemmas.Bool.Decides.{nat_tests}
-use Rattle.std.specs.Prelude.{Result, Ok, Err, IfOk, option_and_then}
-use Rattle.std.specs.declared.option.Option.{Option}
-use Rattle.std.specs.declared.option.Option.TheVariants.{None, Some}
+use Rattle.std.specs.Prelude.{Result, Ok, Err, IfOk, option_and_then, Option, None, Some}
 use Rattle.af_time.specs.declared.DevTime.{DevTime}
 use Rattle.af_wire.specs.declared.order.Order.{Order}
 use Rattle.af_request.specs.Asked.{Asked}
@@ -14,7 +12,7 @@ use Rattle.af_lib.specs.Answers.{and_then, answer_to, value_or_bad}
 use Rattle.af_lib.specs.Calls.{as_time, next_sequence, opcode_of, value_in, Called, ConnState}
 use Rattle.af_lib.proofs.LinkByteLemmas.{BothTold-map}
 use Rattle.af_toolkit.specs.Trace.{ClientState, answer_on, next_message}
-use Rattle.af_relay.specs.Pass.{as_word, word_or_none}
+use Rattle.af_relay.specs.Pass.{as_word}
 
 -- an answer that is a word, if it is one
 abbrev IsWord : Result DevTime ConnFault → Type 0
@@ -38,7 +36,7 @@ alike_time bytes x false test = record {
 alike_answer : (bytes : List ℕ) (a : Option Answer) → IsReadAlike (value_or_bad bytes (option_and_then as_time a)) (value_or_bad bytes (option_and_then as_word a))
 unfolding as_word
 alike_answer bytes None = record { alike = λ r word is. is; low = λ t is. cc is }
-alike_answer bytes (Some a) = elim (as_time a) as (λ (o : Option DevTime). IsReadAlike (value_or_bad bytes o) (value_or_bad bytes (option_and_then word_or_none o))) [
+alike_answer bytes (Some a) = elim (as_time a) as (λ (o : Option DevTime). IsReadAlike (value_or_bad bytes o) (value_or_bad bytes (option_and_then (λ (now : DevTime). if nat_lt now.0 (2 ^ 32) then Some now else None) o))) [
   | None ↦ record { alike = λ r word is. is; low = λ t is. cc is }
   | Some x ↦ alike_time bytes x (nat_lt x.0 (2 ^ 32)) refl
 ]

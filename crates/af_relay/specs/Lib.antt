@@ -2,4 +2,3 @@ pub mod Pass
 pub mod RelayParts
 pub mod Relayed
 pub mod Pair
-pub mod Results

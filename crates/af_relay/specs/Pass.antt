@@ -1,9 +1,6 @@
 -- What apass does: block after block is recorded on one server and played on another.
-use Rattle.std.specs.Prelude.{ℕ, zero, suc, ◌+◌, ◌*◌, ◌%◌, ◌^◌, ◌-ℤ◌, ◌==◌, nat_lt, unsigned_abs}
-use Rattle.std.specs.Prelude.{if◌then◌else◌, pos, Bool, true, false, List, [], ◌++◌, codes, decimal}
-use Rattle.std.specs.Prelude.{length, slice_get, option_and_then, unwrap_or, Result, Ok, Err}
-use Rattle.std.specs.declared.option.Option.{Option}
-use Rattle.std.specs.declared.option.Option.TheVariants.{None, Some}
+use Rattle.std.specs.Prelude.{ℕ, zero, suc, ◌+◌, ◌*◌, ◌%◌, ◌^◌, ◌-ℤ◌, nat_lt, unsigned_abs, if◌then◌else◌, pos, Bool, true, false}
+use Rattle.std.specs.Prelude.{List, [], ◌++◌, codes, decimal, option_and_then, unwrap_or, Result, Ok, Err, Option, None, Some}
 use Rattle.af_time.specs.declared.DevTime.{DevTime}
 use Rattle.af_time.specs.DeviceTime.{frames_lasting, word_difference}
 use Rattle.af_sample.specs.declared.sample_type.SampleType.{SampleType}
@@ -16,46 +13,39 @@ use Rattle.af_lib.specs.declared.fault.ConnFault.{ConnFault}
 use Rattle.af_lib.specs.Calls.{as_done, as_recorded, as_time}
 use Rattle.af_cli.specs.declared.job.PassJob.{PassJob}
 use Rattle.af_cli.specs.Sizes.{block_frames}
-use Rattle.af_dialogue.specs.Parts.{Deeds, Outcome, Part, called, goes_on, has_value}
-use Rattle.af_toolkit.specs.Trace.{Trace, Finish, ClientState, answer_on, after_reply}
-use Rattle.af_toolkit.specs.Trace.{channel_mismatch, done, mismatch, no_device, refused}
+use Rattle.af_dialogue.specs.Parts.{Deeds, Outcome, Part, called, goes_on, has_value, part_among, part_by}
+use Rattle.af_toolkit.specs.Trace.{Trace, Finish, ClientState, after_reply, answer_on, done, refused}
 use Rattle.af_relay.specs.declared.pass.RelayPace.{RelayPace}
 use Rattle.af_relay.specs.declared.pass.RelayProgress.{RelayProgress}
 use Rattle.af_relay.specs.declared.pass.PlayMoment.{PlayMoment}
+use Rattle.af_relay.specs.Pair.{pair_of}
 
--- what a relay sends on each of its two links, what it writes, and why it ends
-pub record RelayTrace : Type 0 where
+-- what a relay does: the bytes that it sends on each of its two links, and those that it writes
+pub record RelayDeeds : Type 0 where
   pub from : List ℕ
   pub to : List ℕ
   pub output : List ℕ
+
+abbrev pub deeds : (from to output : List ℕ) → RelayDeeds
+deeds from to output = record { from = from; to = to; output = output }
+
+abbrev pub doing : Deeds RelayDeeds
+doing = record {
+  nothing = deeds [] [] [];
+  joined = λ d e. deeds (d.from ++ e.from) (d.to ++ e.to) (d.output ++ e.output);
+}
+
+-- the trace of a relay: what it does, and why it ends
+pub record RelayTrace : Type 0 where
+  pub did : RelayDeeds
   pub finish : Finish
 
 -- a relay, as each of its links sees it
 abbrev pub on_from : RelayTrace → Trace
-on_from r = record { sends = r.from; output = r.output; finish = r.finish }
+on_from r = record { sends = r.did.from; output = r.did.output; finish = r.finish }
 
 abbrev pub on_to : RelayTrace → Trace
-on_to r = record { sends = r.to; output = r.output; finish = r.finish }
-
--- nothing more is sent or written
-abbrev pub ends_both : Finish → RelayTrace
-ends_both finish = record { from = []; to = []; output = []; finish = finish }
-
--- these bytes are sent first, on one of the links
-abbrev pub sends_first_from : List ℕ → RelayTrace → RelayTrace
-sends_first_from bytes r = record { from = bytes ++ r.from; to = r.to; output = r.output; finish = r.finish }
-
-abbrev pub sends_first_to : List ℕ → RelayTrace → RelayTrace
-sends_first_to bytes r = record { from = r.from; to = bytes ++ r.to; output = r.output; finish = r.finish }
-
--- these bytes are written first
-abbrev pub relay_writes_first : List ℕ → RelayTrace → RelayTrace
-relay_writes_first bytes r = record { from = r.from; to = r.to; output = bytes ++ r.output; finish = r.finish }
-
--- what follows an answer: a fault ends the relay
-abbrev pub relay_after_answer : {X : Type 0} → Result X ConnFault → ClientState → (X → ClientState → RelayTrace) → RelayTrace
-relay_after_answer (Ok x) w next = next x w
-relay_after_answer (Err fault) w next = ends_both (refused fault)
+on_to r = record { sends = r.did.to; output = r.did.output; finish = r.finish }
 
 -- what there is of each of the two links
 pub record Both (A : Type 0) : Type 0 where
@@ -65,41 +55,31 @@ pub record Both (A : Type 0) : Type 0 where
 abbrev pub both : {A : Type 0} → A → A → Both A
 both from to = record { from = from; to = to }
 
--- bytes that are sent on the two links
-abbrev pub sending : Deeds (Both (List ℕ))
-sending = record { nothing = both [] []; joined = λ s t. both (s.from ++ t.from) (s.to ++ t.to) }
+-- A part of a relay goes by how far its two clients have come. It ends with a value, or for such a cause.
+abbrev pub RelayPart : (F X : Type 0) → Type 0
+RelayPart F X = Part (Both ClientState) RelayDeeds F X
 
--- A part of a relay goes by how far its two clients have come. It ends with a value, or a fault that ends the relay.
-abbrev pub RelayPart : Type 0 → Type 0
-RelayPart X = Part (Both ClientState) (Both (List ℕ)) ConnFault X
+-- why a relay ends: one that comes to the end of its parts is done
+abbrev pub finish_of : {X : Type 0} → Result X Finish → Finish
+finish_of (Ok x) = done
+finish_of (Err finish) = finish
 
-abbrev pub RelayOutcome : Type 0 → Type 0
-RelayOutcome X = Outcome (Both (List ℕ)) (X × Both ClientState) ConnFault
+-- the trace of a relay, by the outcome of its parts
+abbrev pub relay_of : {X : Type 0} → Outcome RelayDeeds X Finish → RelayTrace
+relay_of o = record { did = o.did; finish = finish_of o.end }
 
 -- a request is sent on one of the links, and its answer is the value
-unfoldable pub asks_from : {X : Type 0} → Asked → (Answer → Option X) → RelayPart X
+unfoldable pub asks_from : {X : Type 0} → Asked → (Answer → Option X) → RelayPart ConnFault X
 asks_from asked value_of at =
-    called (both (request_bytes at.from.order asked) []) (answer_on asked value_of at.from) (both (after_reply at.from) at.to)
+    called (deeds (request_bytes at.from.order asked) [] []) (answer_on asked value_of at.from) (both (after_reply at.from) at.to)
 
-unfoldable pub asks_to : {X : Type 0} → Asked → (Answer → Option X) → RelayPart X
+unfoldable pub asks_to : {X : Type 0} → Asked → (Answer → Option X) → RelayPart ConnFault X
 asks_to asked value_of at =
-    called (both [] (request_bytes at.to.order asked)) (answer_on asked value_of at.to) (both at.from (after_reply at.to))
-
--- the relay that begins with a part, by the outcome of that and what follows its value
-abbrev pub relay_ending : {X : Type 0} → Result (X × Both ClientState) ConnFault → (X → ClientState → ClientState → RelayTrace) →
-    RelayTrace
-relay_ending (Ok y) next = next y.0 y.1.from y.1.to
-relay_ending (Err fault) next = ends_both (refused fault)
-
-abbrev pub relay_of : {X : Type 0} → RelayOutcome X → (X → ClientState → ClientState → RelayTrace) → RelayTrace
-relay_of outcome next = sends_first_from outcome.did.from (sends_first_to outcome.did.to (relay_ending outcome.end next))
+    called (deeds [] (request_bytes at.to.order asked) []) (answer_on asked value_of at.to) (both at.from (after_reply at.to))
 
 -- the time that a reply states: a word of 32 bits
-abbrev pub word_or_none : DevTime → Option DevTime
-word_or_none now = if nat_lt now.0 (2 ^ 32) then Some now else None
-
 unfoldable pub as_word : Answer → Option DevTime
-as_word answer = option_and_then word_or_none (as_time answer)
+as_word answer = option_and_then (λ now. if nat_lt now.0 (2 ^ 32) then Some now else None) (as_time answer)
 
 -- n frames after a time
 abbrev pub time_after : DevTime → ℕ → DevTime
@@ -129,18 +109,18 @@ after_block passed place frames = record {
 }
 
 -- a block is recorded on the one server, and played on the other
-abbrev pub passes_block : PassJob → RelayPace → RelayProgress → RelayPart RelayProgress
+abbrev pub passes_block : PassJob → RelayPace → RelayProgress → RelayPart ConnFault RelayProgress
 passes_block job pace passed =
-    goes_on sending (asks_from (record_run true 1 passed.at.0 pace.size) (as_recorded true pace.size)) (λ r.
-    goes_on sending (asks_to (get_time job.to_device) as_word) (λ now.
+    goes_on doing (asks_from (record_run true 1 passed.at.0 pace.size) (as_recorded true pace.size)) (λ r.
+    goes_on doing (asks_to (get_time job.to_device) as_word) (λ now.
     let place = moment_of passed.due now pace.delay pace.slack in
-    goes_on sending (asks_to (play_run false 1 place.time.0 r.samples) as_time) (λ _.
-    has_value sending (after_block passed place pace.frames))))
+    goes_on doing (asks_to (play_run false 1 place.time.0 r.samples) as_time) (λ _.
+    has_value doing (after_block passed place pace.frames))))
 
 -- n blocks
-abbrev pub passes : ℕ → PassJob → RelayPace → RelayProgress → RelayPart RelayProgress
-passes zero job pace passed = has_value sending passed
-passes (suc n) job pace passed = goes_on sending (passes_block job pace passed) (λ passed. passes n job pace passed)
+abbrev pub passes : ℕ → PassJob → RelayPace → RelayProgress → RelayPart ConnFault RelayProgress
+passes zero job pace passed = has_value doing passed
+passes (suc n) job pace passed = goes_on doing (passes_block job pace passed) (λ passed. passes n job pace passed)
 
 -- the contexts of a job, of one type and as many channels
 abbrev pub from_context : PassJob → SampleType → (channels : ℕ) → Asked
@@ -150,15 +130,15 @@ abbrev pub to_context : PassJob → SampleType → (channels : ℕ) → Asked
 to_context job ty channels = create_ac job.to_device 1 (code_of ty) channels 0 (pos 0) (pos 0)
 
 -- both contexts are made, and the time of the recorded device is asked for
-abbrev pub begins_both : PassJob → SampleType → (channels_from channels_to : ℕ) → RelayPart DevTime
+abbrev pub begins_both : PassJob → SampleType → (channels_from channels_to : ℕ) → RelayPart ConnFault DevTime
 begins_both job ty channels_from channels_to =
-    goes_on sending (asks_from (from_context job ty channels_from) as_done) (λ _.
-    goes_on sending (asks_to (to_context job ty channels_to) as_done) (λ _.
+    goes_on doing (asks_from (from_context job ty channels_from) as_done) (λ _.
+    goes_on doing (asks_to (to_context job ty channels_to) as_done) (λ _.
     asks_from (get_time job.from_device) as_time))
 
 -- both contexts are freed
-abbrev pub ends_contexts : RelayPart (Unit {0})
-ends_contexts = goes_on sending (asks_from (free_ac 1) as_done) (λ _. asks_to (free_ac 1) as_done)
+abbrev pub ends_contexts : RelayPart ConnFault (Unit {0})
+ends_contexts = goes_on doing (asks_from (free_ac 1) as_done) (λ _. asks_to (free_ac 1) as_done)
 
 -- the pace of a job, by the bytes of a frame and the rate: the frames and the bytes of a block, and the delay and the slack in
 -- frames
@@ -183,39 +163,27 @@ pace_from job device = pace_of job (frame_bytes (type_from job device) device.ch
 
 -- All blocks of a job are passed between two devices of one rate and as many channels. The value is how often the relay fell in
 -- step again.
-abbrev pub passes_between : PassJob → (from : DeviceInfo) → RelayPart ℕ
+abbrev pub passes_between : PassJob → (from : DeviceInfo) → RelayPart ConnFault ℕ
 passes_between job device =
-    goes_on sending (begins_both job (type_from job device) device.channels device.channels) (λ now.
-    goes_on sending (passes job.blocks job (pace_from job device) (no_progress now)) (λ passed.
-    goes_on sending ends_contexts (λ _.
-    has_value sending passed.resynced)))
-
--- the same, and what follows it
-unfoldable pub passed_between : PassJob → (from : DeviceInfo) → (v w : ClientState) →
-    (ℕ → ClientState → ClientState → RelayTrace) → RelayTrace
-passed_between job device v w next = relay_of (passes_between job device (both v w)) next
+    goes_on doing (begins_both job (type_from job device) device.channels device.channels) (λ now.
+    goes_on doing (passes job.blocks job (pace_from job device) (no_progress now)) (λ passed.
+    goes_on doing ends_contexts (λ _.
+    has_value doing passed.resynced)))
 
 -- what apass writes
 unfoldable pub passed_text : (blocks resynced : ℕ) → List ℕ
 passed_text blocks resynced = codes "passed " ++ decimal blocks ++ codes " resynced " ++ decimal resynced ++ codes "\n"
 
--- a device that a relay names has to exist
-abbrev pub on_one : Option DeviceInfo → ℕ → (DeviceInfo → RelayTrace) → RelayTrace
-on_one (Some device) devices next = next device
-on_one None devices next = ends_both (no_device devices)
+-- the line is written
+abbrev pub writes_line : List ℕ → RelayPart Finish (Unit {0})
+writes_line text at = called (deeds [] [] text) (Ok tt) at
 
--- the two devices have to have one rate, and as many channels
-abbrev pub of_one_shape : (from to : DeviceInfo) → RelayTrace → RelayTrace
-of_one_shape from to next =
-    if from.rate == to.rate
-    then (if from.channels == to.channels then next else ends_both (channel_mismatch from.channels to.channels))
-    else ends_both (mismatch from.rate to.rate)
+-- A relay between two servers that are set up, by their devices. If these are a pair, it passes all blocks, and then writes how
+-- many these were and how often it fell in step again.
+unfoldable pub relays : PassJob → (from to : List DeviceInfo) → RelayPart Finish (Unit {0})
+relays job from to = part_by doing (pair_of from job.from_device to job.to_device) (λ device.
+    goes_on doing (part_among refused (passes_between job device)) (λ resynced. writes_line (passed_text job.blocks resynced)))
 
--- the trace of apass, by the devices of the two servers and what the links give: it passes all blocks, and then writes how many
--- these were and how often it fell in step again
-unfoldable pub apass_trace : PassJob → (from to : List DeviceInfo) → (v w : ClientState) → RelayTrace
-apass_trace job from to v w =
-    on_one (slice_get from job.from_device) (length from) (λ a.
-    on_one (slice_get to job.to_device) (length to) (λ b.
-    of_one_shape a b
-    (passed_between job a v w (λ resynced _ _. relay_writes_first (passed_text job.blocks resynced) (ends_both done)))))
+-- the trace of apass, by the devices of the two servers and what the links give
+abbrev pub apass_trace : PassJob → (from to : List DeviceInfo) → (v w : ClientState) → RelayTrace
+apass_trace job from to v w = relay_of (relays job from to (both v w))

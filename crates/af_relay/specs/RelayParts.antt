@@ -1,34 +1,32 @@
 -- How far a relay came, on each of its two links.
-use Rattle.std.specs.Prelude.{◌≡◌, ◌≤◌, ◌⊎◌, ℕ, List, Result, Err, IsOk, IsSome}
-use Rattle.std.specs.declared.option.Option.{Option}
-use Rattle.std.specs.declared.option.Option.TheVariants.{None}
+use Rattle.std.specs.Prelude.{◌≡◌, ◌≤◌, ◌⊎◌, ℕ, List, [], Result, Err, IsOk, IsSome, Option, None}
 use Rattle.af_dialogue.specs.Parts.{Goes, ProgramKind}
 use Rattle.af_io.specs.Observed.{Appended, FaultCounted}
 use Rattle.af_lib.specs.declared.fault.ConnFault.{ConnFault}
 use Rattle.af_lib.specs.Calls.{ConnState}
 use Rattle.af_toolkit.specs.declared.end.ToolEnd.{ToolEnd}
 use Rattle.af_toolkit.specs.declared.end.ToolEnd.TheVariants as end
-use Rattle.af_toolkit.specs.Trace.{ClientState, fault_end}
+use Rattle.af_toolkit.specs.Trace.{ClientState, Finish, refused, tool_end}
 use Rattle.af_toolkit.specs.Ends.{MatchesTrace, is_outer}
 use Rattle.af_toolkit.specs.ToolParts.{IsClientOf, LinkSight, link_sight}
-use Rattle.af_relay.specs.Pass.{Both, RelayPart, RelayTrace, both, on_from, on_to, sending}
+use Rattle.af_relay.specs.Pass.{Both, RelayDeeds, RelayPart, RelayTrace, both, doing, on_from, on_to}
 
--- Relays, as programs: a fault ends one as any tool, and each of its links shows what was sent on it.
-abbrev pub relaying : ProgramKind (Both ClientState) (Both (List ℕ)) ConnFault ToolEnd (Both LinkSight)
-relaying = record {
-  deeds = sending;
-  Reports = λ how fault. how ≡ fault_end fault;
+-- Parts of a relay that write nothing, as programs that may end for such causes: each link shows what was sent on it.
+abbrev pub relaying : {F : Type 0} → (F → Finish) → ProgramKind (Both ClientState) RelayDeeds F ToolEnd (Both LinkSight)
+relaying finish_of = record {
+  deeds = doing;
+  Reports = λ how cause. how ≡ tool_end (finish_of cause);
   is_outer = is_outer;
   Stands = λ links at. IsClientOf links.from at.from × IsClientOf links.to at.to;
   Shows = λ links did links'.
-      Appended links.from.sent did.from links'.from.sent × Appended links.to.sent did.to links'.to.sent;
+      Appended links.from.sent did.from links'.from.sent × Appended links.to.sent did.to links'.to.sent × (did.output ≡ []);
 }
 
 -- a part of a relay over two connections went so
 abbrev pub GoesBetween : {L M X : Type 0} → (left_from sent_from : L → Option (List ℕ)) →
-    (left_to sent_to : M → Option (List ℕ)) → (from from' : ConnState L) → (to to' : ConnState M) → RelayPart X →
+    (left_to sent_to : M → Option (List ℕ)) → (from from' : ConnState L) → (to to' : ConnState M) → RelayPart ConnFault X →
     Result X ToolEnd → Type 0
-GoesBetween left_from sent_from left_to sent_to from from' to to' part result = Goes relaying part result
+GoesBetween left_from sent_from left_to sent_to from from' to to' part result = Goes (relaying refused) part result
     (both (link_sight left_from sent_from from) (link_sight left_to sent_to to))
     (both (link_sight left_from sent_from from') (link_sight left_to sent_to to'))
 
@@ -45,18 +43,21 @@ pub record KeepsConnections {L M X : Type 0} (left_from : L → Option (List ℕ
   pub usable_to : IsOk result → to'.cause ≡ None
   pub tells_from : IsSome (left_from from.link) → IsSome (left_from from'.link)
   pub tells_to : IsSome (left_to to.link) → IsSome (left_to to'.link)
-  pub count_from : faults_from from.link ≤ faults_from from'.link
-  pub count_to : faults_to to.link ≤ faults_to to'.link
-  pub failed : result ≡ Err end.LinkFault →
-      FaultCounted (faults_from from.link) (faults_from from'.link) ⊎ FaultCounted (faults_to to.link) (faults_to to'.link)
+  pub counts : CountsEither (result ≡ Err end.LinkFault)
+      (faults_from from.link) (faults_from from'.link) (faults_to to.link) (faults_to to'.link)
 
--- A relay ended. What each link was sent, and what the sink gained, are those of its trace, as that link sees it, or prefixes.
-pub record ObservedRelayTrace (relay : RelayTrace) (how : ToolEnd) (from from' to to' held held' : Option (List ℕ)) : Type 0 where
-  pub sends_from : List ℕ
-  pub sends_to : List ℕ
-  pub output : List ℕ
-  pub recorded : MatchesTrace (on_from relay) how sends_from output
-  pub played : MatchesTrace (on_to relay) how sends_to output
-  pub link_from : Appended from sends_from from'
-  pub link_to : Appended to sends_to to'
-  pub sink : Appended held output held'
+-- A relay ended, and did this: all of its trace, as each of its links sees it, or prefixes if something from outside ended it.
+pub record MatchesRelay (relay : RelayTrace) (how : ToolEnd) (did : RelayDeeds) : Type 0 where
+  pub recorded : MatchesTrace (on_from relay) how did.from did.output
+  pub played : MatchesTrace (on_to relay) how did.to did.output
+
+-- what was sent on each link is appended to what it had been sent
+abbrev pub SendsBoth : RelayDeeds → (sent sent' : Both (Option (List ℕ))) → Type 0
+SendsBoth did sent sent' = Appended sent.from did.from sent'.from × Appended sent.to did.to sent'.to
+
+-- the same of a relay that ended: the sink gained what was written, and this holds of what was sent
+pub record RelayDid (relay : RelayTrace) (how : ToolEnd) (held held' : Option (List ℕ)) (IsSent : RelayDeeds → Type 0) : Type 0 where
+  pub did : RelayDeeds
+  pub matches : MatchesRelay relay how did
+  pub sink : Appended held did.output held'
+  pub sent : IsSent did

@@ -1,31 +1,30 @@
 -- What a relay has passed when it is done: which bytes it recorded and played, and when.
-use Rattle.std.specs.Prelude.{◌≡◌, ◌+◌, ◌%◌, ◌^◌, ◌==◌, if◌then◌else◌, ⊤, ℕ, zero, suc, Bool, true, false}
-use Rattle.std.specs.Prelude.{List, [], ◌∷◌, ◌++◌, length, map, slice_get, Result, Ok, Err}
+use Rattle.std.specs.Prelude.{◌≡◌, ◌⊎◌, ◌+◌, ◌%◌, ◌^◌, ◌==◌, if◌then◌else◌, ⊤, ℕ, zero, suc, true, false}
+use Rattle.std.specs.Prelude.{List, [], ◌∷◌, ◌++◌, length, map, slice_get, Ok, Err, IsOk, Option, None, Some}
 use Rattle.std.specs.List.{flat_map}
-use Rattle.std.specs.declared.option.Option.{Option}
-use Rattle.std.specs.declared.option.Option.TheVariants.{None, Some}
 use Rattle.af_time.specs.declared.DevTime.{DevTime}
 use Rattle.af_io.specs.Observed.{Appended}
 use Rattle.af_wire.specs.declared.order.Order.{Order}
 use Rattle.af_request.specs.declared.reply.DeviceInfo.{DeviceInfo}
 use Rattle.af_request.specs.Asked.{free_ac, get_time, play_run, record_run}
 use Rattle.af_request.specs.Requests.{request_bytes}
-use Rattle.af_lib.specs.declared.fault.ConnFault.{ConnFault}
-use Rattle.af_lib.specs.Calls.{Recorded, as_recorded, as_time}
+use Rattle.af_lib.specs.Calls.{ConnState, as_recorded, as_time}
 use Rattle.af_cli.specs.declared.job.PassJob.{PassJob}
+use Rattle.af_toolkit.specs.declared.end.ToolEnd.{ToolEnd}
+use Rattle.af_toolkit.specs.declared.end.ToolEnd.TheVariants as end
 use Rattle.af_toolkit.specs.Trace.{ClientState, answer_on, after_reply}
+use Rattle.af_toolkit.specs.Ends.{is_outer, client_of, EndsByReply, IsAnswered}
 use Rattle.af_relay.specs.declared.pass.RelayPace.{RelayPace}
-use Rattle.af_relay.specs.Pass.{time_after, as_word, from_context, pace_from, passed_text, to_context, type_from}
+use Rattle.af_relay.specs.Pair.{pair_of}
+use Rattle.af_relay.specs.Pass.{Both, RelayDeeds, apass_trace, as_word, both, from_context, on_from, pace_from, passed_text}
+use Rattle.af_relay.specs.Pass.{time_after, to_context, type_from}
+use Rattle.af_relay.specs.RelayParts.{RelayDid, SendsBoth}
 
 -- a block that was passed: the other server's time before it, when it was played, and its bytes
 pub record PassedBlock : Type 0 where
   pub told : DevTime
   pub time : DevTime
   pub samples : List ℕ
-
--- the bytes that were played
-abbrev pub samples_of : List PassedBlock → List (List ℕ)
-samples_of blocks = map (λ b. b.samples) blocks
 
 -- what is sent for these blocks on the link that is played on
 abbrev pub play_requests : Order → PassJob → List PassedBlock → List ℕ
@@ -39,26 +38,19 @@ record_requests order zero pace at = []
 record_requests order (suc n) pace at =
     request_bytes order (record_run true 1 at.0 pace.size) ++ record_requests order n pace (time_after at pace.frames)
 
--- what one more record request was answered with
-abbrev pub reply_then : Result Recorded ConnFault → List (List ℕ) → List (List ℕ)
-reply_then (Ok r) replies = r.samples ∷ replies
-reply_then (Err fault) replies = []
-
--- the bytes in the replies to these record requests
+-- the bytes in the replies to these record requests, up to the first that was answered with a fault
 unfoldable pub record_replies : ℕ → RelayPace → DevTime → ClientState → List (List ℕ)
 record_replies zero pace at v = []
 record_replies (suc n) pace at v =
-    reply_then (answer_on (record_run true 1 at.0 pace.size) (as_recorded true pace.size) v)
-    (record_replies n pace (time_after at pace.frames) (after_reply v))
+    elim (answer_on (record_run true 1 at.0 pace.size) (as_recorded true pace.size) v) [
+      | Ok r ↦ r.samples ∷ record_replies n pace (time_after at pace.frames) (after_reply v)
+      | Err fault ↦ []
+    ]
 
--- two times are the same as a request states them, in 32 bits
-abbrev pub is_same_time : DevTime → DevTime → Bool
-is_same_time one other = (one.0 % 2 ^ 32) == (other.0 % 2 ^ 32)
-
--- a block is not played when it was due: the first is never due
+-- A block is not played when it was due, by these times as a request states them, in 32 bits. The first is never due.
 abbrev pub is_moved : Option DevTime → DevTime → ℕ
 is_moved None time = 0
-is_moved (Some due) time = if is_same_time time due then 0 else 1
+is_moved (Some due) time = if (time.0 % 2 ^ 32) == (due.0 % 2 ^ 32) then 0 else 1
 
 -- how many of these blocks are not played right after the one before
 unfoldable pub moves : (frames : ℕ) → Option DevTime → List PassedBlock → ℕ
@@ -74,31 +66,50 @@ AreTold job w (b ∷ blocks) =
 -- What a relay has sent and written that passed all blocks of its job from a device, by what its links gave. The bytes of each
 -- play are those of the record reply with its number. Each play's time is the one before plus the block, except at exactly as
 -- many plays as it writes.
-pub record Relayed (job : PassJob) (device : DeviceInfo) (v w : ClientState) (sends_from sends_to output : List ℕ) : Type 0 where
+pub record Relayed (job : PassJob) (device : DeviceInfo) (v w : ClientState) (did : RelayDeeds) : Type 0 where
   pub start : DevTime
   pub started : answer_on (get_time job.from_device) as_time (after_reply v) ≡ Ok start
   pub blocks : List PassedBlock
   pub number : length blocks ≡ job.blocks
-  pub bytes : samples_of blocks ≡ record_replies job.blocks (pace_from job device) start (after_reply (after_reply v))
+  pub bytes : map (λ b. b.samples) blocks ≡ record_replies job.blocks (pace_from job device) start (after_reply (after_reply v))
   pub told : AreTold job (after_reply w) blocks
-  pub recorded : sends_from ≡ request_bytes v.order (from_context job (type_from job device) device.channels)
+  pub recorded : did.from ≡ request_bytes v.order (from_context job (type_from job device) device.channels)
       ++ request_bytes v.order (get_time job.from_device)
       ++ record_requests v.order job.blocks (pace_from job device) start ++ request_bytes v.order (free_ac 1)
-  pub played : sends_to ≡ request_bytes w.order (to_context job (type_from job device) device.channels)
+  pub played : did.to ≡ request_bytes w.order (to_context job (type_from job device) device.channels)
       ++ play_requests w.order job blocks ++ request_bytes w.order (free_ac 1)
   pub resynced : ℕ
-  pub wrote : output ≡ passed_text job.blocks resynced
+  pub wrote : did.output ≡ passed_text job.blocks resynced
   pub moved : resynced ≡ moves (pace_from job device).frames None blocks
 
 -- the same by what the links were sent and the sink holds, before and after, and by the devices of the recorded server
-pub record IsRelayed (job : PassJob) (from : List DeviceInfo) (v w : ClientState)
-    (sent sent' sent_to sent_to' held held' : Option (List ℕ)) : Type 0 where
+pub record IsRelayed (job : PassJob) (from : List DeviceInfo) (v w : ClientState) (before after : Both (Option (List ℕ)))
+    (held held' : Option (List ℕ)) : Type 0 where
   pub device : DeviceInfo
   pub is_there : slice_get from job.from_device ≡ Some device
-  pub sends_from : List ℕ
-  pub sends_to : List ℕ
-  pub output : List ℕ
-  pub relayed : Relayed job device v w sends_from sends_to output
-  pub link_from : Appended sent sends_from sent'
-  pub link_to : Appended sent_to sends_to sent_to'
-  pub sink : Appended held output held'
+  pub did : RelayDeeds
+  pub relayed : Relayed job device v w did
+  pub sent : SendsBoth did before after
+  pub sink : Appended held did.output held'
+
+-- A relay ran, by what its links give. What each link was sent, and what the sink gained, are those of the trace, or prefixes of
+-- them if something from outside ended it. If it is done, the bytes of each play are those of the record reply with its number,
+-- and each play's time is the one before plus the block, except at exactly as many plays as it writes. An end for a reply is that
+-- of the trace. If both devices exist, with one rate and as many channels, and each request gets its reply, it is done, unless
+-- something from outside ended it.
+pub record ApassRan (job : PassJob) (from to : List DeviceInfo) (v w : ClientState) (how : ToolEnd)
+    (sent sent' : Both (Option (List ℕ))) (held held' : Option (List ℕ)) : Type 0 where
+  pub followed : RelayDid (apass_trace job from to v w) how held held' (λ did. SendsBoth did sent sent')
+  pub relayed : how ≡ end.Done → IsRelayed job from v w sent sent' held held'
+  pub reply : EndsByReply (on_from (apass_trace job from to v w)) how
+  pub complete : IsOk (pair_of from job.from_device to job.to_device) → IsAnswered (on_from (apass_trace job from to v w)) →
+      (how ≡ end.Done) ⊎ (is_outer how ≡ true)
+
+-- the same over two connections whose links are observable, before and after
+abbrev pub RunsBetween : {L M K : Type 0} → (left_from sent_from : L → Option (List ℕ)) →
+    (left_to sent_to : M → Option (List ℕ)) → (held : K → Option (List ℕ)) →
+    PassJob → ToolEnd → (from from' : ConnState L) → (to to' : ConnState M) → (sink sink' : K) → Type 0
+RunsBetween left_from sent_from left_to sent_to held job how from from' to to' sink sink' =
+    (v w : List ℕ) → left_from from.link ≡ Some v → left_to to.link ≡ Some w →
+    ApassRan job from.devices to.devices (client_of from v) (client_of to w) how
+    (both (sent_from from.link) (sent_to to.link)) (both (sent_from from'.link) (sent_to to'.link)) (held sink) (held sink')

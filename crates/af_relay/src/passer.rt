@@ -1,15 +1,16 @@
 // apass: blocks are recorded on one server and played on another, and how that went is written to the sink.
 ghost use Rattle.std.specs.Prelude.{◌≡◌, ◌<◌, ◌≤◌, ◌^◌, true, length, take, IfErr, IfOk};
-ghost use Rattle.std.specs.declared.option.Option.{Option};
 ghost use Rattle.std.specs.declared.option.Option.TheVariants.{None};
 ghost use Rattle.af_io.specs.Observed.{CountsFault};
 ghost use Rattle.af_sample.specs.Channels.{IsChannelCount};
 ghost use Rattle.af_request.specs.Replies.{IsDeviceInfo};
 ghost use Rattle.af_lib.specs.Calls.{device_channels};
+ghost use Rattle.af_dialogue.specs.Parts.{end_among};
+ghost use Rattle.af_toolkit.specs.Trace.{tool_end};
 ghost use Rattle.af_toolkit.specs.Ends.{is_of_link, is_of_report, Reports};
 ghost use Rattle.af_relay.specs.RelayParts.{CountsEither, GoesBetween, KeepsConnections};
-ghost use Rattle.af_relay.specs.Pair.{is_of_pass, pair_of, EndsByPair, HaveChannels};
-ghost use Rattle.af_relay.specs.Results.{RunsBetween};
+ghost use Rattle.af_relay.specs.Pair.{is_of_pass, pair_of, EndsByPair};
+ghost use Rattle.af_relay.specs.Relayed.{RunsBetween};
 ghost use Rattle.af_cli.specs.Ranges.{IsPaced};
 ghost use Rattle.af_relay.specs.Pass.{begins_both, ends_contexts, pace_of, passes_between, passed_text};
 ghost use Rattle.af_cli.specs.Sizes.{greatest_block};
@@ -86,7 +87,8 @@ fn pass_between<L: Link + Drop, M: Link + Drop>(
 ) -> Result<u32, ToolEnd>
     requires usable { (from.old.cause ≡ None) × (to.old.cause ≡ None) }
     requires range { IsPaced job.now }
-    requires alike { HaveChannels job.now from.old.devices to.old.devices device.channels }
+    requires alike { (device_channels from.old.devices job.now.from_device ≡ device.channels)
+        × (device_channels to.old.devices job.now.to_device ≡ device.channels) }
     requires count { IsChannelCount device.channels }
     requires room { greatest_block ≤ length room.old }
     ensures goes { GoesBetween L.left L.sent M.left M.sent from.old from.new to.old to.new
@@ -135,7 +137,7 @@ fn pair_of<L: Link + Drop, M: Link + Drop>(
     from: &Conn<L>,
     to: &Conn<M>,
 ) -> Result<DeviceInfo, ToolEnd>
-    ensures value { result ≡ pair_of from.now.devices job.now.from_device to.now.devices job.now.to_device }
+    ensures value { result ≡ end_among tool_end (pair_of from.now.devices job.now.from_device to.now.devices job.now.to_device) }
     ensures stated { IfOk result (λ device. IsDeviceInfo device) }
 {
     let recorded = device_with(from, job.from_device)?;

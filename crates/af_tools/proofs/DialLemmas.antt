@@ -16,20 +16,22 @@ use Rattle.af_toolkit.specs.declared.end.ToolEnd.TheVariants as end
 use Rattle.af_cli.specs.declared.job.PassJob.{PassJob}
 use Rattle.af_cli.specs.declared.job.Task.{Task}
 use Rattle.af_toolkit.specs.Trace.{Trace, ClientState, new_client, connects, fault_end, client_after_setup, setup_answer, Finish, done, not_dialled, refused, too_long}
-use Rattle.af_relay.specs.RelayParts.{ObservedRelayTrace}
-use Rattle.af_tools.specs.Run.{RelayDid, RelayedOver, as_relay, connects_by, dials_to, is_of_job, job_reads, relay_trace, IsEarly, IsServed, JobRan, RelayRanTo, one_trace, run_trace, task_trace}
+use Rattle.af_dialogue.specs.Parts.{Stopped, called}
+use Rattle.af_toolkit.specs.ToolParts.{LinkSight}
+use Rattle.af_relay.specs.RelayParts.{MatchesRelay, RelayDid, SendsBoth, relaying}
+use Rattle.af_tools.specs.Run.{is_of_job, job_reads, no_client, relay_trace, relays_to, sets_up_from, sets_up_to, task_trace, IsEarly, IsServed, JobRan, ReturnsBoth}
 use Rattle.af_tools.specs.Reading.{TellsIfRead, UsesSource}
 use Rattle.af_tools.specs.Results.{is_unfit}
 use Rattle.af_toolkit.specs.Ends.{MatchesTrace, ObservedTrace, is_outer}
-use Rattle.af_relay.specs.Pass.{RelayTrace, apass_trace, on_from, on_to, relay_after_answer, sends_first_from, sends_first_to}
+use Rattle.af_relay.specs.Pass.{Both, RelayDeeds, RelayTrace, apass_trace, both, deeds, doing, relay_of, relays}
 use Rattle.af_tools.specs.Sounds.{most_bytes}
 use Rattle.af_cli.specs.Words.{Job, one, relay}
 use Rattle.af_io.proofs.ConsumedLemmas.{consumed_known}
 use Rattle.af_io.proofs.AppendedLemmas.{appended_none, appended_on}
-use Rattle.af_toolkit.proofs.ToolPartLemmas.{ended_early, ended_same, ended_then, setup_known}
+use Rattle.af_toolkit.proofs.ToolPartLemmas.{OnLink, on_link, part_answer, setup_known}
 use Rattle.af_toolkit.proofs.ToolEndLemmas.{done_unless_outer, ends_as}
 use Rattle.af_tools.proofs.EndLemmas.{never}
-use Rattle.af_relay.proofs.RelayPartLemmas.{is_from, is_to, one_goes}
+use Rattle.af_relay.proofs.RelayPartLemmas.{matches_early, on_first, on_second, relay_goes_on, relay_stops, sent_stopped}
 use Rattle.af_cli.specs.declared.job.Task.TheVariants as task
 use Rattle.af_sound.specs.declared.head.SoundForm.{SoundForm}
 
@@ -48,36 +50,22 @@ appended_nothing before after first sends is appended same =
     let whole : first ≡ first ++ sends = subst (λ (b : Option (List ℕ)). Appended b sends (Some first)) is (subst (λ (a : Option (List ℕ)). Appended before sends a) (same ∙ is) appended) in
     append_cancel_left first sends [] (sym whole ∙ sym (append-nil first))
 
--- a tool with one server is a relay that does not use its second link
-alone_from : (c : Trace) (how : ToolEnd) (sends output : List ℕ) → MatchesTrace c how sends output → MatchesTrace (on_from (as_relay c)) how sends output
-alone_from c how sends output e = record { unsent = e.unsent; unwritten = e.unwritten; sent = e.sent; wrote = e.wrote; whole = e.whole }
-
-alone_to : (c : Trace) (how : ToolEnd) (sends output : List ℕ) → MatchesTrace c how sends output → MatchesTrace (on_to (as_relay c)) how [] output
-alone_to c how sends output e = record { unsent = []; unwritten = e.unwritten; sent = refl; wrote = e.wrote; whole = λ inner. (let w = e.whole inner in (w.0, refl, w.2)) }
-
-early_none : (j : Job) → IsEarly j [] []
+early_none : (j : Job) → IsEarly j doing.nothing
 early_none (one server order task) = (refl, refl)
 early_none (relay from to order job) = (inl refl, refl)
 
 -- a relay that something from outside ended before it did anything
-abbrev relay_idle : (whole : RelayTrace) (how : ToolEnd) {held : Option (List ℕ)} → is_outer how ≡ true → RelayDid whole how held held
-relay_idle whole how {held} outer = record {
-  sends_from = [];
-  sends_to = [];
-  output = [];
-  recorded = ended_early (on_from whole) how [] [] whole.from whole.output outer refl refl;
-  played = ended_early (on_to whole) how [] [] whole.to whole.output outer refl refl;
-  sink = appended_none held;
-}
+idle : {relay : RelayTrace} {how : ToolEnd} → is_outer how ≡ true → MatchesRelay relay how doing.nothing
+idle {relay} outer = matches_early outer (relay.did, refl)
 
 -- nothing was dialled, or no link came
 pub ran_none : (j : Job) (bytes : List ℕ) (how : ToolEnd) (links : List ToldLink) (links' : Option (List ToldLink)) (held : Option (List ℕ)) (back back' : Option (List (List ℕ))) → is_outer how ≡ true → links' ≡ Some links → back' ≡ back →
     JobRan j bytes how links links' held held back back'
-ran_none j bytes how links links' held back back' outer same is = record { did = relay_idle (run_trace j links bytes) how outer; link = inl (refl, refl, same, is); early = λ memory. early_none j }
+ran_none j bytes how links links' held back back' outer same is = record { ran = record { did = doing.nothing; matches = idle outer; sink = appended_none held; sent = inl (refl, same, is) }; early = λ memory. early_none j }
 
 -- nothing was sent on the second link: memory ran out
-pub over_none : (whole : RelayTrace) (s t h : Option (List ℕ)) → RelayedOver whole end.OutOfMemory s s t t h h
-over_none whole s t h = record { did = relay_idle whole end.OutOfMemory refl; link_from = appended_none s; link_to = appended_none t; early = λ memory. (refl, refl) }
+pub over_none : (whole : RelayTrace) (how : ToolEnd) (sent : Both (Option (List ℕ))) (held : Option (List ℕ)) → is_outer how ≡ true → RelayDid whole how held held (λ did. SendsBoth did sent sent × (how ≡ end.OutOfMemory → did ≡ doing.nothing))
+over_none whole how sent held outer = record { did = doing.nothing; matches = idle outer; sink = appended_none held; sent = ((appended_none sent.from, appended_none sent.to), λ memory. refl) }
 
 pub setup_memory : (f : ConnFault) → (let r : Result (List DeviceInfo) ConnFault = Err f in IsFresh r) → fault_end f ≡ end.OutOfMemory → ⊥
 setup_memory fault.OutOfMemory fresh e = absurd fresh
@@ -92,157 +80,123 @@ module _ (order : Order) where
   ran_one server task bytes how left_of sent_of far [] first follows is_back entry is_links memory = absurd first
   ran_one server task bytes how left_of sent_of far (link ∷ rest) {after} {back} {back''} first follows is_back entry is_links memory =
       let f = follows link.gives first.0 in
-      let trace = one_trace order task (link ∷ rest) bytes in
+      let e = f.ended in
       record {
-        did = record {
-          sends_from = f.sends;
-          sends_to = [];
-          output = f.output;
-          recorded = alone_from trace how f.sends f.output f.ended;
-          played = alone_to trace how f.sends f.output f.ended;
+        ran = record {
+          did = deeds f.sends [] f.output;
+          matches = record { recorded = e; played = record { unsent = []; unwritten = e.unwritten; sent = refl; wrote = e.wrote; whole = λ inner. (let w = e.whole inner in (w.0, refl, w.2)) } };
           sink = f.sink;
+          sent = inr (link, rest, back'', refl, consumed_entry back back'' (sent_of far) after link.sent f.sends first.1 f.link (subst (λ (b : Option (List (List ℕ))). AppendedBack b after back'') is_back entry), inl (refl, is_links ∙ first.2, refl));
         };
-        link = inr (link, rest, back'', refl, consumed_entry back back'' (sent_of far) after link.sent f.sends first.1 f.link (subst (λ (b : Option (List (List ℕ))). AppendedBack b after back'') is_back entry), inl (refl, is_links ∙ first.2, refl));
         early = λ none. (appended_nothing (sent_of far) after link.sent f.sends first.1 f.link (memory none), refl);
       }
 
-  -- a setup that was answered, and what follows it
-  record FollowsSetup {L : Type 0} (left sent : L → Option (List ℕ)) (sending : List ℕ → RelayTrace → RelayTrace) (input : List ℕ) (next : List DeviceInfo → ClientState → RelayTrace) (old new : L) (ring : RingState) (devices : List DeviceInfo) : Type 0 where
-    a : List ℕ
-    told : left new ≡ Some a
-    is : connects_by order sending input next ≡ sending (setup_bytes order) (next devices (new_client order ring a))
-    appended : Appended (sent old) (setup_bytes order) (sent new)
+  -- a link that was to be set up, as it tells
+  module _ {L : Type 0} (left sent : L → Option (List ℕ)) (faults : L → ℕ) (old new : L) (ring : RingState) (input : List ℕ) where
+    abbrev set_up_link : L → LinkSight
+    set_up_link link = record { left = left link; client = new_client order ring; sent = sent link }
 
-  after_dial_setup : {L : Type 0} (left sent : L → Option (List ℕ)) (faults : L → ℕ) (sending : List ℕ → RelayTrace → RelayTrace) (input : List ℕ) (next : List DeviceInfo → ClientState → RelayTrace) (old new : L) (ring : RingState) (devices : List DeviceInfo) →
-      IsSetUp order left sent faults old new ring (Ok devices) → left old ≡ Some input → FollowsSetup left sent sending input next old new ring devices
-  after_dial_setup left sent faults sending input next old new ring devices is told =
-      let k = setup_known order left sent faults old new ring input (Ok devices) is told (λ e. cc e) in
-      record {
-        a = k.0;
-        told = k.1;
-        is = ap (λ (r : Result (List DeviceInfo) ConnFault). sending (setup_bytes order) (relay_after_answer r (client_after_setup order input) next)) (sym k.2) ∙ ap (λ (w : ClientState). sending (setup_bytes order) (next devices w)) (sym k.3);
-        appended = is.sends.whole (λ e. cc e);
-      }
+    on_setup : (result : Result (List DeviceInfo) ConnFault) → IsSetUp order left sent faults old new ring result → left old ≡ Some input → OnLink (part_answer result) (setup_answer order input) (client_after_setup order input) (setup_bytes order) (set_up_link old) (set_up_link new)
+    on_setup result is told = on_link result _ _ _ (set_up_link old) (set_up_link new) is.sends (setup_known order left sent faults old new ring input result is told)
 
-  -- the second link was set up, and the relay went on
-  pub over_answered : {L : Type 0} (left sent : L → Option (List ℕ)) (faults : L → ℕ) (input : List ℕ) (next : List DeviceInfo → ClientState → RelayTrace) (old new : L) (ring : RingState) (devices : List DeviceInfo) (how : ToolEnd) (s s' t'' h h' : Option (List ℕ)) →
-      IsSetUp order left sent faults old new ring (Ok devices) → left old ≡ Some input → (how ≡ end.OutOfMemory → ⊥) →
-      ((a : List ℕ) → left new ≡ Some a → ObservedRelayTrace (next devices (new_client order ring a)) how s s' (sent new) t'' h h') → RelayedOver (connects_by order sends_first_to input next) how s s' (sent old) t'' h h'
-  over_answered left sent faults input next old new ring devices how s s' t'' h h' is told never follows =
-      let b = after_dial_setup left sent faults sends_first_to input next old new ring devices is told in
-      let f = follows b.a b.told in
-      let after = next devices (new_client order ring b.a) in
-      let whole = connects_by order sends_first_to input next in
-      record {
-        did = record {
-          sends_from = f.sends_from;
-          sends_to = setup_bytes order ++ f.sends_to;
-          output = f.output;
-          recorded = ended_same (on_from after) (on_from whole) how f.sends_from f.output (ap on_from b.is) f.recorded;
-          played = ended_then (on_to after) (on_to whole) how (setup_bytes order) [] f.sends_to f.output (ap on_to b.is) f.played;
-          sink = f.sink;
-        };
-        link_from = f.link_from;
-        link_to = appended_on (sent old) (sent new) t'' (setup_bytes order) f.sends_to b.appended f.link_to;
-        early = λ memory. absurd (never memory);
-      }
+    -- one that was not set up: what it was sent, and where the part that sets it up stopped
+    unset : (place : List ℕ → RelayDeeds) → ((a b : List ℕ) → place (a ++ b) ≡ doing.joined (place a) (place b)) → (f : ConnFault) (there : Both ClientState) → IsSetUp order left sent faults old new ring (Err f) → left old ≡ Some input →
+        (sends : List ℕ) × Stopped (relaying refused) (called (place (setup_bytes order)) (setup_answer order input) there) (fault_end f) (place sends) × Appended (sent old) sends (sent new)
+    unset place placed f there is told = sent_stopped place placed (setup_answer order input) (client_after_setup order input) (setup_bytes order) there (set_up_link old) (set_up_link new) (on_setup (Err f) is told)
 
-  -- the second link was not set up
-  pub over_refused : {L : Type 0} (left sent : L → Option (List ℕ)) (faults : L → ℕ) (input : List ℕ) (next : List DeviceInfo → ClientState → RelayTrace) (old new : L) (ring : RingState) (f : ConnFault) (s h : Option (List ℕ)) →
-      IsSetUp order left sent faults old new ring (Err f) → left old ≡ Some input → (fault_end f ≡ end.OutOfMemory → ⊥) → RelayedOver (connects_by order sends_first_to input next) (fault_end f) s s (sent old) (sent new) h h
-  over_refused left sent faults input next old new ring f s h is told never =
-      let g = one_goes sends_first_to on_to on_from is_to (setup_bytes order) (setup_answer order input) (client_after_setup order input) (λ next. connects_by order sends_first_to input next) (λ next. refl) (left new) (new_client order ring) (sent old) (sent new) (Err f) is.sends (setup_known order left sent faults old new ring input (Err f) is told) in
-      let e = g.came next in
-      record {
-        did = record { sends_from = []; sends_to = g.sends; output = []; recorded = e.1; played = e.0; sink = appended_none h };
-        link_from = appended_none s;
-        link_to = g.link;
-        early = λ memory. absurd (never memory);
-      }
-
-  -- the second server could not be dialled
+  -- A relay whose first link is set up: the second link was set up, and the relay went on.
   module _ (job : PassJob) (from : List DeviceInfo) (v : ClientState) where
-    pub to_none : (how : ToolEnd) (links : List ToldLink) (links' : Option (List ToldLink)) (sent held : Option (List ℕ)) (back back' back'' : Option (List (List ℕ))) → is_outer how ≡ true → links' ≡ Some links → back' ≡ back →
-        {given : Option (List ℕ)} → given ≡ sent → AppendedBack back' given back'' → RelayRanTo order job from v how links links' sent held held back back''
-    to_none how links links' sent held back back' back'' outer same is alike entry =
+    pub over_answered : {L : Type 0} (left sent : L → Option (List ℕ)) (faults : L → ℕ) (link : ToldLink) (old new : L) (ring : RingState) (devices : List DeviceInfo) {how : ToolEnd} (s s' t'' : Option (List ℕ)) {h h' : Option (List ℕ)} → IsSetUp order left sent faults old new ring (Ok devices) → left old ≡ Some link.gives → (how ≡ end.OutOfMemory → ⊥) →
+        ((a : List ℕ) → left new ≡ Some a → RelayDid (apass_trace job from devices v (new_client order ring a)) how h h' (λ did. SendsBoth did (both s (sent new)) (both s' t''))) →
+        RelayDid (relay_of (relays_to order job (link ∷ []) from (both v (no_client order)))) how h h' (λ did. SendsBoth did (both s (sent old)) (both s' t'') × (how ≡ end.OutOfMemory → did ≡ doing.nothing))
+    over_answered left sent faults link old new ring devices s s' t'' is told undone follows =
+        let bytes = setup_bytes order in
+        let on = on_setup left sent faults old new ring link.gives (Ok devices) is told in
+        let f = follows on.1.0 on.1.1 in
+        let set = ap (λ (r : Result (List DeviceInfo) ConnFault). called (on_second bytes) r (both v (client_after_setup order link.gives))) on.0 ∙ ap (λ (w : ClientState). called (on_second bytes) (let r : Result (List DeviceInfo) ConnFault = Ok devices in r) (both v w)) on.1.2 in
         record {
-          did = relay_idle (dials_to order links (λ to w. apass_trace job from to v w)) how outer;
-          after = sent;
-          link = appended_none sent;
-          between = back'';
-          first = subst (λ (b : Option (List (List ℕ))). AppendedBack b sent back'') is (subst (λ (x : Option (List ℕ)). AppendedBack back' x back'') alike entry);
-          second = inl (refl, same, refl);
-          early = λ memory. (refl, refl);
+          did = doing.joined (on_second bytes) f.did;
+          matches = relay_goes_on (sets_up_to order link.gives) (λ to. relays job from to) set f.matches;
+          sink = f.sink;
+          sent = ((f.sent.0, appended_on (sent old) (sent new) t'' bytes f.did.to on.2 f.sent.1), λ memory. absurd (undone memory));
         }
+
+    -- it was not set up
+    pub over_refused : {L : Type 0} (left sent : L → Option (List ℕ)) (faults : L → ℕ) (link : ToldLink) (old new : L) (ring : RingState) (f : ConnFault) (s : Option (List ℕ)) {h : Option (List ℕ)} → IsSetUp order left sent faults old new ring (Err f) → left old ≡ Some link.gives → (fault_end f ≡ end.OutOfMemory → ⊥) →
+        RelayDid (relay_of (relays_to order job (link ∷ []) from (both v (no_client order)))) (fault_end f) h h (λ did. SendsBoth did (both s (sent old)) (both s (sent new)) × (fault_end f ≡ end.OutOfMemory → did ≡ doing.nothing))
+    over_refused left sent faults link old new ring f s {h} is told undone =
+        let u = unset left sent faults old new ring link.gives on_second (λ a b. refl) f (both v (client_after_setup order link.gives)) is told in
+        record { did = on_second u.0; matches = relay_stops (sets_up_to order link.gives) (λ to. relays job from to) u.1; sink = appended_none h; sent = ((appended_none s, u.2), λ memory. absurd (undone memory)) }
+
+    -- the second server could not be dialled
+    pub to_none : {how : ToolEnd} (links : List ToldLink) (links' : Option (List ToldLink)) (sent held : Option (List ℕ)) (back back' back'' : Option (List (List ℕ))) → is_outer how ≡ true → links' ≡ Some links → back' ≡ back → {given : Option (List ℕ)} → given ≡ sent → AppendedBack back' given back'' →
+        RelayDid (relay_of (relays_to order job links from (both v (no_client order)))) how held held (λ did. ReturnsBoth sent links links' did back back'' × (how ≡ end.OutOfMemory → did ≡ doing.nothing))
+    to_none links links' sent held back back' back'' outer same is alike entry =
+        let first = subst (λ (b : Option (List (List ℕ))). AppendedBack b sent back'') is (subst (λ (x : Option (List ℕ)). AppendedBack back' x back'') alike entry) in
+        record { did = doing.nothing; matches = idle outer; sink = appended_none held; sent = ((sent, back'', appended_none sent, first, inl (refl, same, refl)), λ memory. refl) }
 
     -- both links were used, and given back
-    pub to_over : {F : Type 0} (left_of sent_of : F → Option (List ℕ)) (far : F) (how : ToolEnd) (links : List ToldLink) {links' links'' : Option (List ToldLink)} {sent sent' after held held' : Option (List ℕ)} {back back' : Option (List (List ℕ))} (between : Option (List (List ℕ))) {back'' : Option (List (List ℕ))} →
-        IsFirstOf left_of sent_of far (Some links) links' → ((input : List ℕ) → left_of far ≡ Some input → RelayedOver (connects_by order sends_first_to input (λ to w. apass_trace job from to v w)) how sent sent' (sent_of far) after held held') → back' ≡ back → AppendedBack back' sent' between → AppendedBack between after back'' → links'' ≡ links' →
-        RelayRanTo order job from v how links links'' sent held held' back back''
-    to_over left_of sent_of far how [] between gives goes is_back first second is_links = absurd gives
-    to_over left_of sent_of far how (link ∷ rest) {sent'} {after} between {back''} gives goes is_back first second is_links =
-        let r = goes link.gives gives.0 in
-        record {
-          did = r.did;
-          after = sent';
-          link = r.link_from;
-          between = between;
-          first = subst (λ (b : Option (List (List ℕ))). AppendedBack b sent' between) is_back first;
-          second = inr (link, rest, refl, is_links ∙ gives.2, consumed_entry between back'' (sent_of far) after link.sent r.did.sends_to gives.1 r.link_to second);
-          early = r.early;
-        }
+    pub to_over : {F : Type 0} (left_of sent_of : F → Option (List ℕ)) (far : F) {how : ToolEnd} (links : List ToldLink) {links' links'' : Option (List ToldLink)} (sent sent' after : Option (List ℕ)) {held held' : Option (List ℕ)} {back back' : Option (List (List ℕ))} (between : Option (List (List ℕ))) {back'' : Option (List (List ℕ))} →
+        IsFirstOf left_of sent_of far (Some links) links' → ((link : ToldLink) → left_of far ≡ Some link.gives → RelayDid (relay_of (relays_to order job (link ∷ []) from (both v (no_client order)))) how held held' (λ did. SendsBoth did (both sent (sent_of far)) (both sent' after) × (how ≡ end.OutOfMemory → did ≡ doing.nothing))) →
+        back' ≡ back → AppendedBack back' sent' between → AppendedBack between after back'' → links'' ≡ links' →
+        RelayDid (relay_of (relays_to order job links from (both v (no_client order)))) how held held' (λ did. ReturnsBoth sent links links'' did back back'' × (how ≡ end.OutOfMemory → did ≡ doing.nothing))
+    to_over left_of sent_of far [] sent sent' after between gives goes is_back first second is_links = absurd gives
+    to_over left_of sent_of far (link ∷ rest) sent sent' after between {back''} gives goes is_back first second is_links =
+        let r = goes link gives.0 in
+        let entry = consumed_entry between back'' (sent_of far) after link.sent r.did.to gives.1 r.sent.0.1 second in
+        let before = subst (λ (b : Option (List (List ℕ))). AppendedBack b sent' between) is_back first in
+        record { did = r.did; matches = r.matches; sink = r.sink; sent = ((sent', between, r.sent.0.0, before, inr (link, rest, back'', refl, entry, (is_links ∙ gives.2, refl))), r.sent.1) }
 
   module _ (from to : Text) (job : PassJob) (bytes : List ℕ) where
     -- the first link was set up, and the relay went on
-    pub ran_over_both : {F : Type 0} (left_of sent_of : F → Option (List ℕ)) (faults : F → ℕ) (old new : F) (ring : RingState) (devices : List DeviceInfo) (how : ToolEnd) (links : List ToldLink) {links1 links' : Option (List ToldLink)} {held held' : Option (List ℕ)} {back back1 back' : Option (List (List ℕ))} →
+    pub ran_over_both : {F : Type 0} (left_of sent_of : F → Option (List ℕ)) (faults : F → ℕ) (old new : F) (ring : RingState) (devices : List DeviceInfo) {how : ToolEnd} (links : List ToldLink) {links1 links' : Option (List ToldLink)} {held held' : Option (List ℕ)} {back back1 back' : Option (List (List ℕ))} →
         IsFirstOf left_of sent_of old (Some links) links1 → IsSetUp order left_of sent_of faults old new ring (Ok devices) → back1 ≡ back →
-        ((rest : List ToldLink) (a : List ℕ) → links1 ≡ Some rest → left_of new ≡ Some a → RelayRanTo order job devices (new_client order ring a) how rest links' (sent_of new) held held' back1 back') →
+        ((rest : List ToldLink) (a : List ℕ) → links1 ≡ Some rest → left_of new ≡ Some a →
+        RelayDid (relay_of (relays_to order job rest devices (both (new_client order ring a) (no_client order)))) how held held' (λ did. ReturnsBoth (sent_of new) rest links' did back1 back' × (how ≡ end.OutOfMemory → did ≡ doing.nothing))) →
         JobRan (relay from to order job) bytes how links links' held held' back back'
-    ran_over_both left_of sent_of faults old new ring devices how [] gives is same goes = absurd gives
-    ran_over_both left_of sent_of faults old new ring devices how (link ∷ rest) {back} gives is same goes =
-        let next : List DeviceInfo → ClientState → RelayTrace = λ from v. dials_to order rest (λ to w. apass_trace job from to v w) in
-        let b = after_dial_setup left_of sent_of faults sends_first_from link.gives next old new ring devices is gives.0 in
-        let after = next devices (new_client order ring b.a) in
-        let r = goes rest b.a gives.2 b.told in
-        let first = subst (λ (x : Option (List (List ℕ))). AppendedBack x r.after r.between) same r.first in
+    ran_over_both left_of sent_of faults old new ring devices [] gives is same goes = absurd gives
+    ran_over_both left_of sent_of faults old new ring devices (link ∷ rest) {back} gives is same goes =
+        let setup = setup_bytes order in
+        let on = on_setup left_of sent_of faults old new ring link.gives (Ok devices) is gives.0 in
+        let r = goes rest on.1.0 gives.2 on.1.1 in
+        let back_given = r.sent.0 in
+        let set = ap (λ (r : Result (List DeviceInfo) ConnFault). called (on_first setup) r (both (client_after_setup order link.gives) (no_client order))) on.0 ∙ ap (λ (w : ClientState). called (on_first setup) (let r : Result (List DeviceInfo) ConnFault = Ok devices in r) (both w (no_client order))) on.1.2 in
+        let first = subst (λ (x : Option (List (List ℕ))). AppendedBack x back_given.0 back_given.1) same back_given.3 in
+        let whole = appended_on (sent_of old) (sent_of new) back_given.0 setup r.did.from on.2 back_given.2 in
         record {
-          did = record {
-            sends_from = setup_bytes order ++ r.did.sends_from;
-            sends_to = r.did.sends_to;
-            output = r.did.output;
-            recorded = ended_then (on_from after) (on_from (connects_by order sends_first_from link.gives next)) how (setup_bytes order) [] r.did.sends_from r.did.output (ap on_from b.is) r.did.recorded;
-            played = ended_same (on_to after) (on_to (connects_by order sends_first_from link.gives next)) how r.did.sends_to r.did.output (ap on_to b.is) r.did.played;
-            sink = r.did.sink;
+          ran = record {
+            did = doing.joined (on_first setup) r.did;
+            matches = relay_goes_on (sets_up_from order link.gives) (λ from. relays_to order job rest from) set r.matches;
+            sink = r.sink;
+            sent = inr (link, rest, back_given.1, refl, consumed_entry back back_given.1 (sent_of old) back_given.0 link.sent (setup ++ r.did.from) gives.1 whole first, back_given.4);
           };
-          link = inr (link, rest, r.between, refl, consumed_entry back r.between (sent_of old) r.after link.sent (setup_bytes order ++ r.did.sends_from) gives.1 (appended_on (sent_of old) (sent_of new) r.after (setup_bytes order) r.did.sends_from b.appended r.link) first, r.second);
-          early = λ memory. (let e = r.early memory in (inr (ap (λ (l : List ℕ). setup_bytes order ++ l) e.0 ∙ append-nil (setup_bytes order)), e.1));
+          early = λ memory. (let none = r.sent.1 memory in (inr (ap (λ (d : RelayDeeds). setup ++ d.from) none ∙ append-nil setup), ap (λ (d : RelayDeeds). d.to) none));
         }
 
     -- the first link was given back with what it had been sent
-    ran_first : {F : Type 0} (left_of sent_of : F → Option (List ℕ)) (far : F) (how : ToolEnd) (links : List ToldLink) {links' links'' : Option (List ToldLink)} (after : Option (List ℕ)) {held : Option (List ℕ)} {back back' back'' : Option (List (List ℕ))} (sends : List ℕ) → IsFirstOf left_of sent_of far (Some links) links' →
-        MatchesTrace (on_from (relay_trace order job links)) how sends [] → MatchesTrace (on_to (relay_trace order job links)) how [] [] → Appended (sent_of far) sends after → back' ≡ back → AppendedBack back' after back'' → links'' ≡ links' →
-        (how ≡ end.OutOfMemory → (sends ≡ []) ⊎ (sends ≡ setup_bytes order)) → JobRan (relay from to order job) bytes how links links'' held held back back''
-    ran_first left_of sent_of far how [] after sends gives recorded played appended is_back entry is_links early = absurd gives
-    ran_first left_of sent_of far how (link ∷ rest) after {held} {back} {back''} sends gives recorded played appended is_back entry is_links early = record {
-      did = record { sends_from = sends; sends_to = []; output = []; recorded = recorded; played = played; sink = appended_none held };
-      link = inr (link, rest, back'', refl, consumed_entry back back'' (sent_of far) after link.sent sends gives.1 appended (subst (λ (b : Option (List (List ℕ))). AppendedBack b after back'') is_back entry), inl (refl, is_links ∙ gives.2, refl));
+    ran_first : {F : Type 0} (left_of sent_of : F → Option (List ℕ)) (far : F) {how : ToolEnd} (links : List ToldLink) {links' links'' : Option (List ToldLink)} (after : Option (List ℕ)) {held : Option (List ℕ)} {back back' back'' : Option (List (List ℕ))} (sends : List ℕ) → IsFirstOf left_of sent_of far (Some links) links' →
+        MatchesRelay (relay_trace order job links) how (on_first sends) → Appended (sent_of far) sends after → back' ≡ back → AppendedBack back' after back'' → links'' ≡ links' → (how ≡ end.OutOfMemory → (sends ≡ []) ⊎ (sends ≡ setup_bytes order)) → JobRan (relay from to order job) bytes how links links'' held held back back''
+    ran_first left_of sent_of far [] after sends gives matches appended is_back entry is_links early = absurd gives
+    ran_first left_of sent_of far (link ∷ rest) after {held} {back} {back''} sends gives matches appended is_back entry is_links early = record {
+      ran = record {
+        did = on_first sends;
+        matches = matches;
+        sink = appended_none held;
+        sent = inr (link, rest, back'', refl, consumed_entry back back'' (sent_of far) after link.sent sends gives.1 appended (subst (λ (b : Option (List (List ℕ))). AppendedBack b after back'') is_back entry), inl (refl, is_links ∙ gives.2, refl));
+      };
       early = λ memory. (early memory, refl);
     }
 
     pub ran_unset : {F : Type 0} (left_of sent_of : F → Option (List ℕ)) (far : F) (links : List ToldLink) {links' links'' : Option (List ToldLink)} {held : Option (List ℕ)} {back back' back'' : Option (List (List ℕ))} →
         IsFirstOf left_of sent_of far (Some links) links' → back' ≡ back → AppendedBack back' (sent_of far) back'' → links'' ≡ links' → JobRan (relay from to order job) bytes end.OutOfMemory links links'' held held back back''
-    ran_unset left_of sent_of far links gives is_back entry is_links =
-        let r = relay_trace order job links in
-        ran_first left_of sent_of far end.OutOfMemory links (sent_of far) [] gives (ended_early (on_from r) end.OutOfMemory [] [] r.from r.output refl refl refl) (ended_early (on_to r) end.OutOfMemory [] [] r.to r.output refl refl refl) (appended_none (sent_of far)) is_back entry is_links (λ memory. inl refl)
+    ran_unset left_of sent_of far links gives is_back entry is_links = ran_first left_of sent_of far links (sent_of far) [] gives (idle refl) (appended_none (sent_of far)) is_back entry is_links (λ memory. inl refl)
 
     pub ran_refused : {F : Type 0} (left_of sent_of : F → Option (List ℕ)) (faults : F → ℕ) (old new : F) (ring : RingState) (f : ConnFault) (links : List ToldLink) {links' links'' : Option (List ToldLink)} {held : Option (List ℕ)} {back back' back'' : Option (List (List ℕ))} →
         IsFirstOf left_of sent_of old (Some links) links' → IsSetUp order left_of sent_of faults old new ring (Err f) → back' ≡ back → AppendedBack back' (sent_of new) back'' → links'' ≡ links' → JobRan (relay from to order job) bytes (fault_end f) links links'' held held back back''
     ran_refused left_of sent_of faults old new ring f [] gives is is_back entry is_links = absurd gives
     ran_refused left_of sent_of faults old new ring f (link ∷ rest) gives is is_back entry is_links =
-        let next : List DeviceInfo → ClientState → RelayTrace = λ from v. dials_to order rest (λ to w. apass_trace job from to v w) in
-        let g = one_goes sends_first_from on_from on_to is_from (setup_bytes order) (setup_answer order link.gives) (client_after_setup order link.gives) (λ next. connects_by order sends_first_from link.gives next) (λ next. refl) (left_of new) (new_client order ring) (sent_of old) (sent_of new) (Err f) is.sends (setup_known order left_of sent_of faults old new ring link.gives (Err f) is gives.0) in
-        let e = g.came next in
-        ran_first left_of sent_of old (fault_end f) (link ∷ rest) (sent_of new) g.sends gives e.0 e.1 g.link is_back entry is_links (λ memory. absurd (setup_memory f is.fresh memory))
+        let u = unset left_of sent_of faults old new ring link.gives on_first (λ a b. refl) f (both (client_after_setup order link.gives) (no_client order)) is gives.0 in
+        ran_first left_of sent_of old (link ∷ rest) (sent_of new) u.0 gives (relay_stops (sets_up_from order link.gives) (λ from. relays_to order job rest from) u.1) u.2 is_back entry is_links (λ memory. absurd (setup_memory f is.fresh memory))
 
 -- a tool whose source gives no more than it may does not end as too long
 pub not_too_long : {S : Type 0} {left : S → Option (List ℕ)} {faults : S → ℕ} {form : Option SoundForm} {how : ToolEnd} {bytes : List ℕ} {source source' : S} (j : Job) → is_of_job j how ≡ true →

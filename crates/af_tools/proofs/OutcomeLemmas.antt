@@ -22,11 +22,11 @@ use Rattle.af_cli.specs.declared.job.Task.{Task}
 use Rattle.af_cli.specs.declared.job.Task.TheVariants as task
 use Rattle.af_cli.specs.declared.call.Call.{Call}
 use Rattle.af_cli.specs.declared.call.Call.TheVariants as call
-use Rattle.af_toolkit.specs.Trace.{Trace, ClientState, connects, done, tool_end, next_message, sends_first, client_after_setup, setup_answer, client_before_setup}
+use Rattle.af_toolkit.specs.Trace.{Trace, ClientState, Finish, connects, done, tool_end, next_message, sends_first, client_after_setup, setup_answer, client_before_setup}
 use Rattle.af_cli.specs.Call.{IsCall, job_of_call}
 use Rattle.af_cli.specs.Ranges.{IsPaced, IsRanged}
-use Rattle.af_relay.specs.Pass.{RelayTrace, apass_trace, sends_first_from, sends_first_to}
-use Rattle.af_tools.specs.Run.{dials_to, relay_trace, JobDone, JobRan, RelayRan, SetUpFirst, UsedServer, one_trace, task_trace}
+use Rattle.af_relay.specs.Pass.{Both, RelayDeeds, RelayTrace, apass_trace, both, doing, finish_of, relay_of, relays}
+use Rattle.af_tools.specs.Run.{no_client, relay_trace, relays_to, JobDone, JobRan, RelayRan, SetUpFirst, UsedServer, one_trace, task_trace}
 use Rattle.af_tools.specs.Play.{IsPlayed}
 use Rattle.af_tools.specs.Sounds.{most_bytes}
 use Rattle.af_tools.specs.Record.{IsRecorded}
@@ -37,7 +37,9 @@ use Rattle.af_standing.proofs.ListLemmas.{list_ran}
 use Rattle.af_cli.specs.Words.{Job, one, relay}
 use Rattle.af_toolkit.proofs.ToolEndLemmas.{answered_done, is_whole, reply_of}
 use Rattle.af_tools.proofs.EndLemmas.{ends_if_unfit}
-use Rattle.af_relay.proofs.RelayedLemmas.{answered_from, answered_to, trace_relayed}
+use Rattle.af_dialogue.specs.Parts.{Outcome, goes_on}
+use Rattle.af_relay.proofs.RelayPartLemmas.{on_first, on_second}
+use Rattle.af_relay.proofs.RelayedLemmas.{setup_answered, trace_relayed}
 use Rattle.af_tools.proofs.PlayedBlockLemmas.{is_played}
 use Rattle.af_tools.proofs.FiledLemmas.{is_recorded}
 use Rattle.af_tools.proofs.DialLemmas.{served_done}
@@ -58,29 +60,33 @@ ranged_call (call.Relay c) is = is.0
 
 module _ (order : Order) where
   -- a relay that is done after its first setup, and after both
-  record AfterFirst (job : PassJob) (from : List DeviceInfo) (v : ClientState) (links : List ToldLink) (trace : RelayTrace) (held held' : Option (List ℕ)) : Type 0 where
+  abbrev to_trace : PassJob → List ToldLink → (from : List DeviceInfo) → ClientState → RelayTrace
+  to_trace job links from v = relay_of (relays_to order job links from (both v (no_client order)))
+
+  record AfterFirst (job : PassJob) (from : List DeviceInfo) (v : ClientState) (links : List ToldLink) (held held' : Option (List ℕ)) : Type 0 where
     to : ToldLink
     rest : List ToldLink
     links_are : links ≡ to ∷ rest
-    part : RelayTrace
-    whole : trace ≡ sends_first_to (setup_bytes order) part
-    relayed : Appended held part.output held' → IsRelayed job from v (client_after_setup order to.gives) (Some []) (Some part.from) (Some []) (Some part.to) held held'
+    part : RelayDeeds
+    whole : (to_trace job links from v).did ≡ doing.joined (on_second (setup_bytes order)) part
+    relayed : Appended held part.output held' → IsRelayed job from v (client_after_setup order to.gives) (both (Some []) (Some [])) (both (Some part.from) (Some part.to)) held held'
 
-  after_first : (job : PassJob) (from : List DeviceInfo) (v : ClientState) (links : List ToldLink) (held held' : Option (List ℕ)) → ((d : DeviceInfo) → slice_get from job.from_device ≡ Some d → IsDeviceInfo d) → IsPaced job →
-      (dials_to order links (λ to w. apass_trace job from to v w)).finish ≡ done → AfterFirst job from v links (dials_to order links (λ to w. apass_trace job from to v w)) held held'
+  after_first : (job : PassJob) (from : List DeviceInfo) (v : ClientState) (links : List ToldLink) (held held' : Option (List ℕ)) → ((d : DeviceInfo) → slice_get from job.from_device ≡ Some d → IsDeviceInfo d) → IsPaced job → (to_trace job links from v).finish ≡ done →
+      AfterFirst job from v links held held'
+  unfolding goes_on
   after_first job from v [] held held' stated paced is = cc
   after_first job from v (second ∷ rest) held held' stated paced is =
       let w = client_after_setup order second.gives in
-      let a = answered_to (setup_bytes order) (setup_answer order second.gives) w (λ to w. apass_trace job from to v w) is in
-      let part = apass_trace job from a.value v w in
-      let c = trace_relayed job from a.value v w stated paced (ap (λ (x : RelayTrace). x.finish) (sym a.is) ∙ is) in
+      let a = setup_answered (on_second (setup_bytes order)) (setup_answer order second.gives) (both v w) (λ to. relays job from to) is in
+      let part = (apass_trace job from a.0 v w).did in
+      let c = trace_relayed job from a.0 v w stated paced (ap (λ (o : Outcome RelayDeeds (Unit {0} × Both ClientState) Finish). finish_of o.end) (sym a.2) ∙ is) in
       record {
         to = second;
         rest = rest;
         links_are = refl;
         part = part;
-        whole = a.is;
-        relayed = λ sink. (record { device = c.0; is_there = c.1; sends_from = part.from; sends_to = part.to; output = part.output; relayed = c.2; link_from = refl; link_to = refl; sink = sink });
+        whole = ap (λ (o : Outcome RelayDeeds (Unit {0} × Both ClientState) Finish). o.did) a.2;
+        relayed = λ sink. (record { device = c.0; is_there = c.1; did = part; relayed = c.2; sent = (refl, refl); sink = sink });
       }
 
   -- a device of a connection that was set up is one that may be stated
@@ -90,18 +96,21 @@ module _ (order : Order) where
 
   record AfterBoth (job : PassJob) (links : List ToldLink) (held held' : Option (List ℕ)) : Type 0 where
     from : SetUpFirst order links
-    after : AfterFirst job from.devices (client_after_setup order from.link.gives) from.rest (dials_to order from.rest (λ to w. apass_trace job from.devices to (client_after_setup order from.link.gives) w)) held held'
-    whole : relay_trace order job links ≡ sends_first_from (setup_bytes order) (sends_first_to (setup_bytes order) after.part)
+    after : AfterFirst job from.devices (client_after_setup order from.link.gives) from.rest held held'
+    whole : (relay_trace order job links).did ≡ doing.joined (on_first (setup_bytes order)) (doing.joined (on_second (setup_bytes order)) after.part)
 
   after_both : (job : PassJob) (links : List ToldLink) (held held' : Option (List ℕ)) → IsPaced job → (relay_trace order job links).finish ≡ done → AfterBoth job links held held'
+  unfolding goes_on
   after_both job [] held held' paced is = cc
   after_both job (first ∷ links) held held' paced is =
-      let a = answered_from (setup_bytes order) (setup_answer order first.gives) (client_after_setup order first.gives) (λ from v. dials_to order links (λ to w. apass_trace job from to v w)) is in
-      let b = after_first job a.value (client_after_setup order first.gives) links held held' (answered_at job.from_device (next_message (client_before_setup order first.gives)).found a.value a.good) paced (ap (λ (x : RelayTrace). x.finish) (sym a.is) ∙ is) in
+      let v = client_after_setup order first.gives in
+      let a = setup_answered (on_first (setup_bytes order)) (setup_answer order first.gives) (both v (no_client order)) (λ from. relays_to order job links from) is in
+      let stated = answered_at job.from_device (next_message (client_before_setup order first.gives)).found a.0 a.1 in
+      let b = after_first job a.0 v links held held' stated paced (ap (λ (o : Outcome RelayDeeds (Unit {0} × Both ClientState) Finish). finish_of o.end) (sym a.2) ∙ is) in
       record {
-        from = record { link = first; rest = links; links_are = refl; devices = a.value; set = a.good };
+        from = record { link = first; rest = links; links_are = refl; devices = a.0; set = a.1 };
         after = b;
-        whole = a.is ∙ ap (sends_first_from (setup_bytes order)) b.whole;
+        whole = ap (λ (o : Outcome RelayDeeds (Unit {0} × Both ClientState) Finish). o.did) a.2 ∙ ap (λ (d : RelayDeeds). doing.joined (on_first (setup_bytes order)) d) b.whole;
       }
 
   -- a tool with one server that is done after its setup
@@ -120,34 +129,33 @@ module _ (order : Order) where
     -- a relay that is done has passed all blocks
     ran_relayed : {from to : Text} (job : PassJob) → JobRan (relay from to order job) bytes how links links' held held' back back' → IsPaced job → RelayRan order job links links' held held' back back'
     ran_relayed job r paced =
-        let recorded = is_whole r.did.recorded way in
-        let played = is_whole r.did.played way in
+        let recorded = is_whole r.ran.matches.recorded way in
+        let played = is_whole r.ran.matches.played way in
         let b = after_both job links held held' paced recorded.finish in
-        let output = recorded.wrote ∙ ap (λ (x : RelayTrace). x.output) b.whole in
+        let output = recorded.wrote ∙ ap (λ (x : RelayDeeds). x.output) b.whole in
         record {
           from = b.from;
           to = b.after.to;
           rest = b.after.rest;
           to_is_next = b.after.links_are;
-          sends_from = b.after.part.from;
-          sends_to = b.after.part.to;
-          relayed = b.after.relayed (subst (λ (l : List ℕ). Appended held l held') output r.did.sink);
-          link = rw (recorded.sent ∙ ap (λ (x : RelayTrace). x.from) b.whole, played.sent ∙ ap (λ (x : RelayTrace). x.to) b.whole) at r.link;
+          sends = both b.after.part.from b.after.part.to;
+          relayed = b.after.relayed (subst (λ (l : List ℕ). Appended held l held') output r.ran.sink);
+          link = rw (recorded.sent ∙ ap (λ (x : RelayDeeds). x.from) b.whole, played.sent ∙ ap (λ (x : RelayDeeds). x.to) b.whole) at r.ran.sent;
         }
 
     -- a tool with one server that is done followed its trace to the end
     one_done : {server : Text} (t : Task) → JobRan (one server order t) bytes how links links' held held' back back' →
         UsedServer order links links' back back' (λ devices w sends. ObservedTrace (task_trace t devices bytes w) how (Some []) (Some sends) held held')
     one_done t r =
-        let recorded = is_whole r.did.recorded way in
+        let recorded = is_whole r.ran.matches.recorded way in
         let b = after_dial_setup t bytes links recorded.finish in
         let inner = task_trace t b.server.devices bytes (client_after_setup order b.server.link.gives) in
         let output = recorded.wrote ∙ ap (λ (x : Trace). x.output) b.whole in
         record {
           server = b.server;
           sends = inner.sends;
-          used = followed_whole inner how held held' way (ap (λ (x : Trace). x.finish) (sym b.whole) ∙ recorded.finish) (subst (λ (l : List ℕ). Appended held l held') output r.did.sink);
-          link = rw (recorded.sent ∙ ap (λ (x : Trace). x.sends) b.whole, (is_whole r.did.played way).sent) at r.link;
+          used = followed_whole inner how held held' way (ap (λ (x : Trace). x.finish) (sym b.whole) ∙ recorded.finish) (subst (λ (l : List ℕ). Appended held l held') output r.ran.sink);
+          link = rw (recorded.sent ∙ ap (λ (x : Trace). x.sends) b.whole, (is_whole r.ran.matches.played way).sent) at r.ran.sent;
         }
 
     -- aplay: what it has played is heard as it was intended
@@ -181,11 +189,11 @@ did j bytes how links links' held held' back back' r ranged short =
     let ran : (k : Job) → j ≡ k → JobRan k bytes how links links' held held' back back' = λ k same. subst (λ (x : Job). JobRan x bytes how links links' held held' back back') same r in
     record {
       ran = r;
-      reply = reply_of _ _ _ _ r.did.recorded;
-      unfit = ends_if_unfit r.did.recorded;
+      reply = reply_of _ _ _ _ r.ran.matches.recorded;
+      unfit = ends_if_unfit r.ran.matches.recorded;
       heard = λ server order play same way. (let range = subst IsInRange same (ranged way) in ran_played order way play (ran (one server order (task.Play play)) same) range.0);
       recorded = λ server order recording same way. ran_recorded order way recording (ran (one server order (task.Record recording)) same);
       listed = λ server order same way. ran_listed order way (ran (one server order task.List) same);
       relayed = λ from to order pass same way. ran_relayed order way pass (ran (relay from to order pass) same) (subst IsInRange same (ranged way));
-      complete = λ few served. served_done _ how _ _ r.did.recorded (short few) served;
+      complete = λ few served. served_done _ how _ _ r.ran.matches.recorded (short few) served;
     }

@@ -1,14 +1,18 @@
 -- What the tools do, by their arguments, the bytes of the source, and what the dialled links give.
 use Rattle.std.specs.Prelude.{◌≡◌, ◌≤◌, ◌⊎◌, ℕ, Bool, true, false, List, [], ◌∷◌, ◌++◌, length, Ok, Option, None, Some}
+use Rattle.std.specs.List.{concat}
 use Rattle.clap.specs.Words.{Text}
 use Rattle.af_io.specs.Observed.{Appended, CountsFault}
 use Rattle.af_io.specs.Dial.{AppendedBack, ToldLink}
+use Rattle.af_dialogue.specs.Parts.{called, goes_on, part_among, stops}
 use Rattle.af_request.specs.declared.reply.DeviceInfo.{DeviceInfo}
 use Rattle.af_toolkit.specs.declared.end.ToolEnd.{ToolEnd}
 use Rattle.af_toolkit.specs.declared.end.ToolEnd.TheVariants as end
 use Rattle.af_cli.specs.declared.job.Task.{Task}
 use Rattle.af_cli.specs.declared.job.Task.TheVariants as task
-use Rattle.af_toolkit.specs.Trace.{Trace, ClientState, dials, client_after_setup, setup_answer, not_dialled}
+use Rattle.af_lib.specs.declared.fault.ConnFault.{ConnFault}
+use Rattle.af_toolkit.specs.Trace.{Trace, ClientState, Finish, client_after_setup, client_before_setup, dials, not_dialled}
+use Rattle.af_toolkit.specs.Trace.{refused, setup_answer}
 use Rattle.af_tools.specs.Sounds.{most_bytes}
 use Rattle.af_tools.specs.Play.{aplay_trace, IsPlayed}
 use Rattle.af_tools.specs.Record.{arecord_trace, IsRecorded}
@@ -19,51 +23,45 @@ use Rattle.af_cli.specs.declared.job.PlayJob.{PlayJob}
 use Rattle.af_wire.specs.declared.order.Order.{Order}
 use Rattle.af_cli.specs.declared.job.RecordJob.{RecordJob}
 use Rattle.af_wire.specs.Front.{setup_bytes}
-use Rattle.af_relay.specs.Pass.{RelayTrace, apass_trace, on_from, on_to, ends_both, relay_after_answer, sends_first_from, sends_first_to}
+use Rattle.af_relay.specs.Pass.{Both, RelayDeeds, RelayPart, RelayTrace, both, deeds, doing, on_from, relay_of, relays}
+use Rattle.af_relay.specs.RelayParts.{RelayDid}
 use Rattle.af_relay.specs.Relayed.{IsRelayed}
 use Rattle.af_cli.specs.Words.{Job, one, relay}
 use Rattle.af_relay.specs.Pair.{is_of_pass}
-use Rattle.af_toolkit.specs.Ends.{MatchesTrace, EndsByReply, IsAnswered, is_outer}
+use Rattle.af_toolkit.specs.Ends.{EndsByReply, IsAnswered, is_outer}
 use Rattle.af_tools.specs.Results.{is_of_tool, is_unfit, EndsIfUnfit}
 use Rattle.af_sound.specs.declared.head.SoundForm.{SoundForm}
 use Rattle.af_tools.specs.Reading.{TellsIfRead, UsesSource}
 
--- the setup of an order is sent on one of the links, and what follows goes by the devices of its answer
-abbrev pub connects_by : Order → (List ℕ → RelayTrace → RelayTrace) → List ℕ → (List DeviceInfo → ClientState → RelayTrace) →
-    RelayTrace
-connects_by order sending input next =
-    sending (setup_bytes order) (relay_after_answer (setup_answer order input) (client_after_setup order input) next)
+-- each link of a relay, which gives these bytes, is set up in a byte order, and the devices of its server are the value
+abbrev pub sets_up_from : Order → List ℕ → RelayPart ConnFault (List DeviceInfo)
+sets_up_from order input at =
+    called (deeds (setup_bytes order) [] []) (setup_answer order input) (both (client_after_setup order input) at.to)
 
--- the second server is dialled, and its link set up
-abbrev pub dials_to : Order → List ToldLink → (List DeviceInfo → ClientState → RelayTrace) → RelayTrace
-dials_to order [] next = ends_both not_dialled
-dials_to order (link ∷ links) next = connects_by order sends_first_to link.gives next
+abbrev pub sets_up_to : Order → List ℕ → RelayPart ConnFault (List DeviceInfo)
+sets_up_to order input at =
+    called (deeds [] (setup_bytes order) []) (setup_answer order input) (both at.from (client_after_setup order input))
+
+-- a relay from these devices, which dials its second server and sets the link up
+abbrev pub relays_to : Order → PassJob → List ToldLink → (from : List DeviceInfo) → RelayPart Finish (Unit {0})
+relays_to order job [] from = stops doing not_dialled
+relays_to order job (link ∷ links) from =
+    goes_on doing (part_among refused (sets_up_to order link.gives)) (λ to. relays job from to)
+
+-- a client whose link is not there yet
+abbrev pub no_client : Order → ClientState
+no_client order = client_before_setup order []
 
 -- the trace of a relay: both servers are dialled, one after the other, and each link is set up in the same order
 abbrev pub relay_trace : Order → PassJob → List ToldLink → RelayTrace
-relay_trace order job [] = ends_both not_dialled
+relay_trace order job [] = record { did = doing.nothing; finish = not_dialled }
 relay_trace order job (link ∷ links) =
-    connects_by order sends_first_from link.gives (λ from v. dials_to order links (λ to w. apass_trace job from to v w))
+    relay_of (goes_on doing (part_among refused (sets_up_from order link.gives)) (λ from. relays_to order job links from)
+    (both (no_client order) (no_client order)))
 
 -- a tool of one link, as a relay that does not use its second
 abbrev pub as_relay : Trace → RelayTrace
-as_relay c = record { from = c.sends; to = []; output = c.output; finish = c.finish }
-
--- A relay ended, and sent and wrote this: all of its trace, or prefixes if something from outside ended it.
-pub record RelayDid (relay : RelayTrace) (how : ToolEnd) (held held' : Option (List ℕ)) : Type 0 where
-  pub sends_from : List ℕ
-  pub sends_to : List ℕ
-  pub output : List ℕ
-  pub recorded : MatchesTrace (on_from relay) how sends_from output
-  pub played : MatchesTrace (on_to relay) how sends_to output
-  pub sink : Appended held output held'
-
--- The same over two links, of which the second was not set up before; if memory ran out, nothing was sent.
-pub record RelayedOver (relay : RelayTrace) (how : ToolEnd) (from from' to to' held held' : Option (List ℕ)) : Type 0 where
-  pub did : RelayDid relay how held held'
-  pub link_from : Appended from did.sends_from from'
-  pub link_to : Appended to did.sends_to to'
-  pub early : how ≡ end.OutOfMemory → (did.sends_from ≡ []) × (did.sends_to ≡ [])
+as_relay c = record { did = deeds c.sends [] c.output; finish = c.finish }
 
 -- the trace of a task on a server that was set up
 abbrev pub task_trace : Task → List DeviceInfo → List ℕ → ClientState → Trace
@@ -128,45 +126,33 @@ is_of_af (Some j) how = is_of_job j how
 is_of_af None end.OutOfMemory = true
 is_of_af None _ = false
 
--- Each dialled link was given back: none, where nothing was sent; or the first, sent this after what it had been sent before.
-abbrev pub ReturnedLink : List ToldLink → Option (List ToldLink) → List ℕ → Option (List (List ℕ)) → Option (List (List ℕ)) →
-    Type 0
-ReturnedLink links links' sends back back' =
-    ((sends ≡ []) × (links' ≡ Some links) × (back' ≡ back))
-    ⊎ ((link : ToldLink) × (rest : List ToldLink) × (links ≡ link ∷ rest) × (links' ≡ Some rest)
-    × Appended back ((link.sent ++ sends) ∷ []) back')
-
--- A relay dialled its second server, or not, after the setup of its first link, and gave both links back in their order.
-pub record RelayRanTo (order : Order) (job : PassJob) (from : List DeviceInfo) (v : ClientState) (how : ToolEnd)
-    (links : List ToldLink) (links' : Option (List ToldLink)) (sent held held' : Option (List ℕ))
-    (back back' : Option (List (List ℕ))) : Type 0 where
-  pub did : RelayDid (dials_to order links (λ to w. apass_trace job from to v w)) how held held'
-  pub after : Option (List ℕ)
-  pub link : Appended sent did.sends_from after
-  pub between : Option (List (List ℕ))
-  pub first : AppendedBack back after between
-  pub second : ReturnedLink links links' did.sends_to between back'
-  pub early : how ≡ end.OutOfMemory → (did.sends_from ≡ []) × (did.sends_to ≡ [])
-
--- The same for two links: none, or the first, and then none or the second likewise.
-abbrev pub ReturnedLinks : List ToldLink → Option (List ToldLink) → (sends_from sends_to : List ℕ) → Option (List (List ℕ)) →
+-- Each link that was dialled was given back: none, where nothing was sent; or the first, sent this after what it had been sent
+-- before, and then the others likewise.
+abbrev pub ReturnedLinks : List ToldLink → Option (List ToldLink) → (sends : List (List ℕ)) → Option (List (List ℕ)) →
     Option (List (List ℕ)) → Type 0
-ReturnedLinks links links' sends_from sends_to back back' =
-    ((sends_from ≡ []) × (sends_to ≡ []) × (links' ≡ Some links) × (back' ≡ back))
+ReturnedLinks links links' [] back back' = (links' ≡ Some links) × (back' ≡ back)
+ReturnedLinks links links' (sends ∷ more) back back' =
+    ((concat (sends ∷ more) ≡ []) × (links' ≡ Some links) × (back' ≡ back))
     ⊎ ((link : ToldLink) × (rest : List ToldLink) × (between : Option (List (List ℕ))) × (links ≡ link ∷ rest)
-    × Appended back ((link.sent ++ sends_from) ∷ []) between × ReturnedLink rest links' sends_to between back')
+    × Appended back ((link.sent ++ sends) ∷ []) between × ReturnedLinks rest links' more between back')
+
+-- The link of a connection was given back with what was sent on it, and then those that were dialled.
+abbrev pub ReturnsBoth : (sent : Option (List ℕ)) → List ToldLink → Option (List ToldLink) → RelayDeeds →
+    (back back' : Option (List (List ℕ))) → Type 0
+ReturnsBoth sent links links' did back back' = (after : Option (List ℕ)) × (between : Option (List (List ℕ)))
+    × Appended sent did.from after × AppendedBack back after between × ReturnedLinks links links' (did.to ∷ []) between back'
 
 -- memory runs out before any request was sent, and in a tool with one server before its setup
-abbrev pub IsEarly : Job → (sends_from sends_to : List ℕ) → Type 0
-IsEarly (one server order task) sends_from sends_to = (sends_from ≡ []) × (sends_to ≡ [])
-IsEarly (relay from to order job) sends_from sends_to = ((sends_from ≡ []) ⊎ (sends_from ≡ setup_bytes order)) × (sends_to ≡ [])
+abbrev pub IsEarly : Job → RelayDeeds → Type 0
+IsEarly (one server order task) did = (did.from ≡ []) × (did.to ≡ [])
+IsEarly (relay from to order job) did = ((did.from ≡ []) ⊎ (did.from ≡ setup_bytes order)) × (did.to ≡ [])
 
 -- A tool ran, and gave back each link that was dialled.
 pub record JobRan (j : Job) (bytes : List ℕ) (how : ToolEnd) (links : List ToldLink) (links' : Option (List ToldLink))
     (held held' : Option (List ℕ)) (back back' : Option (List (List ℕ))) : Type 0 where
-  pub did : RelayDid (run_trace j links bytes) how held held'
-  pub link : ReturnedLinks links links' did.sends_from did.sends_to back back'
-  pub early : how ≡ end.OutOfMemory → IsEarly j did.sends_from did.sends_to
+  pub ran : RelayDid (run_trace j links bytes) how held held'
+      (λ did. ReturnedLinks links links' (did.from ∷ did.to ∷ []) back back')
+  pub early : how ≡ end.OutOfMemory → IsEarly j ran.did
 
 -- the first link of a dial, whose setup was answered with these devices
 pub record SetUpFirst (order : Order) (links : List ToldLink) : Type 0 where
@@ -183,12 +169,10 @@ pub record RelayRan (order : Order) (job : PassJob) (links : List ToldLink) (lin
   pub to : ToldLink
   pub rest : List ToldLink
   pub to_is_next : from.rest ≡ to ∷ rest
-  pub sends_from : List ℕ
-  pub sends_to : List ℕ
+  pub sends : Both (List ℕ)
   pub relayed : IsRelayed job from.devices (client_after_setup order from.link.gives) (client_after_setup order to.gives)
-      (Some []) (Some sends_from)
-      (Some []) (Some sends_to) held held'
-  pub link : ReturnedLinks links links' (setup_bytes order ++ sends_from) (setup_bytes order ++ sends_to) back back'
+      (both (Some []) (Some [])) (both (Some sends.from) (Some sends.to)) held held'
+  pub link : ReturnedLinks links links' ((setup_bytes order ++ sends.from) ∷ (setup_bytes order ++ sends.to) ∷ []) back back'
 
 -- What a tool has done on its server: the link was set up, used as this says, and given back.
 pub record UsedServer (order : Order) (links : List ToldLink) (links' : Option (List ToldLink))
@@ -196,7 +180,7 @@ pub record UsedServer (order : Order) (links : List ToldLink) (links' : Option (
   pub server : SetUpFirst order links
   pub sends : List ℕ
   pub used : use_of server.devices (client_after_setup order server.link.gives) sends
-  pub link : ReturnedLinks links links' (setup_bytes order ++ sends) [] back back'
+  pub link : ReturnedLinks links links' ((setup_bytes order ++ sends) ∷ [] ∷ []) back back'
 
 -- Each end of a tool that dials has its cause, and memory or a server that was not had leaves source and sink as they were.
 pub record EndsForCause {S K D : Type 0} (left : S → Option (List ℕ)) (read_faults : S → ℕ) (write_faults : K → ℕ)

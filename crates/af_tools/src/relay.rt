@@ -7,8 +7,9 @@ ghost use Rattle.af_cli.specs.Ranges.{IsAddress, IsPaced};
 ghost use Rattle.af_cli.specs.Words.{relay};
 ghost use Rattle.af_toolkit.specs.Ends.{client_of};
 ghost use Rattle.af_relay.specs.Pair.{is_of_pass};
-ghost use Rattle.af_relay.specs.Pass.{apass_trace, sends_first_to};
-ghost use Rattle.af_tools.specs.Run.{connects_by, is_of_dial, is_of_far, AskedFor, JobRan, RelayRanTo, RelayedOver};
+ghost use Rattle.af_relay.specs.Pass.{both, doing, relay_of};
+ghost use Rattle.af_relay.specs.RelayParts.{RelayDid, SendsBoth};
+ghost use Rattle.af_tools.specs.Run.{is_of_dial, is_of_far, no_client, relays_to, AskedFor, JobRan, ReturnsBoth};
 ghost use Rattle.af_cli.specs.Sizes.{greatest_block};
 
 use crate::memory::Memory;
@@ -31,9 +32,11 @@ fn pass_over<L: Link + Drop, M: Link + Drop, K: Sink>(
     requires usable { conn.old.cause ≡ None }
     requires pace { IsPaced job.now }
     requires room { greatest_block ≤ length memory.old.room.items }
-    ensures followed { (v w : List ℕ) → L.left conn.old.link ≡ Some v → M.left far ≡ Some w → RelayedOver
-        (connects_by order sends_first_to w (λ to u. apass_trace job.now conn.old.devices to (client_of conn.old v) u)) result.0
-        (L.sent conn.old.link) (L.sent conn.new.link) (M.sent far) (M.sent result.1) (K.held sink.old) (K.held sink.new) }
+    ensures followed { (v : List ℕ) (link : ToldLink) → L.left conn.old.link ≡ Some v → M.left far ≡ Some link.gives →
+        RelayDid (relay_of (relays_to order job.now (link ∷ []) conn.old.devices (both (client_of conn.old v) (no_client order))))
+        result.0 (K.held sink.old) (K.held sink.new)
+        (λ did. SendsBoth did (both (L.sent conn.old.link) (M.sent far)) (both (L.sent conn.new.link) (M.sent result.1))
+        × (result.0 ≡ ToolEnd.OutOfMemory → did ≡ doing.nothing)) }
     ensures memory { result.0 ≡ ToolEnd.OutOfMemory → (L.sent conn.new.link ≡ L.sent conn.old.link)
         × (M.sent result.1 ≡ M.sent far) × (sink.new ≡ sink.old) }
     ensures end { is_of_far is_of_pass result.0 ≡ true }
@@ -64,8 +67,10 @@ fn run_to<K: Sink, D: Dial>(
     requires pace { IsPaced call.now.job }
     requires room { greatest_block ≤ length memory.old.room.items }
     ensures ran { (v : List ℕ) (links : List ToldLink) → D.Far.Link.left conn.link ≡ Some v → D.links dial.old ≡ Some links →
-        RelayRanTo call.now.order call.now.job conn.devices (client_of conn v) result links (D.links dial.new)
-        (D.Far.Link.sent conn.link) (K.held sink.old) (K.held sink.new) (D.back dial.old) (D.back dial.new) }
+        RelayDid (relay_of (relays_to call.now.order call.now.job links conn.devices
+        (both (client_of conn v) (no_client call.now.order)))) result (K.held sink.old) (K.held sink.new)
+        (λ did. ReturnsBoth (D.Far.Link.sent conn.link) links (D.links dial.new) did (D.back dial.old) (D.back dial.new)
+        × (result ≡ ToolEnd.OutOfMemory → did ≡ doing.nothing)) }
     ensures asked { Appended (D.asked dial.old) (call.now.to.now ∷ []) (D.asked dial.new) }
     ensures memory { result ≡ ToolEnd.OutOfMemory → sink.new ≡ sink.old }
     ensures end { is_of_dial is_of_pass result ≡ true }

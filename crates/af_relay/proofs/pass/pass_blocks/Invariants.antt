@@ -2,6 +2,7 @@ use Rattle.std.proofs.Common.{◌≡◌, ◌≤◌, ◌+◌, length, IsSome}
 use Rattle.std.specs.declared.option.Option.TheVariants.{None}
 use Rattle.af_dialogue.proofs.PartLemmas.{Reached}
 use Rattle.af_relay.specs.Pass.{both, passes}
+use Rattle.af_toolkit.specs.Trace.{refused}
 use Rattle.af_toolkit.specs.ToolParts.{link_sight}
 use Rattle.af_relay.specs.RelayParts.{relaying}
 use Rattle.af_relay.proofs.pass.pass_blocks.Given as goal
@@ -16,7 +17,7 @@ invariant-loop-left g l = record {
   count_to : g.M.Link.faults l.initial.to.link ≤ g.M.Link.faults l.to.link;
   size : length l.block ≡ length l.initial.block;
   few : l.passed.resynced + l.left ≤ l.plan.job.blocks;
-  passing : Reached relaying (passes l.plan.job.blocks l.plan.job l.plan.pace l.initial.passed) (passes l.left l.plan.job l.plan.pace l.passed)
+  passing : Reached (relaying refused) (passes l.plan.job.blocks l.plan.job l.plan.pace l.initial.passed) (passes l.left l.plan.job l.plan.pace l.passed)
       (both (link_sight g.L.Link.left g.L.Link.sent l.initial.from) (link_sight g.M.Link.left g.M.Link.sent l.initial.to))
       (both (link_sight g.L.Link.left g.L.Link.sent l.from) (link_sight g.M.Link.left g.M.Link.sent l.to));
 }

@@ -4,7 +4,9 @@ use Rattle.af_io.specs.Observed.{Appended}
 use Rattle.af_io.specs.Dial.{AppendedBack, IsFirstOf, ToldLink}
 use Rattle.af_toolkit.specs.declared.end.ToolEnd.TheVariants as end
 use Rattle.af_toolkit.specs.Trace.{ClientState, fault_end}
-use Rattle.af_tools.specs.Run.{RelayRanTo}
+use Rattle.af_relay.specs.Pass.{both, doing, relay_of}
+use Rattle.af_relay.specs.RelayParts.{RelayDid}
+use Rattle.af_tools.specs.Run.{no_client, relays_to, ReturnsBoth}
 use Rattle.af_cli.specs.Words.{relay}
 use Rattle.af_io.proofs.AppendedLemmas.{appended_on}
 use Rattle.af_toolkit.proofs.ToolEndLemmas.{fault_undone}
@@ -19,8 +21,8 @@ returns-in-Ok-clause-ran g c links bytes told =
     let conn = c.in-Ok.conn in
     let gives = subst (λ (l : Option (List ToldLink)). IsFirstOf g.D.Far.Link.left g.D.Far.Link.sent c.in-Far.far l (g.D.Dial.links c.dial.new.self)) told e.gives in
     let call = c.args.call.now in
-    ran_over_both call.order call.from.now call.to.now call.job bytes g.D.Far.Link.left g.D.Far.Link.sent g.D.Far.Link.faults c.in-Far.far conn.link conn.ring conn.devices c.run_to.result links gives s.3 e.back
-    (λ rest a l t. subst (λ (w : ClientState). RelayRanTo call.order call.job conn.devices w c.run_to.result rest (g.D.Dial.links c.run_to.new.dial) (g.D.Far.Link.sent conn.link) (g.K.Sink.held c.args.sink.now) (g.K.Sink.held c.run_to.new.sink) (g.D.Dial.back c.dial.new.self) (g.D.Dial.back c.run_to.new.dial)) (client_begun call.order conn a s.0 s.1)
+    ran_over_both call.order call.from.now call.to.now call.job bytes g.D.Far.Link.left g.D.Far.Link.sent g.D.Far.Link.faults c.in-Far.far conn.link conn.ring conn.devices links gives s.3 e.back
+    (λ rest a l t. subst (λ (v : ClientState). RelayDid (relay_of (relays_to call.order call.job rest conn.devices (both v (no_client call.order)))) c.run_to.result (g.K.Sink.held c.args.sink.now) (g.K.Sink.held c.run_to.new.sink) (λ did. ReturnsBoth (g.D.Far.Link.sent conn.link) rest (g.D.Dial.links c.run_to.new.dial) did (g.D.Dial.back c.dial.new.self) (g.D.Dial.back c.run_to.new.dial) × (c.run_to.result ≡ end.OutOfMemory → did ≡ doing.nothing))) (client_begun call.order conn a s.0 s.1)
     (c.run_to.ensures.ran a rest t l))
 
 pub returns-in-Ok-clause-asked : goal.returns-in-Ok-clause-asked

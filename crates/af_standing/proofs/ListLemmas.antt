@@ -16,7 +16,7 @@ use Rattle.af_toolkit.specs.Trace.{ClientState, after_reply, done, ends, refused
 use Rattle.af_toolkit.specs.Ends.{ObservedTrace}
 use Rattle.af_toolkit.specs.ToolParts.{ToolSight, deeds, doing, tooling}
 use Rattle.af_toolkit.proofs.ToolPartLemmas.{is_tool}
-use Rattle.af_toolkit.proofs.ToolEndLemmas.{asks_first, done_where_answered, ends_by_reply, is_whole, last_output, part_answered, part_finish}
+use Rattle.af_toolkit.proofs.ToolEndLemmas.{asks_first, is_whole, last_output, part_answered, part_finish, tool_ran}
 use Rattle.af_standing.specs.declared.controls_report.ControlsReport.{ControlsReport}
 use Rattle.af_standing.specs.ControlsReport.{asks_line, asks_controls_report}
 use Rattle.af_standing.specs.List.{device_line, list_trace, tells_device, tells_from, HasLines, ListRan}
@@ -70,14 +70,12 @@ lines_told number (device ∷ more) w ok =
 
 -- list ran, by its trace
 pub list_ran : (devices : List DeviceInfo) (w : ClientState) (how : ToolEnd) (s s' h h' : Option (List ℕ)) → ObservedTrace (list_trace devices w) how s s' h h' → ListRan devices w how s s' h h'
-unfolding list_trace
+unfolding list_trace tool_ran
 list_ran devices w how s s' h h' f =
     let o = tells_from 0 devices w in
     record {
-      followed = f;
+      ran = tool_ran f (λ _. part_finish o.end (λ _. ends done) (λ _. inl refl));
       listed = λ way.
           let whole = is_whole f.ended way in
           subst (λ (l : List ℕ). HasLines 0 devices l) (sym (whole.wrote ∙ ap (λ (l : List ℕ). o.did.output ++ l) (last_output o.end) ∙ append-nil o.did.output)) (lines_told 0 devices w (part_answered o.end (λ _. ends done) whole.finish));
-      reply = ends_by_reply (list_trace devices w) how s s' h h' f;
-      complete = λ answered. done_where_answered (list_trace devices w) how f.sends f.output f.ended (part_finish o.end (λ _. ends done) (λ _. inl refl)) answered;
     }

@@ -1,5 +1,5 @@
 -- What list does: for each device of the server, in the order of numbers, it asks for its state and its time, and writes a line.
-use Rattle.std.specs.Prelude.{◌≡◌, ◌⊎◌, ℕ, ◌+◌, Bool, true, List, [], ◌∷◌, ◌++◌, codes, decimal, is_some}
+use Rattle.std.specs.Prelude.{◌≡◌, ⊤, ℕ, ◌+◌, Bool, true, List, [], ◌∷◌, ◌++◌, codes, decimal, is_some}
 use Rattle.std.specs.declared.option.Option.{Option}
 use Rattle.std.specs.declared.option.Option.TheVariants.{None, Some}
 use Rattle.af_sample.specs.declared.sample_type.SampleType.{SampleType}
@@ -13,7 +13,7 @@ use Rattle.af_toolkit.specs.declared.end.ToolEnd.TheVariants as end
 use Rattle.af_dialogue.specs.Parts.{goes_on, has_value}
 use Rattle.af_toolkit.specs.Trace.{Trace, ClientState, done, ends, refused}
 use Rattle.af_toolkit.specs.ToolParts.{ToolPart, asks, doing, trace_of, writes}
-use Rattle.af_toolkit.specs.Ends.{client_of, is_of_link_or_sink, is_outer, EndsByReply, IsAnswered, ObservedTrace}
+use Rattle.af_toolkit.specs.Ends.{client_of, is_of_link_or_sink, ToolRan}
 use Rattle.af_standing.specs.declared.controls_report.ControlsReport.{ControlsReport}
 use Rattle.af_standing.specs.ControlsReport.{asks_controls_report, control_text, phone_text}
 
@@ -75,14 +75,11 @@ HasLines number (device ∷ more) text =
     (controls_report : ControlsReport) × (now : ℕ) × (rest : List ℕ) × (is_some controls_report.phone ≡ device.line)
     × (text ≡ device_line number device controls_report now ++ rest) × HasLines (number + 1) more rest
 
--- list ran, and followed its trace. If it is done, it wrote a line for each device. If each request gets its reply, it is done,
--- unless something from outside ended it.
+-- list ran, and wrote a line for each device if it is done
 pub record ListRan (devices : List DeviceInfo) (w : ClientState) (how : ToolEnd)
     (sent sent' held held' : Option (List ℕ)) : Type 0 where
-  pub followed : ObservedTrace (list_trace devices w) how sent sent' held held'
-  pub listed : how ≡ end.Done → HasLines 0 devices followed.output
-  pub reply : EndsByReply (list_trace devices w) how
-  pub complete : IsAnswered (list_trace devices w) → (how ≡ end.Done) ⊎ (is_outer how ≡ true)
+  pub ran : ToolRan ⊤ (list_trace devices w) how sent sent' held held'
+  pub listed : how ≡ end.Done → HasLines 0 devices ran.followed.output
 
 -- the same over a connection whose link is observable
 abbrev pub RunsList : {L K : Type 0} → (left sent : L → Option (List ℕ)) → (held : K → Option (List ℕ)) →

@@ -14,7 +14,7 @@ use Rattle.af_toolkit.specs.declared.end.ToolEnd.{ToolEnd}
 use Rattle.af_toolkit.specs.declared.end.ToolEnd.TheVariants as end
 use Rattle.af_toolkit.specs.Trace.{Trace, ClientState, Finish, after_reply, answer_on, after_answer, bad_sound, channel_mismatch, done, ends, tool_end, fault_end, mismatch, no_device, not_dialled, refused, sound_cut, too_long}
 use Rattle.af_toolkit.specs.ToolParts.{ToolPart, asks, deeds, doing, trace_ending}
-use Rattle.af_toolkit.specs.Ends.{MatchesTrace, EndsByReply, ObservedTrace, IsAnswered, is_of_reply, is_outer}
+use Rattle.af_toolkit.specs.Ends.{MatchesTrace, EndsByReply, ObservedTrace, IsAnswered, ToolRan, is_of_reply, is_outer}
 
 -- the finish of an end that is not from outside
 abbrev told_by : ToolEnd → Finish
@@ -87,6 +87,14 @@ done_where_answered trace how sends output e finish answered = elim finish [
   | inl is ↦ done_unless_outer trace how sends output e is
   | inr r ↦ absurd (answered r.0 r.1)
 ]
+
+-- a tool ran that is done or refused if it is ready
+unfoldable pub tool_ran : {ready : Type 0} {trace : Trace} {how : ToolEnd} {s s' h h' : Option (List ℕ)} → ObservedTrace trace how s s' h h' → (ready → IsDoneOrRefused trace.finish) → ToolRan ready trace how s s' h h'
+tool_ran {trace = trace} {how = how} {s = s} {s' = s'} {h = h} {h' = h'} f finish = record {
+  followed = f;
+  reply = ends_by_reply trace how s s' h h' f;
+  complete = λ fit answered. done_where_answered trace how f.sends f.output f.ended (finish fit) answered;
+}
 
 -- no fault is done
 pub fault_undone : (f : ConnFault) → fault_end f ≡ end.Done → ⊥

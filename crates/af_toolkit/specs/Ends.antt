@@ -83,6 +83,13 @@ pub record EndsByReply (trace : Trace) (how : ToolEnd) : Type 0 where
 abbrev pub IsAnswered : Trace → Type 0
 IsAnswered trace = (fault : ConnFault) → trace.finish ≢ refused fault
 
+-- A tool followed its trace, and ends for a reply where that does. If this holds and each request gets its reply, it is done,
+-- unless something from outside ended it.
+pub record ToolRan (ready : Type 0) (trace : Trace) (how : ToolEnd) (sent sent' held held' : Option (List ℕ)) : Type 0 where
+  pub followed : ObservedTrace trace how sent sent' held held'
+  pub reply : EndsByReply trace how
+  pub complete : ready → IsAnswered trace → (how ≡ end.Done) ⊎ (is_outer how ≡ true)
+
 -- some bytes were written to a sink, or the first of them before it failed
 abbrev pub Writes : {K : Type 0} → (held : K → Option (List ℕ)) → List ℕ → Result (Unit {0}) ToolEnd → (sink sink' : K) → Type 0
 Writes held bytes (Ok _) sink sink' = Appended (held sink) bytes (held sink')

@@ -58,11 +58,8 @@ pub missing_at : (devices : List DeviceInfo) (number : ℕ) → slice_get device
 missing_at devices number none d get = absurd (none-some d (sym none ∙ get))
 
 -- a sound is played on a device, and then that is written
-abbrev pub reported : PlayJob → DeviceInfo → ClientState → SourceSound → List ℕ → Trace
-reported job device w sound bytes = trace_of play_finish (plays_on job sound device bytes w) (λ p. writes_first (played_text p.frames p.start.0) (ends done))
-
-pub followed_same : (c d : Trace) (how : ToolEnd) (s s' h h' : Option (List ℕ)) → d ≡ c → ObservedTrace c how s s' h h' → ObservedTrace d how s s' h h'
-followed_same c d how s s' h h' is f = subst (λ (x : Trace). ObservedTrace x how s s' h h') (sym is) f
+abbrev pub reported : PlayJob → DeviceInfo → ClientState → SourceSound × List ℕ → Trace
+reported job device w given = trace_of play_finish (plays_on job given.0 device given.1 w) (λ p. writes_first (played_text p.frames p.start.0) (ends done))
 
 module _ {trace : Trace} {number : ℕ} {devices : List DeviceInfo} (each : DeviceInfo → Trace) (is : trace ≡ with_job_device number devices each) where
   -- a tool whose device exists follows its trace on that

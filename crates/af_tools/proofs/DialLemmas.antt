@@ -20,8 +20,7 @@ use Rattle.af_dialogue.specs.Parts.{Stopped, called}
 use Rattle.af_toolkit.specs.ToolParts.{LinkSight}
 use Rattle.af_relay.specs.RelayParts.{MatchesRelay, RelayDid, SendsBoth, relaying}
 use Rattle.af_tools.specs.Run.{is_of_job, job_reads, no_client, relay_trace, relays_to, sets_up_from, sets_up_to, task_trace, IsEarly, IsServed, JobRan, ReturnsBoth}
-use Rattle.af_tools.specs.Reading.{TellsIfRead, UsesSource}
-use Rattle.af_tools.specs.Results.{is_unfit}
+use Rattle.af_tools.specs.Reading.{TellsIfRead, UsesSource, is_unfit}
 use Rattle.af_toolkit.specs.Ends.{MatchesTrace, ObservedTrace, is_outer}
 use Rattle.af_relay.specs.Pass.{Both, RelayDeeds, RelayTrace, apass_trace, both, deeds, doing, relay_of, relays}
 use Rattle.af_tools.specs.Sounds.{most_bytes}
@@ -202,7 +201,7 @@ module _ (order : Order) where
 pub not_too_long : {S : Type 0} {left : S → Option (List ℕ)} {faults : S → ℕ} {form : Option SoundForm} {how : ToolEnd} {bytes : List ℕ} {source source' : S} (j : Job) → is_of_job j how ≡ true →
     UsesSource left faults (job_reads j) form how source source' → TellsIfRead left (job_reads j) bytes source source' → length bytes ≤ most_bytes → how ≡ end.TooLong → ⊥
 not_too_long {left} {bytes} {source} {source'} (one server order (task.Play job)) is uses tells few long =
-    let given = uses.long long in
+    let given = uses.shows.long long in
     let known = consumed_known (left source) (left source') bytes given.text (tells refl).0 given.consumed (tells refl).1 in
     let beyond = given.beyond in
     let all : length bytes ≡ length given.text + length known.0 = ap length known.2 ∙ length-append given.text known.0 in

@@ -4,7 +4,7 @@ use Rattle.af_toolkit.specs.declared.end.ToolEnd.{ToolEnd}
 use Rattle.af_toolkit.specs.Trace.{Trace, Finish, bad_sound, channel_mismatch, mismatch, no_device, sound_cut, tool_end}
 use Rattle.af_toolkit.specs.Ends.{MatchesTrace, is_outer}
 use Rattle.af_toolkit.proofs.ToolEndLemmas.{ends_as, finish_is}
-use Rattle.af_tools.specs.Results.{is_unfit, EndsIfUnfit}
+use Rattle.af_tools.specs.Reading.{is_unfit, EndsIfUnfit}
 
 -- an end of a result
 pub err_of : {T : Type 0} (how other : ToolEnd) → how ≡ other → IsErrOf {T = T} (Err how) other

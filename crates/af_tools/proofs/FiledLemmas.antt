@@ -25,13 +25,13 @@ use Rattle.af_toolkit.specs.declared.end.ToolEnd.TheVariants as end
 use Rattle.af_dialogue.specs.Parts.{Outcome, after_deeds, called, goes_on, has_value, outcome}
 use Rattle.af_dialogue.proofs.PartLemmas.{first_ok, goes_by}
 use Rattle.af_time.specs.declared.DevTime.{DevTime}
-use Rattle.af_toolkit.specs.Trace.{Trace, ClientState, after_reply, answer_on, done, ends, next_message, on_device, refused}
+use Rattle.af_toolkit.specs.Trace.{Trace, ClientState, after_reply, answer_on, done, ends, next_message, refused}
 use Rattle.af_toolkit.specs.ToolParts.{ToolDeeds, ToolPart, asks, begins, deeds, doing, trace_of, writes}
 use Rattle.af_toolkit.specs.Ends.{ObservedTrace}
 use Rattle.af_tools.specs.declared.record.RecordedSound.{RecordedSound}
 use Rattle.af_tools.specs.Record.{as_filed, as_raw, coding_in, front_of_recording, pad_after, recorded_sound, recorded_type, recording_of, IsFiledAs, arecord_trace, block_lengths, ends_row, peak, record_context, recorded_frame, records_on, records, records_all, takes_block, writes_recording, IsRecorded}
 use Rattle.af_tools.specs.Sounds.{AreWhole}
-use Rattle.af_tools.proofs.PlayedBlockLemmas.{on_device_done}
+use Rattle.af_tools.proofs.PlayedBlockLemmas.{on_device, on_device_done}
 use Rattle.af_toolkit.proofs.ToolEndLemmas.{asks_answered, asks_first, is_whole, part_answered}
 use Rattle.af_tools.proofs.RecordBlockLemmas.{whole_frames}
 

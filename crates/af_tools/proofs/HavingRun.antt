@@ -1,14 +1,14 @@
 -- What a tool on one connection has done, if it followed its trace.
-use Rattle.std.proofs.Common.{◌≡◌, ◌==◌, ◌+◌, ◌-◌, ℕ, Bool, true, false, nat_lt, if◌then◌else◌, ◌<◌, ◌≤◌, List, drop, length-append, length-drop, length, slice_get, refl, ap, ◌∙◌, arith, inl, inr, Option, None, Some}
+use Rattle.std.proofs.Common.{◌≡◌, ◌==◌, ◌+◌, ◌-◌, ℕ, true, ◌<◌, ◌≤◌, List, drop, length-append, length-drop, length, slice_get, refl, ap, ◌∙◌, arith, inl, inr, Ok, Option, None, Some}
 use Rattle.std.proofs.lemmas.Bool.Decides.{nat_tests}
 use Rattle.std.proofs.lemmas.Option.{slice_get_cases}
 use Rattle.af_request.specs.declared.reply.DeviceInfo.{DeviceInfo}
 use Rattle.af_request.specs.Replies.{IsDeviceInfo}
 use Rattle.af_toolkit.specs.declared.end.ToolEnd.{ToolEnd}
-use Rattle.af_toolkit.specs.Trace.{Trace, ClientState, done, ends, refused, too_long, with_job_device, writes_first}
+use Rattle.af_toolkit.specs.Trace.{Trace, ClientState, done, ends, refused, trace_by, with_job_device, writes_first}
 use Rattle.af_toolkit.specs.ToolParts.{trace_of}
-use Rattle.af_toolkit.specs.Ends.{ObservedTrace}
-use Rattle.af_toolkit.proofs.ToolEndLemmas.{IsDoneOrRefused, done_where_answered, ends_by_reply, part_finish}
+use Rattle.af_toolkit.specs.Ends.{ObservedTrace, ToolRan}
+use Rattle.af_toolkit.proofs.ToolEndLemmas.{IsDoneOrRefused, part_finish, tool_ran}
 use Rattle.af_cli.specs.declared.job.PlayJob.{PlayJob}
 use Rattle.af_cli.specs.declared.job.RecordJob.{RecordJob}
 use Rattle.af_cli.specs.declared.job.SetJob.{SetJob}
@@ -18,13 +18,14 @@ use Rattle.af_sound.specs.Fronts.{front_of, Front}
 use Rattle.af_sound.proofs.FrontLemmas.{front, front_head}
 use Rattle.af_sample.specs.declared.sample_type.SampleType.{SampleType}
 use Rattle.af_tools.specs.declared.sound.SourceSound.{SourceSound}
-use Rattle.af_tools.specs.Sounds.{most_bytes, at_one_shape, file_sound, raw_sound, reads_front, reads_sound, GivesSamples, IsFileSound, IsPlayable}
+use Rattle.af_tools.specs.Sounds.{most_bytes, file_sound, raw_sound, reads_file, reads_sound, GivesSamples, IsFileSound, IsPlayable}
+use Rattle.af_tools.proofs.HeadReadLemmas.{front_within}
 use Rattle.af_tools.specs.Play.{aplay_trace}
 use Rattle.af_tools.proofs.EndLemmas.{ends_if_unfit}
 use Rattle.af_tools.specs.Record.{arecord_trace, records_on}
 use Rattle.af_standing.specs.ControlsReport.{controls_report_text}
 use Rattle.af_tools.specs.Set.{aset_trace, sets_on}
-use Rattle.af_tools.specs.Results.{AplayRan, ToolRan}
+use Rattle.af_tools.specs.Reading.{AplayRan}
 use Rattle.af_tools.proofs.TraceEndLemmas.{played_finish}
 use Rattle.af_tools.proofs.PlayedBlockLemmas.{is_played}
 use Rattle.af_tools.proofs.DeviceChoiceLemmas.{IsMissing, IsThere, followed_missing, followed_there, missing_at, reported, stated_at}
@@ -36,47 +37,36 @@ device_at devices number there = elim ((slice_get_cases devices number).1) [
   | inr beyond ↦ absurd (let b = beyond.0 in omega arith)
 ]
 
-one_shape : (b c : Bool) (next other another : Trace) → b ≡ true → c ≡ true → (if b then (if c then next else other) else another) ≡ next
-one_shape b c next other another is is' = rw (is, is') refl
-
-equal_number : (m n : ℕ) → m ≡ n → (m == n) ≡ true
-equal_number m n is = grind (arith, nat_tests)
-
-fits_front : (b : Bool) (next : Trace) → b ≡ false → (if b then ends too_long else next) ≡ next
-fits_front b next is = rw is refl
-
--- what follows the header of a sound that the device plays
-sound_read : (form : SoundForm) (job : PlayJob) (device : DeviceInfo) (bytes : List ℕ) (next : SourceSound → List ℕ → Trace) (ty : SampleType) (samples : List ℕ) → IsFileSound form device bytes ty samples → length bytes ≤ most_bytes →
-    (sound : SourceSound) × (rest : List ℕ) × (sound.head + length rest ≤ most_bytes) × (reads_sound (Some form) job device bytes next ≡ next sound rest)
-sound_read form job device bytes next ty samples s few =
+-- a sound that the device plays
+sound_read : (form : SoundForm) (job : PlayJob) (device : DeviceInfo) (bytes : List ℕ) (ty : SampleType) (samples : List ℕ) → IsFileSound form device bytes ty samples → length bytes ≤ most_bytes →
+    (sound : SourceSound) × (rest : List ℕ) × (sound.head + length rest ≤ most_bytes) × (reads_sound (Some form) job device bytes ≡ Ok (sound, rest))
+sound_read form job device bytes ty samples s few =
     let size = length s.front in
     let said : front_of form bytes ≡ front (step.Head s.head) size = ap (front_of form) s.is ∙ front_head form s.front s.rest s.head s.is_head in
     let len : length bytes ≡ length s.front + length s.rest = ap length s.is ∙ length-append s.front s.rest in
     let left : length (drop size bytes) ≡ length bytes - size = length-drop size bytes in
-    let test : nat_lt most_bytes size ≡ false = grind (arith, nat_tests) in (
-      file_sound device s.head size,
-      drop size bytes,
-      omega arith,
-      ap (λ (f : Front). reads_front f (λ head. at_one_shape head device (next (file_sound device head f.size) (drop f.size bytes)))) said
-          ∙ fits_front (nat_lt most_bytes size) (at_one_shape s.head device (next (file_sound device s.head size) (drop size bytes))) test
-          ∙ one_shape (s.head.rate == device.rate) (s.head.channels == device.channels) (next (file_sound device s.head size) (drop size bytes)) _ _ (equal_number s.head.rate device.rate s.one_rate) (equal_number s.head.channels device.channels s.one_shape),
-    )
+    let rate : (s.head.rate == device.rate) ≡ true = (let is = s.one_rate in grind (arith, nat_tests)) in
+    let channels : (s.head.channels == device.channels) ≡ true = (let is = s.one_shape in grind (arith, nat_tests)) in
+    (file_sound device s.head size, drop size bytes, omega arith, ap (λ (f : Front). reads_file device f bytes) said ∙ rw (front_within (step.Head s.head) size (omega arith), rate, channels) refl)
 
 playable_finish : (form : Option SoundForm) (job : PlayJob) (device : DeviceInfo) (bytes : List ℕ) (w : ClientState) (ty : SampleType) (samples : List ℕ) → GivesSamples form job device bytes ty samples → length bytes ≤ most_bytes →
-    IsDoneOrRefused (reads_sound form job device bytes (reported job device w)).finish
+    IsDoneOrRefused (trace_by (reads_sound form job device bytes) (reported job device w)).finish
 playable_finish None job device bytes w ty samples is few = played_finish job (raw_sound job device) device bytes w _ (omega arith) (λ p. inl refl)
 playable_finish (Some form) job device bytes w ty samples is few =
-    let r = sound_read form job device bytes (reported job device w) ty samples is few in
+    let r = sound_read form job device bytes ty samples is few in
     rw r.3 (played_finish job r.0 device r.1 w _ r.2 (λ p. inl refl))
 
-aplay_is : (job : PlayJob) (devices : List DeviceInfo) (bytes : List ℕ) (w : ClientState) →
-    aplay_trace job devices bytes w ≡ with_job_device job.device devices (λ device. reads_sound job.form job device bytes (reported job device w))
+-- what a source gives is played on its device
+abbrev pub source_played : PlayJob → List ℕ → ClientState → DeviceInfo → Trace
+source_played job bytes w device = trace_by (reads_sound job.form job device bytes) (reported job device w)
+
+aplay_is : (job : PlayJob) (devices : List DeviceInfo) (bytes : List ℕ) (w : ClientState) → aplay_trace job devices bytes w ≡ with_job_device job.device devices (source_played job bytes w)
 unfolding aplay_trace
 aplay_is job devices bytes w = refl
 
-aplay_finish : (job : PlayJob) (devices : List DeviceInfo) (bytes : List ℕ) (w : ClientState) (device : DeviceInfo) → slice_get devices job.device ≡ Some device → IsPlayable job device bytes → length bytes ≤ most_bytes → IsDoneOrRefused (aplay_trace job devices bytes w).finish
-aplay_finish job devices bytes w device there playable few =
-    rw (aplay_is job devices bytes w, there) (playable_finish job.form job device bytes w playable.0 playable.1 playable.2 few)
+aplay_finish : (job : PlayJob) (devices : List DeviceInfo) (bytes : List ℕ) (w : ClientState) → IsPlayable job devices bytes → IsDoneOrRefused (aplay_trace job devices bytes w).finish
+aplay_finish job devices bytes w p =
+    rw (aplay_is job devices bytes w, p.1) (playable_finish job.form job p.0 bytes w p.3 p.4 p.5 p.2)
 
 -- a tool on the device with a number; on each device it is done or refused
 pub record IsOnDevice (trace : Trace) (number : ℕ) (devices : List DeviceInfo) (each : DeviceInfo → Trace) : Type 0 where
@@ -93,40 +83,32 @@ unfolding aset_trace
 aset_on job devices w = record { is = refl; finish = λ device. part_finish (sets_on job device w).end _ (λ s. inl refl) }
 
 module _ (trace : Trace) (number : ℕ) (devices : List DeviceInfo) (each : DeviceInfo → Trace) (t : IsOnDevice trace number devices each) where
-  followed_ran : (how : ToolEnd) (s s' h h' : Option (List ℕ)) → ObservedTrace trace how s s' h h' → ToolRan trace number devices how s s' h h'
-  followed_ran how s s' h h' f = record {
-    followed = f;
-    reply = ends_by_reply trace how s s' h h' f;
-    complete = λ there answered.
-        let d = device_at devices number there in
-        done_where_answered trace how f.sends f.output f.ended (rw (t.is, d.1) (t.finish d.0)) answered;
-  }
+  followed_ran : (how : ToolEnd) (s s' h h' : Option (List ℕ)) → ObservedTrace trace how s s' h h' → ToolRan (number < length devices) trace how s s' h h'
+  followed_ran how s s' h h' f = tool_ran f (λ there. let d = device_at devices number there in rw (t.is, d.1) (t.finish d.0))
 
   -- the device does not exist, and nothing was sent
-  pub missing_ran : (how : ToolEnd) (s h : Option (List ℕ)) → IsMissing devices number how → ToolRan trace number devices how s s h h
+  pub missing_ran : (how : ToolEnd) (s h : Option (List ℕ)) → IsMissing devices number how → ToolRan (number < length devices) trace how s s h h
   missing_ran how s h m = followed_ran how s s h h (followed_missing each t.is m)
 
   -- the device exists, and the tool did what it does on it
-  pub there_ran : (device : DeviceInfo) (how : ToolEnd) (s s' h h' : Option (List ℕ)) → IsThere devices number device → ObservedTrace (each device) how s s' h h' → ToolRan trace number devices how s s' h h'
+  pub there_ran : (device : DeviceInfo) (how : ToolEnd) (s s' h h' : Option (List ℕ)) → IsThere devices number device → ObservedTrace (each device) how s s' h h' → ToolRan (number < length devices) trace how s s' h h'
   there_ran device how s s' h h' d f = followed_ran how s s' h h' (followed_there each t.is d f)
 
 aplay_ran : (job : PlayJob) (devices : List DeviceInfo) (bytes : List ℕ) (w : ClientState) (how : ToolEnd) (s s' h h' : Option (List ℕ)) → 1 ≤ job.block →
     ((d : DeviceInfo) → slice_get devices job.device ≡ Some d → IsDeviceInfo d) → ObservedTrace (aplay_trace job devices bytes w) how s s' h h' → AplayRan job devices bytes w how s s' h h'
 aplay_ran job devices bytes w how s s' h h' some stated f = record {
-  followed = f;
+  ran = tool_ran f (aplay_finish job devices bytes w);
   heard = λ way. is_played job devices bytes w how s s' h h' f way some stated;
-  reply = ends_by_reply (aplay_trace job devices bytes w) how s s' h h' f;
   unfit = ends_if_unfit f.ended;
-  complete = λ device there playable few answered. done_where_answered (aplay_trace job devices bytes w) how f.sends f.output f.ended (aplay_finish job devices bytes w device there playable few) answered;
 }
 
 -- the device of aplay is not there, and nothing was sent
 pub aplay_missing_ran : (job : PlayJob) {devices : List DeviceInfo} {bytes : List ℕ} {w : ClientState} {how : ToolEnd} {s h : Option (List ℕ)} → 1 ≤ job.block → IsMissing devices job.device how → AplayRan job devices bytes w how s s h h
 aplay_missing_ran job {devices} {bytes} {w} {how} {s} {h} some m =
-    aplay_ran job devices bytes w how s s h h some (missing_at devices job.device m.get) (followed_missing (λ device. reads_sound job.form job device bytes (reported job device w)) (aplay_is job devices bytes w) m)
+    aplay_ran job devices bytes w how s s h h some (missing_at devices job.device m.get) (followed_missing (source_played job bytes w) (aplay_is job devices bytes w) m)
 
 -- it is there, and the source was read and played
 pub aplay_there_ran : (job : PlayJob) {devices : List DeviceInfo} {bytes : List ℕ} {w : ClientState} {how : ToolEnd} {s s' h h' : Option (List ℕ)} {device : DeviceInfo} → 1 ≤ job.block → IsThere devices job.device device → IsDeviceInfo device →
-    ObservedTrace (reads_sound job.form job device bytes (reported job device w)) how s s' h h' → AplayRan job devices bytes w how s s' h h'
+    ObservedTrace (source_played job bytes w device) how s s' h h' → AplayRan job devices bytes w how s s' h h'
 aplay_there_ran job {devices} {bytes} {w} {how} {s} {s'} {h} {h'} {device} some t stated f =
-    aplay_ran job devices bytes w how s s' h h' some (stated_at devices job.device device t.get stated) (followed_there (λ device. reads_sound job.form job device bytes (reported job device w)) (aplay_is job devices bytes w) t f)
+    aplay_ran job devices bytes w how s s' h h' some (stated_at devices job.device device t.get stated) (followed_there (source_played job bytes w) (aplay_is job devices bytes w) t f)

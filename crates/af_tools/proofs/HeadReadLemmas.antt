@@ -1,5 +1,5 @@
 -- The front of a file is read byte by byte.
-use Rattle.std.proofs.Common.{◌≡◌, ◌<◌, ◌≤◌, ℕ, ◌+◌, nat_lt, true, false, Bool, List, [], ◌∷◌, ◌++◌, length, take, drop, slice_index, refl, sym, ap, ◌∙◌, subst, arith, inr, append-nil, append_assoc, length-append, if◌then◌else◌, IsSome, Ok, Err, Option, Some}
+use Rattle.std.proofs.Common.{◌≡◌, ◌<◌, ◌≤◌, ℕ, ◌+◌, nat_lt, true, false, Bool, List, [], ◌∷◌, ◌++◌, length, take, drop, slice_index, refl, sym, ap, ◌∙◌, subst, arith, inr, append-nil, append_assoc, length-append, if◌then◌else◌, IsErrOf, IsSome, Ok, Err, Option, Some}
 use Rattle.af_tools.proofs.SourceCountLemmas.{spent_none}
 use Rattle.std.proofs.lemmas.Bool.Decides.{nat_tests}
 use Rattle.std.proofs.lemmas.List.{drop_at, take_all}
@@ -16,11 +16,12 @@ use Rattle.af_sound.specs.Fronts.{front_of, Front}
 use Rattle.af_sound.specs.Heads.{HasFault, IsHead}
 use Rattle.af_sound.specs.Reading.{HasTaken, IsOpen}
 use Rattle.af_sound.proofs.FrontLemmas.{front, front_beyond, front_fault, front_head, front_open}
+use Rattle.af_toolkit.specs.declared.end.ToolEnd.{ToolEnd}
 use Rattle.af_toolkit.specs.declared.end.ToolEnd.TheVariants as end
-use Rattle.af_toolkit.specs.Trace.{Trace, bad_sound, ends, sound_cut, too_long}
+use Rattle.af_toolkit.specs.Trace.{bad_sound, sound_cut, too_long}
 use Rattle.af_tools.specs.declared.sound.FileHead.{FileHead}
-use Rattle.af_tools.specs.Sounds.{most_bytes, after_header, reads_front}
-use Rattle.af_tools.specs.Reading.{ConsumedCut, ConsumedFault, ConsumedHead, HeadCame, TakesFront}
+use Rattle.af_tools.specs.Sounds.{most_bytes, header_or_end, reads_front}
+use Rattle.af_tools.specs.Reading.{ConsumedCut, ConsumedFault, ConsumedHead, EndShows, HeadCame}
 
 -- a reader has taken what a source gave
 pub record HasRead (form : SoundForm) (reader : HeadReader) (size : ℕ) (before after : Option (List ℕ)) : Type 0 where
@@ -31,6 +32,12 @@ pub record HasRead (form : SoundForm) (reader : HeadReader) (size : ℕ) (before
 
 pub read_begin : (form : SoundForm) (reader : HeadReader) (before : Option (List ℕ)) → HasTaken reader form [] → HasRead form reader 0 before before
 read_begin form reader before taken = record { bytes = []; consumed = consumed_none before; all = refl; taken = taken }
+
+-- a front of few enough bytes says what it says
+pub front_within : (says : HeadStep) (n : ℕ) → n ≤ most_bytes → reads_front (front says n) ≡ header_or_end says
+front_within says n few =
+    let test : nat_lt most_bytes n ≡ false = grind (arith, nat_tests) in
+    ap (λ (t : Bool). if t then Err too_long else header_or_end says) test
 
 -- the one byte that was read
 one_byte : (into : List ℕ) → length into ≡ 1 → into ≡ slice_index into 0 ∷ []
@@ -57,27 +64,23 @@ module _ {form : SoundForm} {reader : HeadReader} {size : ℕ} {a b : Option (Li
       let whole : bytes ≡ h.bytes = k.2 ∙ ap (λ (l : List ℕ). h.bytes ++ l) none ∙ append-nil h.bytes in
       let said : front_of form bytes ≡ front step.More (length h.bytes) = ap (front_of form) whole ∙ front_open form reader h.bytes h.taken opens in
       let all = h.all in
-      inr (sound_cut, refl, λ next. ap (λ (f : Front). reads_front f next) said ∙ fits (length h.bytes) step.More next (omega arith)) where
-        fits : (n : ℕ) (says : HeadStep) (next : SoundHead → Trace) → n ≤ most_bytes → reads_front (front says n) next ≡ after_header says next
-        fits n says next few =
-            let test : nat_lt most_bytes n ≡ false = grind (arith, nat_tests) in
-            ap (λ (t : Bool). if t then ends too_long else after_header says next) test
+      inr (sound_cut, refl, ap reads_front said ∙ front_within step.More (length h.bytes) (omega arith))
 
   read_cut : IsOpen reader → IsSpent b → ConsumedCut (Some form) a b
   read_cut opens spent = record {
     bytes = h.bytes;
     consumed = h.consumed;
     spent = spent;
-    of = form;
-    is_form = refl;
-    no_head = λ start rest head is has.
-        let bad : front step.More (length h.bytes) ≡ front (step.Head head) (length start) = sym (front_open form reader h.bytes h.taken opens) ∙ ap (front_of form) is ∙ front_head form start rest head has in
-        let other : step.More ≡ step.Head head = ap (λ (f : Front). f.says) bad in
-        cc;
-    no_fault = λ start rest fault is has.
-        let bad : front step.More (length h.bytes) ≡ front (step.Bad fault) (length start) = sym (front_open form reader h.bytes h.taken opens) ∙ ap (front_of form) is ∙ front_fault form start rest fault has in
-        let other : step.More ≡ step.Bad fault = ap (λ (f : Front). f.says) bad in
-        cc;
+    undecided = λ start rest is. (
+      λ head has.
+          let bad : front step.More (length h.bytes) ≡ front (step.Head head) (length start) = sym (front_open form reader h.bytes h.taken opens) ∙ ap (front_of form) is ∙ front_head form start rest head has in
+          let other : step.More ≡ step.Head head = ap (λ (f : Front). f.says) bad in
+          cc,
+      λ fault has.
+          let bad : front step.More (length h.bytes) ≡ front (step.Bad fault) (length start) = sym (front_open form reader h.bytes h.taken opens) ∙ ap (front_of form) is ∙ front_fault form start rest fault has in
+          let other : step.More ≡ step.Bad fault = ap (λ (f : Front). f.says) bad in
+          cc,
+    );
   }
 
   module _ {byte : ℕ} {c : Option (List ℕ)} (more : IsByteRead byte b c) where
@@ -101,15 +104,9 @@ module _ {form : SoundForm} {reader : HeadReader} {size : ℕ} {a b : Option (Li
         let beyond = front_beyond form reader h.bytes byte k.0 h.taken opens in
         let all = h.all in
         let test : nat_lt most_bytes (front_of form (h.bytes ++ (byte ∷ k.0))).size ≡ true = grind (arith, nat_tests) in
-        inr (
-          too_long,
-          refl,
-          λ next.
-              ap (λ (l : List ℕ). reads_front (front_of form l) next) parts
-              ∙ ap (λ (t : Bool). if t then ends too_long else after_header (front_of form (h.bytes ++ (byte ∷ k.0))).says next) test,
-        )
+        inr (too_long, refl, ap (λ (l : List ℕ). reads_front (front_of form l)) parts ∙ ap (λ (t : Bool). if t then Err too_long else header_or_end (front_of form (h.bytes ++ (byte ∷ k.0))).says) test)
 
-    pub takes_too_long : most_bytes ≤ size → TakesFront {X = FileHead} (Some form) (Err end.TooLong) a c
+    pub takes_too_long : most_bytes ≤ size → EndShows (Some form) (IsErrOf {T = FileHead} (Err end.TooLong)) a c
     takes_too_long many = record {
       bad = λ fault is. cc is;
       cut = λ is. cc is;
@@ -129,7 +126,7 @@ module _ {form : SoundForm} {reader : HeadReader} {size : ℕ} {a b : Option (Li
     pub read_head : (head : SoundHead) → size < most_bytes → IsHead form (h.bytes ++ (byte ∷ [])) head → ConsumedHead (Some form) (size + 1) head.length a c
     read_head head few is = record { bytes = h.bytes ++ (byte ∷ []); consumed = all_read; all = read_long; within = omega arith; is_head = (head, is, refl) }
 
-    pub takes_head : {file : FileHead} → size < most_bytes → TakesFront (Some form) (Ok file) a c
+    pub takes_head : {file : FileHead} → size < most_bytes → EndShows (Some form) (IsErrOf {T = FileHead} {E = ToolEnd} (Ok file)) a c
     takes_head few = record { bad = λ fault is. cc is; cut = λ is. cc is; long = λ is. cc is; within = λ _. read_more_within few }
 
     -- a fault shows
@@ -137,12 +134,11 @@ module _ {form : SoundForm} {reader : HeadReader} {size : ℕ} {a b : Option (Li
     read_bad fault few has bytes told tells =
         let k = consumed_known a c bytes (h.bytes ++ (byte ∷ [])) told all_read tells in
         let said : front_of form bytes ≡ front (step.Bad fault) (size + 1) = ap (front_of form) k.2 ∙ front_fault form (h.bytes ++ (byte ∷ [])) k.0 fault has ∙ ap (front (step.Bad fault)) read_long in
-        let test : nat_lt most_bytes (size + 1) ≡ false = grind (arith, nat_tests) in
-        inr (bad_sound fault, refl, λ next. ap (λ (f : Front). reads_front f next) said ∙ ap (λ (t : Bool). if t then ends too_long else ends (bad_sound fault)) test)
+        inr (bad_sound fault, refl, ap reads_front said ∙ front_within (step.Bad fault) (size + 1) (omega arith))
 
-    pub takes_bad : (fault : SoundFault) → size < most_bytes → HasFault form (h.bytes ++ (byte ∷ [])) fault → TakesFront {X = FileHead} (Some form) (Err (end.BadSound fault)) a c
+    pub takes_bad : (fault : SoundFault) → size < most_bytes → HasFault form (h.bytes ++ (byte ∷ [])) fault → EndShows (Some form) (IsErrOf {T = FileHead} (Err (end.BadSound fault))) a c
     takes_bad fault few has = record {
-      bad = λ other is. subst (λ (f : SoundFault). ConsumedFault (Some form) f a c) (let same : fault ≡ other = cc is in same) (record { bytes = h.bytes ++ (byte ∷ []); consumed = all_read; of = form; is_form = refl; has = has });
+      bad = λ other is. subst (λ (f : SoundFault). ConsumedFault (Some form) f a c) (let same : fault ≡ other = cc is in same) (record { bytes = h.bytes ++ (byte ∷ []); consumed = all_read; has = has });
       cut = λ is. cc is;
       long = λ is. cc is;
       within = λ _. read_more_within few;
@@ -161,8 +157,8 @@ module _ {form : SoundForm} {reader : HeadReader} {size : ℕ} {a b : Option (Li
   pub ended_read : IsOpen reader → IsSpent c → (bytes : List ℕ) → a ≡ Some bytes → IsSome c → HeadCame form bytes (Err end.SoundCut) c
   ended_read opens spent = read_spent (read_none h none) opens few spent
 
-  pub takes_cut : IsOpen reader → IsSpent c → TakesFront {X = FileHead} (Some form) (Err end.SoundCut) a c
+  pub takes_cut : IsOpen reader → IsSpent c → EndShows (Some form) (IsErrOf {T = FileHead} (Err end.SoundCut)) a c
   takes_cut opens spent = record { bad = λ fault is. cc is; cut = λ _. read_cut (read_none h none) opens spent; long = λ is. cc is; within = λ _. read_within (read_none h none) few }
 
-  pub takes_failed : TakesFront {X = FileHead} (Some form) (Err end.ReadFault) a c
+  pub takes_failed : EndShows (Some form) (IsErrOf {T = FileHead} (Err end.ReadFault)) a c
   takes_failed = record { bad = λ fault is. cc is; cut = λ is. cc is; long = λ is. cc is; within = λ _. read_within (read_none h none) few }

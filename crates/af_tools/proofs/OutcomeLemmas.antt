@@ -26,7 +26,8 @@ use Rattle.af_toolkit.specs.Trace.{Trace, ClientState, Finish, connects, done, t
 use Rattle.af_cli.specs.Call.{IsCall, job_of_call}
 use Rattle.af_cli.specs.Ranges.{IsPaced, IsRanged}
 use Rattle.af_relay.specs.Pass.{Both, RelayDeeds, RelayTrace, apass_trace, both, doing, finish_of, relay_of, relays}
-use Rattle.af_tools.specs.Run.{no_client, relay_trace, relays_to, JobDone, JobRan, RelayRan, SetUpFirst, UsedServer, one_trace, task_trace}
+use Rattle.af_tools.specs.Run.{no_client, relay_trace, relays_to, JobDone, JobRan, RelayRan, UsedServer, one_trace, task_trace}
+use Rattle.af_tools.specs.Reading.{SetUpFirst}
 use Rattle.af_tools.specs.Play.{IsPlayed}
 use Rattle.af_tools.specs.Sounds.{most_bytes}
 use Rattle.af_tools.specs.Record.{IsRecorded}
@@ -180,7 +181,7 @@ module _ (order : Order) where
     ran_listed r =
         let d = one_done task.List r in
         let l = list_ran d.server.devices (client_after_setup order d.server.link.gives) how _ _ held held' d.used in
-        record { server = d.server; sends = d.sends; used = (l.followed.output, l.listed way, l.followed.sink); link = d.link }
+        record { server = d.server; sends = d.sends; used = (l.ran.followed.output, l.listed way, l.ran.followed.sink); link = d.link }
 
 -- what a tool did that ran
 pub did : (j : Job) (bytes : List ℕ) (how : ToolEnd) (links : List ToldLink) (links' : Option (List ToldLink)) (held held' : Option (List ℕ)) (back back' : Option (List (List ℕ))) →

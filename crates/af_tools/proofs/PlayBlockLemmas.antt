@@ -7,11 +7,11 @@ use Rattle.std.proofs.Math.Nat.{div-le_self}
 use Rattle.af_io.specs.Observed.{Consumed}
 use Rattle.af_request.specs.Asked.{play_run}
 use Rattle.af_lib.specs.Calls.{as_time}
-use Rattle.af_dialogue.specs.Parts.{goes_on, has_value}
+use Rattle.af_dialogue.specs.Parts.{goes_on, has_value, stops}
 use Rattle.af_toolkit.specs.ToolParts.{doing}
 use Rattle.af_sound.specs.declared.head.Coding.{Coding}
 use Rattle.af_tools.specs.Sounds.{most_bytes, as_served}
-use Rattle.af_tools.specs.Play.{block_time, blocks, cut_blocks, frames_in, gives_too_much, play_asks, plays, whole_frames}
+use Rattle.af_tools.specs.Play.{block_time, blocks, cut_blocks, frames_in, of_source, play_asks, plays, whole_frames}
 
 -- a source gave exactly n bytes
 pub record ConsumedAll (count : ℕ) (before after : Option (List ℕ)) : Type 0 where
@@ -80,7 +80,7 @@ module _ (coding : Option Coding) (width start frames given : ℕ) where
       let whole : nat_lt 0 (length block / width) ≡ false = grind (arith, nat_tests) in
       rw (fits, whole) refl
 
-  pub plays_long : (block : List ℕ) (more : List (List ℕ)) → most_bytes < given + length block → plays coding width start frames given (block ∷ more) ≡ gives_too_much
+  pub plays_long : (block : List ℕ) (more : List (List ℕ)) → most_bytes < given + length block → plays coding width start frames given (block ∷ more) ≡ stops doing of_source
   unfolding plays
   plays_long block more beyond =
       let long : nat_lt most_bytes (given + length block) ≡ true = grind (arith, nat_tests) in
@@ -106,7 +106,7 @@ module _ (coding : Option Coding) (width start frames given : ℕ) where
   ]
 
   -- a block that goes beyond what is allowed
-  pub plays_beyond : (size : ℕ) (rest part later : List ℕ) → 0 < size → rest ≡ part ++ later → length part ≤ size → most_bytes < given + length part → given ≤ most_bytes → plays coding width start frames given (blocks size rest) ≡ gives_too_much
+  pub plays_beyond : (size : ℕ) (rest part later : List ℕ) → 0 < size → rest ≡ part ++ later → length part ≤ size → most_bytes < given + length part → given ≤ most_bytes → plays coding width start frames given (blocks size rest) ≡ stops doing of_source
   plays_beyond size rest part later some is fits beyond so_far =
       let len : length rest ≡ length part + length later = ap length is ∙ length-append part later in
       let first : length part ≤ length (take size rest) = omega (arith, length-take size rest) in

@@ -11,7 +11,7 @@ use Rattle.af_request.specs.Asked.{play_run}
 use Rattle.af_lib.specs.Calls.{as_time}
 use Rattle.af_toolkit.specs.declared.end.ToolEnd.{ToolEnd}
 use Rattle.af_toolkit.specs.declared.end.ToolEnd.TheVariants as end
-use Rattle.af_dialogue.specs.Parts.{Goes, IsProgramKind, goes_on, part_among}
+use Rattle.af_dialogue.specs.Parts.{Goes, IsProgramKind, goes_on, part_among, stops}
 use Rattle.af_dialogue.proofs.PartLemmas.{Reached, goes_stop, goes_value, reached_goes, reached_here, reached_on}
 use Rattle.af_toolkit.specs.Trace.{refused}
 use Rattle.af_toolkit.specs.ToolParts.{ToolPart, ToolSight, asks, deeds, doing, tooling}
@@ -20,7 +20,7 @@ use Rattle.af_tools.specs.declared.fill.FillFault.{FillFault}
 use Rattle.af_tools.specs.declared.fill.FillFault.TheVariants as fill
 use Rattle.af_tools.specs.declared.sound.SourceSound.{SourceSound}
 use Rattle.af_tools.specs.Sounds.{most_bytes, as_served, source_width, stated_after, stated_part, stated_room, FitsStated}
-use Rattle.af_tools.specs.Play.{PlayPart, block_time, blocks, frames_in, gives_too_much, of_reply, of_source, play_asks, play_finish, plays, plays_sound, whole_frames}
+use Rattle.af_tools.specs.Play.{PlayPart, block_time, blocks, frames_in, of_reply, of_source, play_asks, play_finish, plays, plays_sound, whole_frames}
 use Rattle.af_tools.specs.Reading.{fill_end, ConsumedAbove, FillsBlock, IsFirstBlock}
 use Rattle.af_io.proofs.ConsumedLemmas.{consumed_known, consumed_told}
 use Rattle.af_toolkit.proofs.ToolPartLemmas.{cut_goes, goes_among, is_tooling}
@@ -35,7 +35,7 @@ is_play = is_tooling play_finish
 pub play_goes : {X : Type 0} {part : ToolPart X} {r : Result X ToolEnd} {o p : ToolSight} → Goes (tooling refused) part r o p → Goes (tooling play_finish) (part_among of_reply part) r o p
 play_goes g = goes_among of_reply play_finish g
 
-too_much_goes : {o : ToolSight} → Goes {X = ℕ} (tooling play_finish) gives_too_much (Err end.TooLong) o o
+too_much_goes : {o : ToolSight} → Goes {X = ℕ} (tooling play_finish) (stops doing of_source) (Err end.TooLong) o o
 too_much_goes {o} = record { came = λ w stands. (deeds [] [], inr (of_source, refl, refl), is_play.shows_nothing o) }
 
 -- So many frames of a sound were played: the blocks of what is left of it follow. The source is to give so many bytes of the

@@ -1,5 +1,5 @@
 -- If aplay is done, each block was played.
-use Rattle.std.proofs.Common.{◌≡◌, ◌⊎◌, ℕ, ap₂, ◌+◌, ◌*◌, ◌/◌, ◌%◌, ◌^◌, ◌<◌, ◌≤◌, false, List, [], ◌∷◌, ◌++◌, length, map, slice_get, sym, ap, ◌∙◌, append-nil, subst, refl, arith, inl, inr, Result, Ok, Err, IsOk, flat_map, Option, None, Some}
+use Rattle.std.proofs.Common.{◌≡◌, ℕ, ap₂, ◌+◌, ◌*◌, ◌/◌, ◌%◌, ◌^◌, ◌<◌, ◌≤◌, false, List, [], ◌∷◌, ◌++◌, length, map, slice_get, sym, ap, ◌∙◌, append-nil, subst, refl, arith, inl, inr, Result, Ok, Err, IsOk, flat_map, ok_or, Option, None, Some}
 use Rattle.std.proofs.lemmas.Bool.{cases_lt}
 use Rattle.af_time.specs.DeviceTime.{frames_lasting}
 use Rattle.af_time.specs.declared.DevTime.{DevTime}
@@ -20,20 +20,19 @@ use Rattle.af_cli.specs.declared.job.PlayJob.{PlayJob}
 use Rattle.af_dialogue.specs.Parts.{Outcome, after_deeds, end_among, goes_on, has_value, outcome}
 use Rattle.af_dialogue.proofs.PartLemmas.{first_ok, goes_by}
 use Rattle.af_lib.specs.declared.fault.ConnFault.{ConnFault}
-use Rattle.af_toolkit.specs.Trace.{Trace, ClientState, answer_on, after_reply, done, ends, on_device, sends_first, writes_first}
+use Rattle.af_toolkit.specs.Trace.{Trace, ClientState, Finish, answer_on, after_reply, done, ends, no_device, sends_first, trace_by, writes_first}
 use Rattle.af_toolkit.specs.ToolParts.{ToolDeeds, asks, deeds, doing, trace_of}
 use Rattle.af_tools.specs.declared.player.Played.{Played}
 use Rattle.af_sound.specs.declared.head.Coding.{Coding}
-use Rattle.af_sound.specs.declared.head.SoundForm.{SoundForm}
 use Rattle.af_tools.specs.declared.sound.SourceSound.{SourceSound}
 use Rattle.af_tools.specs.Sounds.{most_bytes, as_served, reads_sound, source_width, stated_part, IsServedAs}
-use Rattle.af_tools.specs.Play.{PlayFault, PlayPart, aplay_trace, blocks, frames_in, of_reply, of_source, play_asks, play_context, play_finish, played_text, played_frames, plays_on, plays, plays_sound, start_at, whole_frames, Block, blocks_sent, play_of, played_whole, IsPlayed}
+use Rattle.af_tools.specs.Play.{PlayFault, PlayPart, aplay_trace, blocks, frames_in, of_reply, of_source, play_asks, play_context, play_finish, played_text, played_frames, plays_on, plays, plays_sound, start_at, whole_frames, Block, play_of, played_whole, sent_blocks, IsPlayed}
 use Rattle.af_toolkit.specs.Ends.{ObservedTrace}
 use Rattle.af_tools.proofs.PlayBlockLemmas.{plays_block, plays_last, plays_long, plays_none}
 use Rattle.af_tools.proofs.SentBlockLemmas.{frames_sent, sent_first, sent_last, sent_more, sent_no_more, frames_converted, sent_converted, sent_served, served_block}
 use Rattle.af_tools.proofs.HeardAsIntendedLemmas.{heard_as_intended}
 use Rattle.af_toolkit.proofs.ToolEndLemmas.{asks_answered, is_whole, part_ok}
-use Rattle.af_tools.proofs.SoundFitLemmas.{sound_cases, SoundRead, SoundRefused}
+use Rattle.af_tools.proofs.SoundFitLemmas.{sound_done}
 
 -- a request of aplay that came to a value, in a part that begins with it
 among_ok : {X : Type 0} (end : Result X ConnFault) → IsOk (end_among of_reply end) → IsOk end
@@ -120,7 +119,7 @@ done_on job sound device bytes w served channels begun ok =
     let context : List ℕ = request_bytes w.order (play_context job sound.ty sound.channels) in
     let time : List ℕ = request_bytes w.order (get_time job.device) in
     let whole : List ℕ = flat_map (play_of w.order start) (sent_served coding width 0 cut) in
-    let known : List ℕ = flat_map (play_of w.order start) (blocks_sent job sound.ty sound.channels samples) in
+    let known : List ℕ = flat_map (play_of w.order start) (sent_blocks sound.ty sound.channels (played_frames job sound.ty sound.channels) samples) in
     let same : whole ≡ known = ap (flat_map (play_of w.order start)) (sent_converted coding sound.ty sound.channels count part served channels some) in
     let end : List ℕ → List ℕ → ℕ → Outcome ToolDeeds (Played × ClientState) PlayFault = λ plays free n. outcome (deeds (context ++ (time ++ (plays ++ free))) []) (Ok (played n, after_reply p.after)) in (
       b.0,
@@ -136,15 +135,13 @@ play_undone : (cause : PlayFault) → play_finish cause ≡ done → ⊥
 play_undone (of_reply f) is = cc
 play_undone of_source is = cc
 
+-- a tool on a device that has to exist
+abbrev pub on_device : Option DeviceInfo → ℕ → (DeviceInfo → Trace) → Trace
+on_device o n next = trace_by (ok_or o (no_device n)) next
+
 pub on_device_done : (o : Option DeviceInfo) (n : ℕ) (next : DeviceInfo → Trace) → (on_device o n next).finish ≡ done → (device : DeviceInfo) × (o ≡ Some device) × (on_device o n next ≡ next device)
 on_device_done (Some device) n next way = (device, refl, refl)
 on_device_done None n next way = absurd (cc)
-
--- a tool that is done has read a sound
-sound_done : {form : Option SoundForm} {job : PlayJob} {device : DeviceInfo} {bytes : List ℕ} → SoundRead form job device bytes ⊎ SoundRefused form job device bytes →
-    (next : SourceSound → List ℕ → Trace) → (reads_sound form job device bytes next).finish ≡ done → SoundRead form job device bytes
-sound_done (inl read) next way = read
-sound_done (inr ended) next way = absurd (ended.undone (ap (λ (c : Trace). c.finish) (sym (ended.goes next)) ∙ way))
 
 pub is_played : (job : PlayJob) (devices : List DeviceInfo) (bytes : List ℕ) (w : ClientState) (how : ToolEnd) (s s' h h' : Option (List ℕ)) →
     ObservedTrace (aplay_trace job devices bytes w) how s s' h h' → how ≡ end.Done → 1 ≤ job.block →
@@ -155,16 +152,17 @@ is_played job devices bytes w how s s' h h' followed way some stated =
     let finish = all.finish in
     let reporting = λ (p : Played). writes_first (played_text p.frames p.start.0) (ends done) in
     let ending = λ (o : Outcome ToolDeeds (Played × ClientState) PlayFault). trace_of play_finish o reporting in
-    let d = on_device_done (slice_get devices job.device) (length devices) (λ device. reads_sound job.form job device bytes (λ sound rest. ending (plays_on job sound device rest w))) finish in
+    let playing = λ (device : DeviceInfo) (given : SourceSound × List ℕ). ending (plays_on job given.0 device given.1 w) in
+    let d = on_device_done (slice_get devices job.device) (length devices) (λ device. trace_by (reads_sound job.form job device bytes) (playing device)) finish in
     let device = d.0 in
-    let g = sound_done (sound_cases job.form job device bytes) (λ sound rest. ending (plays_on job sound device rest w)) (ap (λ (c : Trace). c.finish) (sym d.2) ∙ finish) in
+    let g = sound_done job.form job device bytes (playing device) (ap (λ (c : Trace). c.finish) (sym d.2) ∙ finish) in
     let sound = g.sound in
-    let goes = g.goes (λ sound rest. ending (plays_on job sound device rest w)) in
+    let goes = ap (λ (r : Result (SourceSound × List ℕ) Finish). trace_by r (playing device)) g.is in
     let samples : List ℕ = as_served sound.coding (stated_part sound.length g.rest) in
     let count : IsChannelCount device.channels = (stated device d.1).channels in
-    let alike : sound.channels ≡ device.channels = g.channels in
+    let alike : sound.channels ≡ device.channels = g.read.channels in
     let ok = part_ok play_finish play_undone (plays_on job sound device g.rest w).end reporting (ap (λ (c : Trace). c.finish) (sym (d.2 ∙ goes)) ∙ finish) in
-    let p = done_on job sound device g.rest w g.served (subst IsChannelCount (sym alike) count) some ok in
+    let p = done_on job sound device g.rest w g.read.served (subst IsChannelCount (sym alike) count) some ok in
     let start = start_at job.time p.0.0 (frames_lasting device.rate job.lead) in
     let is = d.2 ∙ goes ∙ ap ending p.3 ∙ ap (λ (n : ℕ). sends_first (played_whole w.order job sound.ty n samples start) (writes_first (played_text (length samples / frame_bytes sound.ty n) start) (ends done))) alike in
     record {
@@ -172,7 +170,7 @@ is_played job devices bytes w how s s' h h' followed way some stated =
       is_there = d.1;
       ty = sound.ty;
       samples = samples;
-      gives = g.gives;
+      gives = g.read.gives;
       now = p.0;
       told = p.2;
       start = start;

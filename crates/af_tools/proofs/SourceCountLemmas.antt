@@ -9,12 +9,11 @@ use Rattle.af_tools.specs.declared.fill.FillFault.TheVariants as fill
 use Rattle.af_sound.specs.declared.head.SoundForm.{SoundForm}
 use Rattle.af_io.specs.Flow.{ConsumedTooMuch, ConsumedWithin, IsSpent}
 use Rattle.af_tools.specs.Sounds.{most_bytes, stated_after, FitsStated}
-use Rattle.af_tools.specs.Reading.{fill_end, left_before, ConsumedHead, ConsumedSound, FillsBlock, HeadIs, IsFirstBlock, TakesSound, UsesSource, is_of_sound, TakesFront}
+use Rattle.af_tools.specs.Reading.{fill_end, left_before, ConsumedHead, ConsumedSound, FillsBlock, HeadIs, IsFirstBlock, TakesSound, UsesSource, is_of_sound, EndShows, is_of_blocks}
 use Rattle.af_io.proofs.ConsumedLemmas.{consumed_none, consumed_on}
 use Rattle.af_tools.proofs.EndLemmas.{err_of, of_err, never}
 use Rattle.af_tools.proofs.PlayBlockLemmas.{ConsumedAll}
 use Rattle.af_toolkit.specs.Ends.{is_of_link, is_of_report}
-use Rattle.af_tools.specs.Results.{is_of_blocks}
 
 -- what was given so far, and a block more
 pub given_on : {room allowed n given : ℕ} {len : Option ℕ} {block : List ℕ} {a b c : Option (List ℕ)} → ConsumedAll given a b → IsFirstBlock room allowed len n block b c → n ≤ length block → ConsumedAll (given + n) a c
@@ -177,10 +176,12 @@ module _ {S X : Type 0} (left : S → Option (List ℕ)) (faults : S → ℕ) {f
     memory = λ same. absurd (never is_of_report how end.OutOfMemory is refl same);
     unfound = λ n same. absurd (never is_of_report how (end.NoDevice n) is refl same);
     spent = λ _ _. sound_spent h t;
-    long = λ same. absurd (never is_of_report how end.TooLong is refl same);
-    within = λ _. head_within h t (λ bad. cc bad);
-    bad = λ f same. absurd (never is_of_report how (end.BadSound f) is refl same);
-    cut = λ same. absurd (never is_of_report how end.SoundCut is refl same);
+    shows = record {
+      long = λ same. absurd (never is_of_report how end.TooLong is refl same);
+      within = λ _. head_within h t (λ bad. cc bad);
+      bad = λ f same. absurd (never is_of_report how (end.BadSound f) is refl same);
+      cut = λ same. absurd (never is_of_report how end.SoundCut is refl same);
+    };
     failed = (omega arith, λ same. absurd (never is_of_report how end.ReadFault is refl same));
   }
 
@@ -193,24 +194,28 @@ module _ {S X : Type 0} (left : S → Option (List ℕ)) (faults : S → ℕ) {f
         memory = λ same. absurd (never is_of_blocks how end.OutOfMemory is refl same);
         unfound = λ n same. absurd (never is_of_blocks how (end.NoDevice n) is refl same);
         spent = λ same _. absurd (never is_of_blocks how end.Done is refl same);
-        long = λ same. head_beyond h t (err_of how end.TooLong same);
-        within = λ other. head_within h t (λ bad. other (of_err how end.TooLong bad));
-        bad = λ f same. absurd (never is_of_blocks how (end.BadSound f) is refl same);
-        cut = λ same. absurd (never is_of_blocks how end.SoundCut is refl same);
+        shows = record {
+          long = λ same. head_beyond h t (err_of how end.TooLong same);
+          within = λ other. head_within h t (λ bad. other (of_err how end.TooLong bad));
+          bad = λ f same. absurd (never is_of_blocks how (end.BadSound f) is refl same);
+          cut = λ same. absurd (never is_of_blocks how end.SoundCut is refl same);
+        };
         failed = (omega arith, λ same. counted_before (faults source) (faults middle) count (faults source') (counts.1 (err_of how end.ReadFault same)));
       }
 
 -- the tool ended for the front of the source, or for its device
-pub unsound_use : {S X : Type 0} (left : S → Option (List ℕ)) (faults : S → ℕ) {form : Option SoundForm} (how : ToolEnd) {source source' : S} → TakesFront {X = X} form (Err how) (left source) (left source') →
+pub unsound_use : {S X : Type 0} (left : S → Option (List ℕ)) (faults : S → ℕ) {form : Option SoundForm} (how : ToolEnd) {source source' : S} → EndShows form (IsErrOf {T = X} (Err how)) (left source) (left source') →
     CountsFault (IsErrOf {T = X} (Err how) end.ReadFault) (faults source) (faults source') → is_of_sound how ≡ true → UsesSource left faults true form how source source'
 unsound_use left faults how t counts is = record {
   untouched = λ e. cc e;
   memory = λ same. absurd (never is_of_sound how end.OutOfMemory is refl same);
   unfound = λ n same. absurd (never is_of_sound how (end.NoDevice n) is refl same);
   spent = λ same _. absurd (never is_of_sound how end.Done is refl same);
-  long = λ same. t.long (err_of how end.TooLong same);
-  within = λ other. t.within (λ bad. other (of_err how end.TooLong bad));
-  bad = λ f same. t.bad f (err_of how (end.BadSound f) same);
-  cut = λ same. t.cut (err_of how end.SoundCut same);
+  shows = record {
+    long = λ same. t.long (err_of how end.TooLong same);
+    within = λ other. t.within (λ bad. other (of_err how end.TooLong bad));
+    bad = λ f same. t.bad f (err_of how (end.BadSound f) same);
+    cut = λ same. t.cut (err_of how end.SoundCut same);
+  };
   failed = (counts.0, λ same. counts.1 (err_of how end.ReadFault same));
 }

@@ -3,5 +3,4 @@ pub mod Play
 pub mod Reading
 pub mod Record
 pub mod Set
-pub mod Results
 pub mod Run

@@ -1,7 +1,7 @@
 -- What aplay does: the bytes of its source are cut into blocks, and each block is played at its time. And what is heard of it.
-use Rattle.std.specs.Prelude.{◌≤◌, ℕ, zero, suc, ◌+◌, ◌*◌, ◌/◌, ◌%◌, ◌^◌, nat_lt, if◌then◌else◌, pos, Option, None, Some, false}
+use Rattle.std.specs.Prelude.{◌≤◌, ℕ, zero, suc, ◌+◌, ◌*◌, ◌/◌, ◌%◌, ◌^◌, nat_lt, if◌then◌else◌, pos, Option, Some, false}
 use Rattle.std.specs.Prelude.{List, [], ◌∷◌, ◌++◌, length, take, drop, codes, decimal, ◌≡◌, ◌<◌, true, ℤ, map, slice_get}
-use Rattle.std.specs.Prelude.{slice_index_or, Ok, Err, flat_map}
+use Rattle.std.specs.Prelude.{slice_index_or, Ok, flat_map, unwrap_or}
 use Rattle.af_time.specs.DeviceTime.{frames_lasting}
 use Rattle.af_sample.specs.declared.sample_type.SampleType.{SampleType}
 use Rattle.af_sample.specs.Channels.{IsChannelCount}
@@ -13,11 +13,11 @@ use Rattle.af_request.specs.Fields.{flag_byte}
 use Rattle.af_lib.specs.Calls.{as_done, as_time}
 use Rattle.af_cli.specs.declared.job.PlayJob.{PlayJob}
 use Rattle.af_cli.specs.Sizes.{block_frames, greatest_block}
-use Rattle.af_dialogue.specs.Parts.{Part, goes_on, has_value, outcome, part_among}
+use Rattle.af_dialogue.specs.Parts.{Part, goes_on, has_value, part_among, stops}
 use Rattle.af_request.specs.Answer.{Answer}
 use Rattle.af_lib.specs.declared.fault.ConnFault.{ConnFault}
 use Rattle.af_toolkit.specs.Trace.{Trace, ClientState, Finish, after_reply, answer_on}
-use Rattle.af_toolkit.specs.Trace.{done, ends, refused, too_long, with_job_device, writes_first}
+use Rattle.af_toolkit.specs.Trace.{done, ends, refused, too_long, trace_by, with_job_device, writes_first}
 use Rattle.af_toolkit.specs.ToolParts.{ToolDeeds, asks, doing, trace_of}
 use Rattle.af_tools.specs.declared.player.Played.{Played}
 use Rattle.af_tools.specs.declared.sound.SourceSound.{SourceSound}
@@ -66,15 +66,11 @@ PlayPart X = Part ClientState ToolDeeds PlayFault X
 abbrev pub play_asks : {X : Type 0} → Asked → (Answer → Option X) → PlayPart X
 play_asks asked value_of = part_among of_reply (asks asked value_of)
 
--- the source gave too much
-abbrev pub gives_too_much : PlayPart ℕ
-gives_too_much w = outcome doing.nothing (Err of_source)
-
 -- each block is played after those before it, as a server takes it, until one has no whole frame or the source gave too much
 unfoldable pub plays : Option Coding → (width start sent given : ℕ) → List (List ℕ) → PlayPart ℕ
 plays coding width start sent given [] = has_value doing sent
 plays coding width start sent given (block ∷ more) =
-    if nat_lt most_bytes (given + length block) then gives_too_much
+    if nat_lt most_bytes (given + length block) then stops doing of_source
     else if nat_lt 0 (frames_in width block)
     then goes_on doing
     (play_asks (play_run false 1 (block_time start sent) (as_served coding (whole_frames width block))) as_time) (λ _.
@@ -95,8 +91,7 @@ pub record IsBlock (ty : SampleType) (channels frames : ℕ) : Type 0 where
 
 -- the start, if it is stated, or else n frames after the device's time
 abbrev pub start_at : Option ℕ → ℕ → ℕ → ℕ
-start_at (Some time) now lead = time
-start_at None now lead = (now + lead) % 2 ^ 32
+start_at time now lead = unwrap_or time ((now + lead) % 2 ^ 32)
 
 -- what aplay writes for n frames from a start
 unfoldable pub played_text : ℕ → ℕ → List ℕ
@@ -123,8 +118,8 @@ plays_on job sound device bytes =
 -- the trace of aplay: it reads a header, if the source has one, plays all, and then writes how much, and from when on
 unfoldable pub aplay_trace : PlayJob → List DeviceInfo → List ℕ → ClientState → Trace
 aplay_trace job devices bytes w = with_job_device job.device devices (λ device.
-    reads_sound job.form job device bytes (λ sound rest.
-    trace_of play_finish (plays_on job sound device rest w) (λ played.
+    trace_by (reads_sound job.form job device bytes) (λ given.
+    trace_of play_finish (plays_on job given.0 device given.1 w) (λ played.
     writes_first (played_text played.frames played.start.0) (ends done))))
 
 -- a block that is sent: how many frames were sent before it, and its bytes
@@ -167,28 +162,29 @@ pub record AreAccepted (ty : SampleType) (channels : ℕ) (gain : ℤ) (start fr
 abbrev pub sample_in : (channels : ℕ) → List ℤ → (i channel : ℕ) → ℤ
 sample_in channels xs i channel = slice_index_or xs (channels * i + channel) (pos 0)
 
--- If the blocks of a source's bytes are accepted, the samples of its whole frames are heard in each channel.
-abbrev pub HeardAsIntended : Type 0
-HeardAsIntended =
-    (ty : SampleType) (channels : ℕ) (gain : ℤ) (block : ℕ) (bytes : List ℕ) (start : ℕ) (accepted : List AcceptedPlay) →
-    IsChannelCount channels → 0 < block →
+-- If the blocks of some bytes are accepted, the samples of the whole frames are heard in each channel.
+abbrev pub IsHeard : SampleType → (channels : ℕ) → (gain : ℤ) → (block : ℕ) → List ℕ → (start : ℕ) → List AcceptedPlay → Type 0
+IsHeard ty channels gain block bytes start accepted =
     AreAccepted ty channels gain start (length bytes / frame_bytes ty channels) (sent_blocks ty channels block bytes) accepted →
     (i channel : ℕ) → i < length bytes / frame_bytes ty channels → channel < channels →
     heard_sample channels accepted (start + i) channel ≡ sample_in channels (gained_samples ty gain bytes) i channel
+
+-- that is so for all blocks of some frame
+abbrev pub HeardAsIntended : Type 0
+HeardAsIntended =
+    (ty : SampleType) (channels : ℕ) (gain : ℤ) (block : ℕ) (bytes : List ℕ) (start : ℕ) (accepted : List AcceptedPlay) →
+    IsChannelCount channels → 0 < block → IsHeard ty channels gain block bytes start accepted
 
 -- a block is played at the start plus the frames before it
 abbrev pub play_of : Order → ℕ → Block → List ℕ
 play_of order start block = request_bytes order (play_run false 1 ((start + block.before) % 2 ^ 32) block.bytes)
 
--- the blocks of a job that are sent for such samples
-abbrev pub blocks_sent : PlayJob → SampleType → (channels : ℕ) → List ℕ → List Block
-blocks_sent job ty channels samples = sent_blocks ty channels (played_frames job ty channels) samples
-
 -- what is sent: a context is made and the time asked for, each block of the samples is played, and the context is freed
 abbrev pub played_whole : Order → PlayJob → SampleType → (channels : ℕ) → List ℕ → ℕ → List ℕ
 played_whole order job ty channels samples start =
     request_bytes order (play_context job ty channels) ++ (request_bytes order (get_time job.device)
-    ++ (flat_map (play_of order start) (blocks_sent job ty channels samples) ++ request_bytes order (free_ac 1)))
+    ++ (flat_map (play_of order start) (sent_blocks ty channels (played_frames job ty channels) samples)
+    ++ request_bytes order (free_ac 1)))
 
 -- A job is done: the samples of the source were played from a start on, and a device that accepts the blocks plays all of them.
 pub record IsPlayed (job : PlayJob) (devices : List DeviceInfo) (bytes : List ℕ) (w : ClientState)
@@ -205,8 +201,4 @@ pub record IsPlayed (job : PlayJob) (devices : List DeviceInfo) (bytes : List �
   pub link : Appended sent (played_whole w.order job ty device.channels samples start) sent'
   pub sink : Appended held (played_text (length samples / frame_bytes ty device.channels) start) held'
   pub hears : (whole : ℕ) (accepted : List AcceptedPlay) → whole % 2 ^ 32 ≡ start →
-      AreAccepted ty device.channels job.gain whole (length samples / frame_bytes ty device.channels)
-      (blocks_sent job ty device.channels samples) accepted →
-      (i channel : ℕ) → i < length samples / frame_bytes ty device.channels → channel < device.channels →
-      heard_sample device.channels accepted (whole + i) channel
-      ≡ sample_in device.channels (gained_samples ty job.gain samples) i channel
+      IsHeard ty device.channels job.gain (played_frames job ty device.channels) samples whole accepted

@@ -1,6 +1,6 @@
--- How aplay reads its source: the front of a file, and block after block.
-use Rattle.std.specs.Prelude.{◌≡◌, ◌<◌, ◌≤◌, ◌⊎◌, ℕ, List, [], ◌++◌, length, take, Result, IfOk, IsErrOf, Option, None, Some}
-use Rattle.std.specs.Prelude.{◌≢◌, Bool, true, false, IsSome, ◌==◌, if◌then◌else◌, drop, Ok, Err, ◌∷◌, slice_get, unwrap_or}
+-- How aplay reads its source: the front of a file, and block after block. What a tool has done, and why it ended.
+use Rattle.std.specs.Prelude.{◌≡◌, ◌<◌, ◌≤◌, ◌⊎◌, ◌↔◌, ◌||◌, ◌&&◌, ℕ, Bool, true, false, List, [], ◌∷◌, ◌++◌, length, take, drop}
+use Rattle.std.specs.Prelude.{Result, Ok, Err, IfOk, IsErrOf, Option, None, Some, IsSome, IsSomeAnd, slice_get, unwrap_or}
 use Rattle.af_io.specs.Observed.{Consumed, CountsFault}
 use Rattle.af_io.specs.Flow.{ConsumedWithin, IsSpent, ConsumedTooMuch}
 use Rattle.af_sound.specs.declared.head.SoundFault.{SoundFault}
@@ -11,10 +11,11 @@ use Rattle.af_toolkit.specs.declared.end.ToolEnd.{ToolEnd}
 use Rattle.af_toolkit.specs.declared.end.ToolEnd.TheVariants as end
 use Rattle.af_tools.specs.declared.fill.FillFault.{FillFault}
 use Rattle.af_tools.specs.declared.fill.FillFault.TheVariants as fill
-use Rattle.af_tools.specs.Sounds.{most_bytes, stated_room, FitsStated, reads_front, reads_sound}
+use Rattle.af_tools.specs.Sounds.{most_bytes, stated_room, FitsStated, IsPlayable, reads_front, reads_sound}
 use Rattle.af_lib.specs.Calls.{ConnState, as_done}
-use Rattle.af_toolkit.specs.Trace.{Trace, ClientState, Finish, ends, tool_end, answer_on, client_after_setup, setup_answer}
-use Rattle.af_toolkit.specs.Ends.{client_of, ObservedTrace, is_outer}
+use Rattle.af_toolkit.specs.Trace.{Trace, ClientState, Finish, answer_on, bad_sound, channel_mismatch, client_after_setup}
+use Rattle.af_toolkit.specs.Trace.{mismatch, no_device, setup_answer, sound_cut, tool_end}
+use Rattle.af_toolkit.specs.Ends.{client_of, is_of_link, is_of_link_or_sink, is_outer, EndsFor, ObservedTrace, ToolRan}
 use Rattle.af_toolkit.specs.ToolParts.{tool_sight, tooling}
 use Rattle.af_dialogue.specs.Parts.{Goes}
 use Rattle.af_sound.specs.declared.head.HeadStep.TheVariants as step
@@ -26,11 +27,10 @@ use Rattle.af_tools.specs.declared.sound.SourceSound.{SourceSound}
 use Rattle.clap.specs.Words.{Text}
 use Rattle.af_io.specs.Dial.{ToldLink}
 use Rattle.af_wire.specs.declared.order.Order.{Order}
-use Rattle.af_request.specs.Asked.{Asked}
 use Rattle.af_cli.specs.declared.job.Task.{Task}
 use Rattle.af_cli.specs.declared.job.Task.TheVariants as task
 use Rattle.af_cli.specs.Words.{Job, one}
-use Rattle.af_tools.specs.Play.{PlayPart, play_context, play_finish}
+use Rattle.af_tools.specs.Play.{PlayPart, aplay_trace, play_context, play_finish, IsPlayed}
 
 -- how aplay ends if its source gave no block
 abbrev pub fill_end : FillFault → ToolEnd
@@ -107,19 +107,22 @@ pub record ConsumedSound (form : Option SoundForm) (before after : Option (List 
 pub record ConsumedFault (form : Option SoundForm) (fault : SoundFault) (before after : Option (List ℕ)) : Type 0 where
   pub bytes : List ℕ
   pub consumed : Consumed before bytes after
-  pub of : SoundForm
-  pub is_form : form ≡ Some of
-  pub has : HasFault of bytes fault
+  pub has : IsSomeAnd form (λ of. HasFault of bytes fault)
 
 -- the source ended within a header: neither all that it gave, nor any front of it, is a header or has a fault
 pub record ConsumedCut (form : Option SoundForm) (before after : Option (List ℕ)) : Type 0 where
   pub bytes : List ℕ
   pub consumed : Consumed before bytes after
   pub spent : IsSpent after
-  pub of : SoundForm
-  pub is_form : form ≡ Some of
-  pub no_head : (front rest : List ℕ) (head : SoundHead) → bytes ≡ front ++ rest → IsHead of front head → ⊥
-  pub no_fault : (front rest : List ℕ) (fault : SoundFault) → bytes ≡ front ++ rest → HasFault of front fault → ⊥
+  pub undecided : IsSomeAnd form (λ of. (front rest : List ℕ) → bytes ≡ front ++ rest →
+      ((head : SoundHead) → IsHead of front head → ⊥) × ((fault : SoundFault) → HasFault of front fault → ⊥))
+
+-- If code ended so, as this says, that shows in the bytes that the source gave.
+pub record EndShows (form : Option SoundForm) (ended : ToolEnd → Type 0) (before after : Option (List ℕ)) : Type 0 where
+  pub long : ended end.TooLong → ConsumedTooMuch most_bytes before after
+  pub within : (ended end.TooLong → ⊥) → ConsumedWithin most_bytes before after
+  pub bad : (fault : SoundFault) → ended (end.BadSound fault) → ConsumedFault form fault before after
+  pub cut : ended end.SoundCut → ConsumedCut form before after
 
 -- What a tool makes of its source: only a tool that reads one changes it, and each end for it shows in the bytes that it gave.
 pub record UsesSource {S : Type 0} (left : S → Option (List ℕ)) (faults : S → ℕ) (reads : Bool) (form : Option SoundForm)
@@ -128,10 +131,7 @@ pub record UsesSource {S : Type 0} (left : S → Option (List ℕ)) (faults : S 
   pub memory : how ≡ end.OutOfMemory → source' ≡ source
   pub unfound : (n : ℕ) → how ≡ end.NoDevice n → source' ≡ source
   pub spent : how ≡ end.Done → reads ≡ true → IsSpent (left source') ⊎ ConsumedSound form (left source) (left source')
-  pub long : how ≡ end.TooLong → ConsumedTooMuch most_bytes (left source) (left source')
-  pub within : how ≢ end.TooLong → ConsumedWithin most_bytes (left source) (left source')
-  pub bad : (fault : SoundFault) → how ≡ end.BadSound fault → ConsumedFault form fault (left source) (left source')
-  pub cut : how ≡ end.SoundCut → ConsumedCut form (left source) (left source')
+  pub shows : EndShows form (λ other. how ≡ other) (left source) (left source')
   pub failed : CountsFault (how ≡ end.ReadFault) (faults source) (faults source')
 
 -- a source that is read is observable and gives these bytes, and what is left of them afterwards is observable too
@@ -166,66 +166,49 @@ is_of_sound (end.RateMismatch from to) = true
 is_of_sound (end.ChannelMismatch from to) = true
 is_of_sound how = is_of_front how
 
--- a file and a device that do not fit each other
-abbrev pub ends_shape : SoundHead → DeviceInfo → Result (Unit {0}) ToolEnd
-ends_shape head device =
-    if head.rate == device.rate
-    then (if head.channels == device.channels then Ok tt else Err (end.ChannelMismatch head.channels device.channels))
-    else Err (end.RateMismatch head.rate device.rate)
+-- the ends of a part that also reads the source
+abbrev pub is_of_blocks : ToolEnd → Bool
+is_of_blocks end.ReadFault = true
+is_of_blocks end.TooLong = true
+is_of_blocks how = is_of_link how
+
+-- the ends of a tool of one link, which ends for its source only if it reads one
+abbrev pub is_of_tool : (reads : Bool) → ToolEnd → Bool
+is_of_tool reads end.Done = true
+is_of_tool reads (end.NoDevice devices) = true
+is_of_tool reads how = is_of_link_or_sink how || (is_of_sound how && reads)
 
 -- The front of a file was read, and the source stands after it; or the tool ends as it does there, or for something from outside.
 abbrev pub HeadCame : SoundForm → List ℕ → Result FileHead ToolEnd → Option (List ℕ) → Type 0
 HeadCame form bytes (Ok file) left =
     (front_of form bytes ≡ record { says = step.Head file.head; size = file.size }) × (left ≡ Some (drop file.size bytes))
-HeadCame form bytes (Err how) left =
-    (is_outer how ≡ true)
-    ⊎ ((finish : Finish) × (how ≡ tool_end finish)
-    × ((next : SoundHead → Trace) → reads_front (front_of form bytes) next ≡ ends finish))
+HeadCame form bytes (Err how) left = EndsFor (reads_front (front_of form bytes)) how
 
 -- the same of what a source gives to be played on a device
 abbrev pub SoundCame : PlayJob → DeviceInfo → List ℕ → Result SourceSound ToolEnd → Option (List ℕ) → Type 0
 SoundCame job device bytes (Ok sound) left =
-    (rest : List ℕ) × (left ≡ Some rest)
-    × ((next : SourceSound → List ℕ → Trace) → reads_sound job.form job device bytes next ≡ next sound rest)
-SoundCame job device bytes (Err how) left =
-    (is_outer how ≡ true) ⊎ ((finish : Finish) × (how ≡ tool_end finish)
-    × ((next : SourceSound → List ℕ → Trace) → reads_sound job.form job device bytes next ≡ ends finish))
-
--- A part that reads what stands before a sound ended, and each end for the source shows in the bytes that it gave.
-pub record TakesFront {X : Type 0} (form : Option SoundForm) (result : Result X ToolEnd) (before after : Option (List ℕ)) :
-    Type 0 where
-  pub bad : (fault : SoundFault) → IsErrOf result (end.BadSound fault) → ConsumedFault form fault before after
-  pub cut : IsErrOf result end.SoundCut → ConsumedCut form before after
-  pub long : IsErrOf result end.TooLong → ConsumedTooMuch most_bytes before after
-  pub within : (IsErrOf result end.TooLong → ⊥) → ConsumedWithin most_bytes before after
-
--- the link gives the reply that a context was made
-abbrev pub GivesReply : Asked → ClientState → Type 0
-GivesReply context w = answer_on context as_done w ≡ Ok tt
+    (rest : List ℕ) × (left ≡ Some rest) × (reads_sound job.form job device bytes ≡ Ok (sound, rest))
+SoundCame job device bytes (Err how) left = EndsFor (reads_sound job.form job device bytes) how
 
 -- the device of a job exists, and the link gives the reply that the context of the job was made on it
 abbrev pub GivesContext : PlayJob → List DeviceInfo → ClientState → Type 0
 GivesContext job devices w = (device : DeviceInfo) × (slice_get devices job.device ≡ Some device)
-    × GivesReply (play_context job (unwrap_or job.ty device.ty) device.channels) w
+    × (answer_on (play_context job (unwrap_or job.ty device.ty) device.channels) as_done w ≡ Ok tt)
 
--- the same for a link that is set up first
-abbrev pub LinkGivesContext : Order → PlayJob → List ℕ → Type 0
-LinkGivesContext order job input =
-    (devices : List DeviceInfo) × (setup_answer order input ≡ Ok devices)
-    × GivesContext job devices (client_after_setup order input)
+-- the first link of a dial, whose setup was answered with these devices
+pub record SetUpFirst (order : Order) (links : List ToldLink) : Type 0 where
+  pub link : ToldLink
+  pub rest : List ToldLink
+  pub links_are : links ≡ link ∷ rest
+  pub devices : List DeviceInfo
+  pub set : setup_answer order link.gives ≡ Ok devices
 
--- the same for the first link that is dialled
+-- the first link that a dial gives is set up, and gives that reply
 abbrev pub DialGivesContext : Order → PlayJob → List ToldLink → Type 0
-DialGivesContext order job links =
-    (first : ToldLink) × (rest : List ToldLink) × (links ≡ first ∷ rest) × LinkGivesContext order job first.gives
+DialGivesContext order job links = (first : SetUpFirst order links)
+    × GivesContext job first.devices (client_after_setup order first.link.gives)
 
--- A source without a header is as it was, unless an observable link gives the reply that the context was made.
-abbrev pub ReadsAfterContext : {L S : Type 0} → (left : L → Option (List ℕ)) → PlayJob → ConnState L → (source source' : S) →
-    Type 0
-ReadsAfterContext left job conn source source' = job.form ≡ None →
-    (source' ≡ source) ⊎ ((input : List ℕ) → left conn.link ≡ Some input → GivesContext job conn.devices (client_of conn input))
-
--- The same for a task, if it is aplay: this says that the context was made.
+-- If a task is to play a source without a header, that is as it was, unless this says that the context was made.
 abbrev pub ReadsLate : {S : Type 0} → Task → (made : PlayJob → Type 0) → (source source' : S) → Type 0
 ReadsLate t made source source' = (job : PlayJob) → t ≡ task.Play job → job.form ≡ None → (source' ≡ source) ⊎ made job
 
@@ -234,3 +217,44 @@ abbrev pub JobReadsLate : {D S : Type 0} → (links : D → Option (List ToldLin
 JobReadsLate links j dial source source' =
     (server : Text) (order : Order) (t : Task) → j ≡ one server order t →
     ReadsLate t (λ job. (told : List ToldLink) → links dial ≡ Some told → DialGivesContext order job told) source source'
+
+-- a tool on a device ran, over a connection whose link is observable
+abbrev pub RunsTool : {L K : Type 0} → (left sent : L → Option (List ℕ)) → (held : K → Option (List ℕ)) →
+    (ClientState → Trace) → ℕ → ToolEnd → (conn conn' : ConnState L) → (sink sink' : K) → Type 0
+RunsTool left sent held trace device how conn conn' sink sink' = (input : List ℕ) → left conn.link ≡ Some input →
+    ToolRan (device < length conn.devices) (trace (client_of conn input)) how (sent conn.link) (sent conn'.link)
+    (held sink) (held sink')
+
+-- a device that does not exist, a source that is no sound file, or two whose rates or channels differ
+abbrev pub is_unfit : Finish → Bool
+is_unfit (no_device devices) = true
+is_unfit (mismatch from to) = true
+is_unfit (channel_mismatch from to) = true
+is_unfit (bad_sound fault) = true
+is_unfit sound_cut = true
+is_unfit _ = false
+
+-- A tool ends for an unfit device or source exactly where its trace does, unless something from outside has ended it.
+pub record EndsIfUnfit (trace : Trace) (how : ToolEnd) : Type 0 where
+  pub only : (finish : Finish) → is_unfit finish ≡ true → how ≡ tool_end finish → trace.finish ≡ finish
+  pub always : (finish : Finish) → is_unfit finish ≡ true → trace.finish ≡ finish →
+      (how ≡ tool_end finish) ⊎ (is_outer how ≡ true)
+
+-- The same of aplay, if it gets a sound that its device plays: if it is done, each block was played at its time and is heard.
+pub record AplayRan (job : PlayJob) (devices : List DeviceInfo) (bytes : List ℕ) (w : ClientState) (how : ToolEnd)
+    (sent sent' held held' : Option (List ℕ)) : Type 0 where
+  pub ran : ToolRan (IsPlayable job devices bytes) (aplay_trace job devices bytes w) how sent sent' held held'
+  pub heard : how ≡ end.Done → IsPlayed job devices bytes w sent sent' held held'
+  pub unfit : EndsIfUnfit (aplay_trace job devices bytes w) how
+
+-- the same over a connection with an observable link, and an observable source, which stays so
+abbrev pub RunsAplay : {L S K : Type 0} → (left sent : L → Option (List ℕ)) → (gives : S → Option (List ℕ)) →
+    (held : K → Option (List ℕ)) →
+    PlayJob → ToolEnd → (conn conn' : ConnState L) → (source source' : S) → (sink sink' : K) → Type 0
+RunsAplay left sent gives held job how conn conn' source source' sink sink' =
+    (input bytes : List ℕ) → left conn.link ≡ Some input → gives source ≡ Some bytes → IsSome (gives source') →
+    AplayRan job conn.devices bytes (client_of conn input) how (sent conn.link) (sent conn'.link) (held sink) (held sink')
+
+-- a tool ends for a missing device exactly where its number is not below the number of devices, which the end carries
+abbrev pub LacksDevice : ℕ → List DeviceInfo → ToolEnd → Type 0
+LacksDevice device devices how = (n : ℕ) → (how ≡ end.NoDevice n) ↔ ((n ≡ length devices) × (length devices ≤ device))

@@ -1,7 +1,8 @@
 -- What arecord does: it records block after block, and writes each, raw or in a sound file.
-use Rattle.std.specs.Prelude.{◌≡◌, ◌≢◌, ℕ, ◌*◌, ◌%◌, ◌==◌, ◌&&◌, nat_lt, if◌then◌else◌, ⊤, List, [], ◌∷◌, ◌++◌, length}
-use Rattle.std.specs.Prelude.{option_map, unwrap_or, Option, None, Some, suc, ◌+◌, ◌/◌, ◌^◌, max, nat_le, unsigned_abs, pos}
-use Rattle.std.specs.Prelude.{Bool, true, map, replicate, slice_get}
+use Rattle.std.specs.Prelude.{◌≡◌, ◌≢◌, ℕ, ◌*◌, ◌%◌, ◌==◌, ◌&&◌, nat_lt, if◌then◌else◌, List, [], ◌∷◌, ◌++◌, length}
+use Rattle.std.specs.Prelude.{option_map, unwrap_or, IfSome, Option, None, Some, suc, ◌+◌, ◌/◌, ◌^◌, max, nat_le, unsigned_abs}
+use Rattle.std.specs.Prelude.{pos, Bool, true, map, replicate, slice_get}
+use Rattle.std.specs.Option.{option_map_or}
 use Rattle.af_sample.specs.declared.sample_type.SampleType.{SampleType}
 use Rattle.af_sample.specs.declared.sample_type.SampleType.TheVariants as ty
 use Rattle.af_sample.specs.SampleTypes.{frame_bytes, code_of}
@@ -32,8 +33,7 @@ use Rattle.af_toolkit.specs.Ends.{client_of}
 -- the type that is recorded: in a file, samples of 32 bits become samples of 16
 abbrev pub recorded_type : Option SoundForm → SampleType → SampleType
 recorded_type (Some form) ty.Lin32 = ty.Lin16
-recorded_type (Some form) ty = ty
-recorded_type None ty = ty
+recorded_type form ty = ty
 
 -- the coding of a sample type in a file: 16 bits have the most significant byte first in an .au file, and last in a WAVE file
 abbrev pub coding_in : SoundForm → SampleType → Coding
@@ -44,13 +44,11 @@ coding_in Wave _ = coding.Lin16Little
 
 -- samples as they are written: as a file codes them, or raw
 abbrev pub as_filed : Option Coding → List ℕ → List ℕ
-as_filed (Some c) bytes = filed_bytes c bytes
-as_filed None bytes = bytes
+as_filed coding bytes = option_map_or (λ c. filed_bytes c bytes) coding bytes
 
 -- the samples of a type are written in a coding that a server takes as this type
 abbrev pub IsFiledAs : Option Coding → SampleType → Type 0
-IsFiledAs (Some c) ty = (ty ≡ served_type c) × (c ≢ coding.U8)
-IsFiledAs None ty = ⊤
+IsFiledAs filed ty = IfSome filed (λ c. (ty ≡ served_type c) × (c ≢ coding.U8))
 
 -- what a job records on a device, and how it is written
 abbrev pub recorded_sound : RecordJob → DeviceInfo → RecordedSound
@@ -76,13 +74,12 @@ file_head form job device =
 
 -- what is written before the sound: the header of a file
 abbrev pub front_of_recording : RecordJob → DeviceInfo → List ℕ
-front_of_recording job device = unwrap_or (option_map (λ form. written_head form (file_head form job device)) job.form) []
+front_of_recording job device = option_map_or (λ form. written_head form (file_head form job device)) job.form []
 
 -- and after its n bytes: a byte that makes the sound of a WAVE file even
 abbrev pub pad_after : Option SoundForm → ℕ → List ℕ
 pad_after (Some Wave) size = if size % 2 == 1 then 0 ∷ [] else []
-pad_after (Some Au) size = []
-pad_after None size = []
+pad_after form size = []
 
 -- the recording of some samples: a sound file of them, or raw
 abbrev pub recording_of : RecordJob → DeviceInfo → List ℕ → List ℕ

@@ -1,5 +1,5 @@
 -- What the tools do, by their arguments, the bytes of the source, and what the dialled links give.
-use Rattle.std.specs.Prelude.{◌≡◌, ◌≤◌, ◌⊎◌, ℕ, Bool, true, false, List, [], ◌∷◌, ◌++◌, length, Ok, Option, None, Some}
+use Rattle.std.specs.Prelude.{◌≡◌, ◌≤◌, ◌⊎◌, ℕ, Bool, true, false, List, [], ◌∷◌, ◌++◌, length, Option, None, Some}
 use Rattle.std.specs.List.{concat}
 use Rattle.clap.specs.Words.{Text}
 use Rattle.af_io.specs.Observed.{Appended, CountsFault}
@@ -29,9 +29,8 @@ use Rattle.af_relay.specs.Relayed.{IsRelayed}
 use Rattle.af_cli.specs.Words.{Job, one, relay}
 use Rattle.af_relay.specs.Pair.{is_of_pass}
 use Rattle.af_toolkit.specs.Ends.{EndsByReply, IsAnswered, is_outer}
-use Rattle.af_tools.specs.Results.{is_of_tool, is_unfit, EndsIfUnfit}
 use Rattle.af_sound.specs.declared.head.SoundForm.{SoundForm}
-use Rattle.af_tools.specs.Reading.{TellsIfRead, UsesSource}
+use Rattle.af_tools.specs.Reading.{SetUpFirst, TellsIfRead, UsesSource, is_of_tool, is_unfit, EndsIfUnfit}
 
 -- each link of a relay, which gives these bytes, is set up in a byte order, and the devices of its server are the value
 abbrev pub sets_up_from : Order → List ℕ → RelayPart ConnFault (List DeviceInfo)
@@ -153,14 +152,6 @@ pub record JobRan (j : Job) (bytes : List ℕ) (how : ToolEnd) (links : List Tol
   pub ran : RelayDid (run_trace j links bytes) how held held'
       (λ did. ReturnedLinks links links' (did.from ∷ did.to ∷ []) back back')
   pub early : how ≡ end.OutOfMemory → IsEarly j ran.did
-
--- the first link of a dial, whose setup was answered with these devices
-pub record SetUpFirst (order : Order) (links : List ToldLink) : Type 0 where
-  pub link : ToldLink
-  pub rest : List ToldLink
-  pub links_are : links ≡ link ∷ rest
-  pub devices : List DeviceInfo
-  pub set : setup_answer order link.gives ≡ Ok devices
 
 -- What a relay has passed between its two servers: its first two links were set up and then used, and given back in their order.
 pub record RelayRan (order : Order) (job : PassJob) (links : List ToldLink) (links' : Option (List ToldLink))

@@ -1,5 +1,6 @@
 -- What aset does: it sets what its arguments state, and then writes the controls of the device, and its line.
 use Rattle.std.specs.Prelude.{◌||◌, Bool, List, is_some, if◌then◌else◌, option_map, Option, None, Some}
+use Rattle.std.specs.Option.{option_map_or}
 use Rattle.af_request.specs.declared.reply.DeviceInfo.{DeviceInfo}
 use Rattle.af_request.specs.Asked.{Asked, hook_switch}
 use Rattle.af_request.specs.Fields.{flag_byte}
@@ -27,8 +28,7 @@ hook_request job = option_map (λ off. hook_switch job.device (flag_byte off)) j
 
 -- a request that is sent only if it is needed
 abbrev pub asks_if : Option Asked → ToolPart (Unit {0})
-asks_if (Some asked) = asks asked as_done
-asks_if None = has_value doing tt
+asks_if asked = option_map_or (λ a. asks a as_done) asked (has_value doing tt)
 
 -- the controls and the hook are set, and then the device is asked for its state
 abbrev pub sets_on : SetJob → DeviceInfo → ToolPart ControlsReport

@@ -1,6 +1,7 @@
 -- The sound that a source gives to play: samples, or a sound file.
-use Rattle.std.specs.Prelude.{ℕ, ◌^◌, ◌≡◌, ◌-◌, ◌*◌, ◌==◌, ◌≤◌, nat_lt, min, ⊤, if◌then◌else◌, List, ◌++◌, take, drop}
-use Rattle.std.specs.Prelude.{unwrap_or, Option, None, Some}
+use Rattle.std.specs.Prelude.{ℕ, ◌^◌, ◌≡◌, ◌-◌, ◌*◌, ◌≤◌, nat_lt, min, if◌then◌else◌, List, ◌++◌, length, take, drop}
+use Rattle.std.specs.Prelude.{slice_get, unwrap_or, option_map, IfSome, Option, None, Some, Result, Ok, Err}
+use Rattle.std.specs.Option.{option_map_or}
 use Rattle.af_sample.specs.declared.sample_type.SampleType.{SampleType}
 use Rattle.af_sample.specs.declared.sample_type.SampleType.TheVariants as ty
 use Rattle.af_sample.specs.SampleTypes.{width_of}
@@ -16,7 +17,7 @@ use Rattle.af_sound.specs.Served.{served_bytes, served_length, HasWholePairs}
 use Rattle.af_sound.specs.Written.{sample_size}
 use Rattle.af_request.specs.declared.reply.DeviceInfo.{DeviceInfo}
 use Rattle.af_cli.specs.declared.job.PlayJob.{PlayJob}
-use Rattle.af_toolkit.specs.Trace.{Trace, bad_sound, channel_mismatch, ends, mismatch, sound_cut, too_long}
+use Rattle.af_toolkit.specs.Trace.{Finish, bad_sound, one_shape, sound_cut, too_long}
 use Rattle.af_tools.specs.declared.sound.SourceSound.{SourceSound}
 
 -- how many bytes a source may give, with the header of a file
@@ -31,18 +32,15 @@ served_type _ = ty.Lin16
 
 -- the bytes of a sound, of those after its header: as many as are stated, or all
 abbrev pub stated_part : Option ℕ → List ℕ → List ℕ
-stated_part (Some n) bytes = take n bytes
-stated_part None bytes = bytes
+stated_part len bytes = option_map_or (λ n. take n bytes) len bytes
 
 -- the sound as a server takes it: a file's samples are converted, and raw ones stay
 abbrev pub as_served : Option Coding → List ℕ → List ℕ
-as_served (Some coding) bytes = served_bytes coding bytes
-as_served None bytes = bytes
+as_served coding bytes = option_map_or (λ c. served_bytes c bytes) coding bytes
 
 -- the bytes of a sample in the source
 abbrev pub source_sample : Option Coding → SampleType → ℕ
-source_sample (Some coding) ty = sample_size coding
-source_sample None ty = width_of ty
+source_sample coding ty = option_map_or sample_size coding (width_of ty)
 
 -- the bytes of a frame in the source, which has a sample for each channel
 abbrev pub source_width : Option Coding → SampleType → (channels : ℕ) → ℕ
@@ -70,9 +68,11 @@ abbrev pub GivesSamples : Option SoundForm → PlayJob → DeviceInfo → List �
 GivesSamples None job device bytes ty samples = (ty ≡ unwrap_or job.ty device.ty) × (samples ≡ bytes)
 GivesSamples (Some form) job device bytes ty samples = IsFileSound form device bytes ty samples
 
--- a source that a device can play: any, or a sound file that is complete up to its sound, with the device's rate and channels
-abbrev pub IsPlayable : PlayJob → DeviceInfo → List ℕ → Type 0
-IsPlayable job device bytes = (ty : SampleType) × (samples : List ℕ) × GivesSamples job.form job device bytes ty samples
+-- a job can be played: its device exists, and the source is not too long, and is any, or a sound file that fits the device
+abbrev pub IsPlayable : PlayJob → List DeviceInfo → List ℕ → Type 0
+IsPlayable job devices bytes =
+    (device : DeviceInfo) × (slice_get devices job.device ≡ Some device) × (length bytes ≤ most_bytes)
+    × (ty : SampleType) × (samples : List ℕ) × GivesSamples job.form job device bytes ty samples
 
 -- the samples of a source without a header
 abbrev pub raw_sound : PlayJob → DeviceInfo → SourceSound
@@ -89,38 +89,42 @@ file_sound device head size = record {
   length = head.length;
 }
 
--- a file has to have the rate and the channels of its device
-abbrev pub at_one_shape : SoundHead → DeviceInfo → Trace → Trace
-at_one_shape head device next =
-    if head.rate == device.rate
-    then (if head.channels == device.channels then next else ends (channel_mismatch head.channels device.channels))
-    else ends (mismatch head.rate device.rate)
+-- a value leads to another one or to an end, and an end stays
+abbrev pub value_by : {X Y : Type 0} → Result X Finish → (X → Result Y Finish) → Result Y Finish
+value_by (Ok x) next = next x
+value_by (Err finish) next = Err finish
 
--- what follows the front of a file: a fault ends the tool, and so does the end of the source
-abbrev pub after_header : HeadStep → (SoundHead → Trace) → Trace
-after_header (step.Head head) next = next head
-after_header (step.Bad fault) next = ends (bad_sound fault)
-after_header step.More next = ends sound_cut
+-- what the front of a file says: its header, or an end for its fault, or for the end of the source
+abbrev pub header_or_end : HeadStep → Result SoundHead Finish
+header_or_end (step.Head head) = Ok head
+header_or_end (step.Bad fault) = Err (bad_sound fault)
+header_or_end step.More = Err sound_cut
 
--- the front of a file is read, from at most as many bytes as aplay takes
-abbrev pub reads_front : Front → (SoundHead → Trace) → Trace
-reads_front front next = if nat_lt most_bytes front.size then ends too_long else after_header front.says next
+-- the header of a file, from at most as many bytes as aplay takes
+abbrev pub reads_front : Front → Result SoundHead Finish
+reads_front front = if nat_lt most_bytes front.size then Err too_long else header_or_end front.says
 
--- what follows gets the samples of the source, and the bytes after a header
-abbrev pub reads_sound : Option SoundForm → PlayJob → DeviceInfo → List ℕ → (SourceSound → List ℕ → Trace) → Trace
-reads_sound None job device bytes next = next (raw_sound job device) bytes
-reads_sound (Some form) job device bytes next =
-    let front = front_of form bytes in
-    reads_front front (λ head. at_one_shape head device (next (file_sound device head front.size) (drop front.size bytes)))
+-- a header that has the rate and the channels of its device
+abbrev pub fits_device : DeviceInfo → SoundHead → Result (Unit {0}) Finish
+fits_device device head = one_shape head.rate head.channels device.rate device.channels
+
+-- a file of the shape of its device: its sound, and the bytes after its header
+abbrev pub reads_file : DeviceInfo → Front → List ℕ → Result (SourceSound × List ℕ) Finish
+reads_file device front bytes =
+    value_by (reads_front front) (λ head. value_by (fits_device device head) (λ _.
+    Ok (file_sound device head front.size, drop front.size bytes)))
+
+-- what a source gives to be played: its sound, and the bytes after a header
+abbrev pub reads_sound : Option SoundForm → PlayJob → DeviceInfo → List ℕ → Result (SourceSound × List ℕ) Finish
+reads_sound None job device bytes = Ok (raw_sound job device, bytes)
+reads_sound (Some form) job device bytes = reads_file device (front_of form bytes) bytes
 
 -- a sound can have so many more bytes, by the stated length that is left
 abbrev pub FitsStated : Option ℕ → ℕ → Type 0
-FitsStated (Some left) count = count ≤ left
-FitsStated None count = ⊤
+FitsStated left count = IfSome left (λ n. count ≤ n)
 
 abbrev pub stated_after : Option ℕ → ℕ → Option ℕ
-stated_after (Some left) count = Some (left - count)
-stated_after None count = None
+stated_after left count = option_map (λ n. n - count) left
 
 -- how many bytes of a block there can be
 abbrev pub stated_room : Option ℕ → ℕ → ℕ
@@ -129,14 +133,11 @@ stated_room None room = room
 
 -- a sound as it is read: its type is the one in which its coding is served
 abbrev pub IsServedAs : Option Coding → SampleType → Type 0
-IsServedAs (Some coding) ty = ty ≡ served_type coding
-IsServedAs None ty = ⊤
+IsServedAs coding ty = IfSome coding (λ c. ty ≡ served_type c)
 
 -- room for a block as a server takes it, and whole samples in it
 abbrev pub served_room : Option Coding → ℕ → ℕ
-served_room (Some coding) count = served_length coding count
-served_room None count = 0
+served_room coding count = option_map_or (λ c. served_length c count) coding 0
 
 abbrev pub AreWhole : Option Coding → ℕ → Type 0
-AreWhole (Some coding) count = HasWholePairs coding count
-AreWhole None count = ⊤
+AreWhole coding count = IfSome coding (λ c. HasWholePairs c count)

@@ -1,5 +1,5 @@
 // What a source gives is played, block by block.
-ghost use Rattle.std.specs.Prelude.{ℕ, List, ◌≡◌, ◌<◌, ◌≤◌, ◌*◌, ◌+◌, ◌-◌, ◌++◌, true, false, length, take, IfErr, IfOk, IsErrOf};
+ghost use Rattle.std.specs.Prelude.{ℕ, List, ◌≡◌, ◌<◌, ◌≤◌, ◌*◌, ◌+◌, ◌-◌, ◌++◌, true, false, length, take, IfErr, IfOk, IsErrOf, Ok};
 ghost use Rattle.std.specs.declared.option.Option.{Option};
 ghost use Rattle.std.specs.declared.option.Option.TheVariants.{None};
 ghost use Rattle.af_io.specs.Observed.{CountsFault};
@@ -11,8 +11,7 @@ ghost use Rattle.af_toolkit.specs.ToolParts.{asks, GoesOver};
 ghost use Rattle.af_sound.specs.Served.{served_length};
 ghost use Rattle.af_tools.specs.Sounds.{most_bytes, as_served, block_bytes, served_room, AreWhole, IsServedAs};
 ghost use Rattle.af_tools.specs.Play.{plays_sound, IsBlock};
-ghost use Rattle.af_tools.specs.Results.{is_of_blocks};
-ghost use Rattle.af_tools.specs.Reading.{left_before, FillsBlock, IsEarlyBlock, IsNextBlock, GoesReading, TakesSound};
+ghost use Rattle.af_tools.specs.Reading.{left_before, FillsBlock, IsEarlyBlock, IsNextBlock, GoesReading, TakesSound, is_of_blocks};
 ghost use Rattle.af_cli.specs.Sizes.{greatest_block};
 
 use crate::fill::{FillFault, fill_stated, still_left};
@@ -128,6 +127,7 @@ pub fn read_early<S: Source>(
     ensures room { length room.new ≡ length room.old }
     ensures early { IfOk result (λ early. IsEarlyBlock (block_bytes sound block) (most_bytes - sound.head)
         sound.length early room.new (S.left source.old) (S.left source.new)) }
+    ensures late { result ≡ Ok None → most_bytes < sound.head + greatest_block }
     ensures only { IsErrOf result FillFault.TooLong → ⊥ }
     ensures cut { IsErrOf result FillFault.ReadFault →
         ConsumedWithin (most_bytes - sound.head) (S.left source.old) (S.left source.new) }

@@ -1,16 +1,16 @@
 // aplay: what a source gives is played, and what was played is written to the sink.
-ghost use Rattle.std.specs.Prelude.{ℕ, List, ◌≡◌, ◌≤◌, ◌⊎◌, ◌-◌, true, length, IfErr, IfOk, IsErrOf};
+ghost use Rattle.std.specs.Prelude.{ℕ, List, ◌≡◌, ◌≤◌, ◌⊎◌, ◌-◌, true, length, IfErr, IfOk, IsErrOf, Ok};
 ghost use Rattle.std.specs.declared.option.Option.TheVariants.{None, Some};
 ghost use Rattle.af_time.specs.DeviceTime.{frames_lasting};
 ghost use Rattle.af_io.specs.Observed.{CountsFault};
 ghost use Rattle.af_sample.specs.Channels.{IsChannelCount};
 ghost use Rattle.af_lib.specs.Calls.{as_done, device_channels};
 ghost use Rattle.af_toolkit.specs.Talk.{creates};
+ghost use Rattle.af_toolkit.specs.Trace.{answer_on};
 ghost use Rattle.af_toolkit.specs.Ends.{client_of, is_of_link, KeepsConnection};
 ghost use Rattle.af_toolkit.specs.ToolParts.{asks, GoesOver};
 ghost use Rattle.af_tools.specs.Play.{play_context, played_frames, plays_on, start_at, IsBlock};
-ghost use Rattle.af_tools.specs.Results.{is_of_blocks, is_of_play, LacksDevice, RunsAplay};
-ghost use Rattle.af_tools.specs.Reading.{GoesReading, TakesSound, UsesSource, GivesReply, ReadsAfterContext};
+ghost use Rattle.af_tools.specs.Reading.{GivesContext, GoesReading, TakesSound, UsesSource, is_of_blocks, is_of_tool, LacksDevice, RunsAplay};
 ghost use Rattle.af_tools.specs.Sounds.{most_bytes, IsServedAs};
 ghost use Rattle.af_cli.specs.Sizes.{greatest_block};
 
@@ -69,7 +69,7 @@ fn make_play_context<L: Link + Drop>(
     ensures goes { GoesOver L.left L.sent conn.old conn.new
         (asks (play_context job.now sound.ty sound.channels) as_done) result }
     ensures made { IfOk result (λ _. (input : List ℕ) → L.left conn.old.link ≡ Some input →
-        GivesReply (play_context job.now sound.ty sound.channels) (client_of conn.old input)) }
+        answer_on (play_context job.now sound.ty sound.channels) as_done (client_of conn.old input) ≡ Ok tt) }
     ensures holds { KeepsConnection L.left L.faults conn.old conn.new result }
     ensures end { IfErr result (λ how. is_of_link how ≡ true) }
 {
@@ -112,7 +112,7 @@ fn play_on<L: Link + Drop, S: Source>(
         (λ bytes. plays_on plan.job plan.sound plan.device bytes) result }
     ensures takes { TakesSound plan.sound.length (most_bytes - plan.sound.head) result (S.left source.old) (S.left source.new) }
     ensures unread { (source.new ≡ source.old) ⊎ ((input : List ℕ) → L.left conn.old.link ≡ Some input →
-        GivesReply (play_context plan.job plan.sound.ty plan.sound.channels) (client_of conn.old input)) }
+        answer_on (play_context plan.job plan.sound.ty plan.sound.channels) as_done (client_of conn.old input) ≡ Ok tt) }
     ensures holds { KeepsConnection L.left L.faults conn.old conn.new result }
     ensures end { IfErr result (λ how. is_of_blocks how ≡ true) }
     ensures fault { CountsFault (IsErrOf result ToolEnd.ReadFault) (S.faults source.old) (S.faults source.new) }
@@ -153,10 +153,11 @@ pub fn aplay<L: Link + Drop, S: Source, K: Sink>(
     ensures ran { RunsAplay L.left L.sent S.left K.held job.now result conn.old conn.new source.old source.new sink.old sink.new }
 
     // each end has its cause
-    ensures end { is_of_play result ≡ true }
+    ensures end { is_of_tool true result ≡ true }
     ensures no_device { LacksDevice job.now.device conn.old.devices result }
     ensures source { UsesSource S.left S.faults true job.now.form result source.old source.new }
-    ensures unread { ReadsAfterContext L.left job.now conn.old source.old source.new }
+    ensures unread { job.now.form ≡ None → (source.new ≡ source.old) ⊎ ((input : List ℕ) →
+        L.left conn.old.link ≡ Some input → GivesContext job.now conn.old.devices (client_of conn.old input)) }
     ensures link { CountsFault (result ≡ ToolEnd.LinkFault) (L.faults conn.old.link) (L.faults conn.new.link) }
     ensures sink { CountsFault (result ≡ ToolEnd.SinkFault) (K.faults sink.old) (K.faults sink.new) }
 {

@@ -1,5 +1,5 @@
 // arecord: blocks are recorded and written to the sink.
-ghost use Rattle.std.specs.Prelude.{◌≡◌, ◌≤◌, true, length, unwrap_or, Err, IfErr};
+ghost use Rattle.std.specs.Prelude.{◌≡◌, ◌≤◌, true, false, length, unwrap_or, Err, IfErr};
 ghost use Rattle.std.specs.declared.option.Option.TheVariants.{None};
 ghost use Rattle.af_io.specs.Observed.{CountsFault};
 ghost use Rattle.af_request.specs.Replies.{IsDeviceInfo};
@@ -8,7 +8,7 @@ ghost use Rattle.af_toolkit.specs.Talk.{creates};
 ghost use Rattle.af_toolkit.specs.Ends.{is_of_link_or_sink, KeepsConnection};
 ghost use Rattle.af_toolkit.specs.ToolParts.{GoesWriting};
 ghost use Rattle.af_tools.specs.Record.{arecord_trace, record_context, records_on, writes_recording, LeavesRecording};
-ghost use Rattle.af_tools.specs.Results.{is_of_writer, LacksDevice, RunsTool};
+ghost use Rattle.af_tools.specs.Reading.{is_of_tool, LacksDevice, RunsTool};
 ghost use Rattle.af_cli.specs.Sizes.{greatest_block};
 
 use crate::file::{recorded_sound, write_front, write_pad};
@@ -118,7 +118,7 @@ pub fn arecord<L: Link + Drop, K: Sink>(
     ensures recorded { LeavesRecording L.left L.sent K.held job.now result conn.old conn.new sink.old sink.new }
 
     // each end has its cause
-    ensures end { is_of_writer result ≡ true }
+    ensures end { is_of_tool false result ≡ true }
     ensures no_device { LacksDevice job.now.device conn.old.devices result }
     ensures link { CountsFault (result ≡ ToolEnd.LinkFault) (L.faults conn.old.link) (L.faults conn.new.link) }
     ensures sink { CountsFault (result ≡ ToolEnd.SinkFault) (K.faults sink.old) (K.faults sink.new) }

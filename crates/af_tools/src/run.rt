@@ -8,8 +8,7 @@ ghost use Rattle.af_toolkit.specs.Ends.{client_of};
 ghost use Rattle.af_cli.specs.Words.{is_spelled, job, one, Job};
 ghost use Rattle.af_cli.specs.Call.{job_of_call, IsCall};
 ghost use Rattle.af_cli.specs.Ranges.{IsAddress, IsRanged};
-ghost use Rattle.af_tools.specs.Results.{is_of_tool};
-ghost use Rattle.af_tools.specs.Reading.{FollowsTrace, TellsIfRead, UsesSource, DialGivesContext, GivesContext, JobReadsLate, LinkGivesContext, ReadsLate};
+ghost use Rattle.af_tools.specs.Reading.{FollowsTrace, TellsIfRead, UsesSource, DialGivesContext, GivesContext, JobReadsLate, ReadsLate, is_of_tool};
 ghost use Rattle.af_tools.specs.Run.{form_of, is_of_af, is_of_dial, is_of_far, is_of_job, job_form, job_reads, reads_of, reads_source, servers_of, source_form, task_trace, AskedFor, DoesJob, EndsForCause, JobRan};
 ghost use Rattle.af_cli.specs.Sizes.{greatest_block};
 
@@ -72,8 +71,8 @@ fn perform_over<L: Link + Drop, S: Source, K: Sink>(
     ensures memory { result.0 ≡ ToolEnd.OutOfMemory → (L.sent result.1 ≡ L.sent far) × (sink.new ≡ sink.old) }
     ensures end { is_of_far (is_of_tool (reads_source task.now)) result.0 ≡ true }
     ensures source { UsesSource S.left S.faults (reads_source task.now) (source_form task.now) result.0 source.old source.new }
-    ensures unread { ReadsLate task.now (λ play. (input : List ℕ) → L.left far ≡ Some input → LinkGivesContext order play input)
-        source.old source.new }
+    ensures unread { ReadsLate task.now (λ play. (link : ToldLink) (links : List ToldLink) → L.left far ≡ Some link.gives →
+        DialGivesContext order play (link ∷ links)) source.old source.new }
     ensures link { result.0 ≡ ToolEnd.LinkFault → FaultCounted (L.faults far) (L.faults result.1) }
     ensures sink { CountsFault (result.0 ≡ ToolEnd.SinkFault) (K.faults sink.old) (K.faults sink.new) }
 {

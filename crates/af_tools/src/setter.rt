@@ -1,12 +1,12 @@
 // aset: sets controls and a hook, and writes the state of the device to the sink.
-ghost use Rattle.std.specs.Prelude.{◌≡◌, true};
+ghost use Rattle.std.specs.Prelude.{◌≡◌, true, false};
 ghost use Rattle.std.specs.declared.option.Option.{Option};
 ghost use Rattle.std.specs.declared.option.Option.TheVariants.{None};
 ghost use Rattle.af_io.specs.Observed.{CountsFault};
 ghost use Rattle.af_toolkit.specs.Ends.{is_of_report, Reports};
 ghost use Rattle.af_standing.specs.ControlsReport.{controls_report_text};
 ghost use Rattle.af_tools.specs.Set.{aset_trace};
-ghost use Rattle.af_tools.specs.Results.{is_of_writer, LacksDevice, RunsTool};
+ghost use Rattle.af_tools.specs.Reading.{is_of_tool, LacksDevice, RunsTool};
 
 use crate::set::set_on;
 use af_cli::SetJob;
@@ -36,7 +36,7 @@ pub fn aset<L: Link + Drop, K: Sink>(job: &SetJob, conn: &mut Conn<L>, sink: &mu
         job.now.device result conn.old conn.new sink.old sink.new }
 
     // each end has its cause
-    ensures end { is_of_writer result ≡ true }
+    ensures end { is_of_tool false result ≡ true }
     ensures no_device { LacksDevice job.now.device conn.old.devices result }
     ensures link { CountsFault (result ≡ ToolEnd.LinkFault) (L.faults conn.old.link) (L.faults conn.new.link) }
     ensures sink { CountsFault (result ≡ ToolEnd.SinkFault) (K.faults sink.old) (K.faults sink.new) }

@@ -1,9 +1,11 @@
 // The sound that a source gives to play: samples, or a sound file.
-ghost use Rattle.std.specs.Prelude.{◌≡◌, ◌≤◌, ◌*◌, ◌==◌, ◌&&◌, ℕ, List, [], length, take, true, IfErr, IfOk, IsErrOf, IsSome, unwrap_or};
+ghost use Rattle.std.specs.Prelude.{◌≡◌, ◌≤◌, ◌*◌, ℕ, List, [], length, take, true, IfErr, IfOk, IsErrOf, IsSome, unwrap_or};
 ghost use Rattle.std.specs.declared.option.Option.TheVariants.{None, Some};
 ghost use Rattle.af_io.specs.Observed.{CountsFault};
-ghost use Rattle.af_tools.specs.Sounds.{at_one_shape, file_sound, raw_sound, served_type, source_width, IsServedAs};
-ghost use Rattle.af_tools.specs.Reading.{ends_shape, is_of_front, is_of_sound, HeadCame, SoundCame, TakesFront, ConsumedHead};
+ghost use Rattle.af_dialogue.specs.Parts.{end_among};
+ghost use Rattle.af_toolkit.specs.Trace.{tool_end};
+ghost use Rattle.af_tools.specs.Sounds.{file_sound, fits_device, raw_sound, served_type, source_width, IsServedAs};
+ghost use Rattle.af_tools.specs.Reading.{is_of_front, is_of_sound, ConsumedHead, EndShows, HeadCame, SoundCame};
 
 use crate::play::MOST_BYTES;
 use af_cli::PlayJob;
@@ -67,7 +69,7 @@ fn read_head<S: Source>(form: SoundForm, source: &mut S) -> Result<FileHead, Too
     ensures read { IfOk result (λ file.
         ConsumedHead (Some form) file.size file.head.length (S.left source.old) (S.left source.new)) }
     ensures end { IfErr result (λ how. is_of_front how ≡ true) }
-    ensures takes { TakesFront (Some form) result (S.left source.old) (S.left source.new) }
+    ensures takes { EndShows (Some form) (IsErrOf result) (S.left source.old) (S.left source.new) }
     ensures fault { CountsFault (IsErrOf result ToolEnd.ReadFault) (S.faults source.old) (S.faults source.new) }
 {
     let mut reader = HeadReader::new(form);
@@ -90,7 +92,7 @@ fn read_head<S: Source>(form: SoundForm, source: &mut S) -> Result<FileHead, Too
 
 // Checks that a file has the rate and the channels of its device.
 fn fit(head: SoundHead, device: DeviceInfo) -> Result<(), ToolEnd>
-    ensures { result ≡ ends_shape head device }
+    ensures { result ≡ end_among tool_end (fits_device device head) }
 {
     if head.rate != device.rate {
         return Err(ToolEnd::RateMismatch {
@@ -122,7 +124,7 @@ pub fn sound_of<S: Source>(
     ensures raw { job.now.form ≡ None →
         (source.new ≡ source.old) × IfOk result (λ sound. sound.ty ≡ unwrap_or job.now.ty device.ty) }
     ensures end { IfErr result (λ how. is_of_sound how ≡ true) }
-    ensures takes { TakesFront job.now.form result (S.left source.old) (S.left source.new) }
+    ensures takes { EndShows job.now.form (IsErrOf result) (S.left source.old) (S.left source.new) }
     ensures fault { CountsFault (IsErrOf result ToolEnd.ReadFault) (S.faults source.old) (S.faults source.new) }
 {
     let Some(form) = job.form else {

@@ -5,10 +5,9 @@ use Rattle.af_sample.specs.Channels.{IsChannelCount}
 use Rattle.af_lib.specs.Calls.{channels_or_one}
 use Rattle.af_toolkit.specs.Ends.{client_of, is_of_report}
 use Rattle.af_tools.specs.Play.{play_finish}
-use Rattle.af_tools.specs.Results.{is_of_blocks}
-use Rattle.af_tools.specs.Reading.{is_of_sound}
+use Rattle.af_tools.specs.Reading.{is_of_sound, is_of_blocks}
 use Rattle.af_tools.proofs.HavingRun.{aplay_missing_ran, aplay_there_ran}
-use Rattle.af_tools.proofs.DeviceChoiceLemmas.{followed_same, is_missing, is_there, missing_iff, reported, there_iff}
+use Rattle.af_tools.proofs.DeviceChoiceLemmas.{is_missing, is_there, missing_iff, reported, there_iff}
 use Rattle.af_tools.proofs.EndLemmas.{never}
 use Rattle.af_toolkit.proofs.ToolPartLemmas.{trace_goes_on, trace_stops}
 use Rattle.af_tools.proofs.SoundFitLemmas.{followed_unsound}
@@ -41,8 +40,7 @@ returns-in-Ok-play_on-clause-ran g c input bytes told is tells =
     let before = consumed_told (g.S.Source.left c.sound_of.new.source) (g.S.Source.left c.play_on.new.source) takes.bytes takes.consumed tells in
     let came = c.in-Ok-sound_of.ensures.brings bytes is before in
     aplay_there_ran job c.requires.block.0 (is_there _ _ device c.in-Ok.ensures.value) c.in-Ok.ensures.stated
-    (followed_same _ _ _ _ _ _ _ (came.2 (reported job device w))
-    (trace_goes_on play_finish _ (input, told, refl) (c.in-Ok-play_on.ensures.goes came.0 (g.K.Sink.held c.args.sink.now) came.1 tells) (c.report.ensures.followed _)))
+    (rw came.2 (trace_goes_on play_finish _ (input, told, refl) (c.in-Ok-play_on.ensures.goes came.0 (g.K.Sink.held c.args.sink.now) came.1 tells) (c.report.ensures.followed _)))
 
 pub returns-in-Ok-play_on-clause-no_device : goal.returns-in-Ok-play_on-clause-no_device
 returns-in-Ok-play_on-clause-no_device g c n =
@@ -57,8 +55,7 @@ returns-in-Err-play_on-clause-ran g c input bytes told is tells =
     let before = consumed_told (g.S.Source.left c.sound_of.new.source) (g.S.Source.left c.play_on.new.source) e.takes.bytes e.takes.consumed tells in
     let came = c.in-Ok-sound_of.ensures.brings bytes is before in
     aplay_there_ran job c.requires.block.0 (is_there _ _ device c.in-Ok.ensures.value) c.in-Ok.ensures.stated
-    (followed_same _ _ _ _ _ _ _ (came.2 (reported job device w))
-    (trace_stops play_finish _ (input, told, refl) (e.goes came.0 (g.K.Sink.held c.args.sink.now) came.1 tells)))
+    (rw came.2 (trace_stops play_finish _ (input, told, refl) (e.goes came.0 (g.K.Sink.held c.args.sink.now) came.1 tells)))
 
 pub returns-in-Err-play_on-clause-no_device : goal.returns-in-Err-play_on-clause-no_device
 returns-in-Err-play_on-clause-no_device g c n =

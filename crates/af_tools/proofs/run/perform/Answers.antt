@@ -4,14 +4,14 @@ use Rattle.af_toolkit.specs.declared.end.ToolEnd.TheVariants as end
 use Rattle.af_cli.specs.declared.job.Task.TheVariants as task
 use Rattle.af_standing.specs.List.{is_of_list}
 use Rattle.af_tools.specs.Run.{reads_source}
-use Rattle.af_tools.specs.Results.{is_of_tool}
+use Rattle.af_tools.specs.Reading.{is_of_tool}
 use Rattle.af_tools.proofs.run.perform.Goals as goal
 
 pub returns-in-Play-clause-followed : goal.returns-in-Play-clause-followed
 returns-in-Play-clause-followed g c input bytes told tells =
     let play : c.args.task.now ≡ task.Play c.in-Play.job = search rules in
     let source = tells (ap reads_source play) in
-    rw play ((c.aplay.ensures.ran input bytes told source.0 source.1).followed)
+    rw play ((c.aplay.ensures.ran input bytes told source.0 source.1).ran.followed)
 
 pub returns-in-Record-clause-followed : goal.returns-in-Record-clause-followed
 returns-in-Record-clause-followed g c input bytes told tells =
@@ -31,7 +31,7 @@ list_end how is = is
 pub returns-in-List-clause-followed : goal.returns-in-List-clause-followed
 returns-in-List-clause-followed g c input bytes told tells =
     let listing : c.args.task.now ≡ task.List = search rules in
-    rw listing ((c.list.ensures.ran input told).followed)
+    rw listing ((c.list.ensures.ran input told).ran.followed)
 
 pub returns-in-List-clause-end : goal.returns-in-List-clause-end
 returns-in-List-clause-end g c =

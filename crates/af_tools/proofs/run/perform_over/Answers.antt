@@ -30,5 +30,5 @@ returns-in-Ok-clause-unread g c job is raw =
     let e = c.in-Ok.ensures in
     elim (c.perform-end.ensures.unread job is raw) [
       | inl same ↦ inl same
-      | inr gives ↦ inr (λ input told. link_gives c.args.order g.L.Link.left g.L.Link.sent g.L.Link.faults job c.args.far c.in-Ok.conn input e.0 e.1 e.3 told gives)
+      | inr gives ↦ inr (λ link links told. link_gives c.args.order g.L.Link.left g.L.Link.sent g.L.Link.faults job c.args.far c.in-Ok.conn link links e.0 e.1 e.3 told gives)
     ]

@@ -169,7 +169,7 @@ IsHeard ty channels gain block bytes start accepted =
     (i channel : ℕ) → i < length bytes / frame_bytes ty channels → channel < channels →
     heard_sample channels accepted (start + i) channel ≡ sample_in channels (gained_samples ty gain bytes) i channel
 
--- that is so for all blocks of some frame
+-- that is so for every source, and blocks of any size
 abbrev pub HeardAsIntended : Type 0
 HeardAsIntended =
     (ty : SampleType) (channels : ℕ) (gain : ℤ) (block : ℕ) (bytes : List ℕ) (start : ℕ) (accepted : List AcceptedPlay) →

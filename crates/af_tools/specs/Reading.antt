@@ -117,7 +117,7 @@ pub record ConsumedCut (form : Option SoundForm) (before after : Option (List �
   pub undecided : IsSomeAnd form (λ of. (front rest : List ℕ) → bytes ≡ front ++ rest →
       ((head : SoundHead) → IsHead of front head → ⊥) × ((fault : SoundFault) → HasFault of front fault → ⊥))
 
--- If code ended so, as this says, that shows in the bytes that the source gave.
+-- Each end for a source shows in the bytes that it gave. This says which end it was.
 pub record EndShows (form : Option SoundForm) (ended : ToolEnd → Type 0) (before after : Option (List ℕ)) : Type 0 where
   pub long : ended end.TooLong → ConsumedTooMuch most_bytes before after
   pub within : (ended end.TooLong → ⊥) → ConsumedWithin most_bytes before after
@@ -240,7 +240,7 @@ pub record EndsIfUnfit (trace : Trace) (how : ToolEnd) : Type 0 where
   pub always : (finish : Finish) → is_unfit finish ≡ true → trace.finish ≡ finish →
       (how ≡ tool_end finish) ⊎ (is_outer how ≡ true)
 
--- The same of aplay, if it gets a sound that its device plays: if it is done, each block was played at its time and is heard.
+-- aplay ran, and is done if it gets a sound that its device plays. If it is done, each block was played at its time and is heard.
 pub record AplayRan (job : PlayJob) (devices : List DeviceInfo) (bytes : List ℕ) (w : ClientState) (how : ToolEnd)
     (sent sent' held held' : Option (List ℕ)) : Type 0 where
   pub ran : ToolRan (IsPlayable job devices bytes) (aplay_trace job devices bytes w) how sent sent' held held'

@@ -9,12 +9,12 @@ use Rattle.af_lib.specs.declared.fault.ConnFault.{ConnFault}
 use Rattle.af_toolkit.specs.declared.end.ToolEnd.{ToolEnd}
 use Rattle.af_toolkit.specs.declared.end.ToolEnd.TheVariants as end
 use Rattle.af_cli.specs.declared.job.PassJob.{PassJob}
-use Rattle.af_toolkit.specs.Trace.{Finish, ClientState, channel_mismatch, done, tool_end, ends, mismatch, no_device, one_shape, refused, writes_first}
+use Rattle.af_toolkit.specs.Trace.{Finish, ClientState, channel_mismatch, done, tool_end, ends, mismatch, no_device, one_shape, refused, writes_first, value_by}
 use Rattle.af_dialogue.specs.Parts.{Goes, Outcome, end_among, followed, goes_on, part_among, part_by}
 use Rattle.af_toolkit.specs.ToolParts.{IsClientOf, LinkSight}
 use Rattle.af_relay.specs.RelayParts.{RelayDid, SendsBoth, relaying}
 use Rattle.af_toolkit.specs.Ends.{MatchesTrace, ObservedTrace, is_outer}
-use Rattle.af_relay.specs.Pair.{pair_of, value_by, EndsByPair}
+use Rattle.af_relay.specs.Pair.{pair_of, EndsByPair}
 use Rattle.af_relay.specs.Pass.{Both, RelayDeeds, RelayPart, apass_trace, both, deeds, doing, finish_of, on_from, passed_text, passes_between, relay_of, relays, writes_line}
 use Rattle.af_relay.specs.Relayed.{ApassRan, IsRelayed}
 use Rattle.af_io.proofs.AppendedLemmas.{appended_none, appended_on}

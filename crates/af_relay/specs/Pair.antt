@@ -3,13 +3,8 @@ use Rattle.std.specs.Prelude.{◌≡◌, ◌↔◌, ℕ, Bool, true, List, Resul
 use Rattle.af_request.specs.declared.reply.DeviceInfo.{DeviceInfo}
 use Rattle.af_toolkit.specs.declared.end.ToolEnd.{ToolEnd}
 use Rattle.af_toolkit.specs.declared.end.ToolEnd.TheVariants as end
-use Rattle.af_toolkit.specs.Trace.{Finish, channel_mismatch, device_at, mismatch, no_device, one_shape}
+use Rattle.af_toolkit.specs.Trace.{Finish, channel_mismatch, device_at, mismatch, no_device, one_shape, value_by}
 use Rattle.af_toolkit.specs.Ends.{is_of_link}
-
--- a value that is there leads to another one, or to an end; without it the end stays
-abbrev pub value_by : {X Y : Type 0} → Result X Finish → (X → Result Y Finish) → Result Y Finish
-value_by (Ok x) next = next x
-value_by (Err finish) next = Err finish
 
 -- the first of two devices by their numbers among those of two servers, if both exist and have one rate and as many channels; or
 -- else an end, for the first of these that is missing: the first device, the second, one rate, as many channels

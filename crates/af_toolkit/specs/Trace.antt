@@ -82,6 +82,11 @@ abbrev pub trace_by : {X : Type 0} → Result X Finish → (X → Trace) → Tra
 trace_by (Ok x) next = next x
 trace_by (Err finish) next = ends finish
 
+-- the same, where another value or an end follows
+abbrev pub value_by : {X Y : Type 0} → Result X Finish → (X → Result Y Finish) → Result Y Finish
+value_by (Ok x) next = next x
+value_by (Err finish) next = Err finish
+
 -- the device with this number, which has to exist
 abbrev pub device_at : ℕ → List DeviceInfo → Result DeviceInfo Finish
 device_at number devices = ok_or (slice_get devices number) (no_device (length devices))

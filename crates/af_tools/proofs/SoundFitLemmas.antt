@@ -12,11 +12,11 @@ use Rattle.af_request.specs.declared.reply.DeviceInfo.{DeviceInfo}
 use Rattle.af_cli.specs.declared.job.PlayJob.{PlayJob}
 use Rattle.af_toolkit.specs.declared.end.ToolEnd.{ToolEnd}
 use Rattle.af_dialogue.specs.Parts.{end_among}
-use Rattle.af_toolkit.specs.Trace.{Trace, Finish, channel_mismatch, done, mismatch, tool_end, too_long, trace_by}
+use Rattle.af_toolkit.specs.Trace.{Trace, Finish, channel_mismatch, done, mismatch, tool_end, too_long, trace_by, value_by}
 use Rattle.af_toolkit.specs.Ends.{ObservedTrace}
 use Rattle.af_toolkit.proofs.ToolPartLemmas.{followed_end, followed_early}
 use Rattle.af_tools.specs.declared.sound.SourceSound.{SourceSound}
-use Rattle.af_tools.specs.Sounds.{most_bytes, as_served, file_sound, fits_device, header_or_end, reads_file, reads_sound, stated_part, value_by, GivesSamples, IsServedAs}
+use Rattle.af_tools.specs.Sounds.{most_bytes, as_served, file_sound, fits_device, header_or_end, reads_file, reads_sound, stated_part, GivesSamples, IsServedAs}
 use Rattle.af_tools.specs.Reading.{SoundCame}
 use Rattle.af_tools.proofs.HeadReadLemmas.{front_within}
 

@@ -17,7 +17,7 @@ use Rattle.af_sound.specs.Served.{served_bytes, served_length, HasWholePairs}
 use Rattle.af_sound.specs.Written.{sample_size}
 use Rattle.af_request.specs.declared.reply.DeviceInfo.{DeviceInfo}
 use Rattle.af_cli.specs.declared.job.PlayJob.{PlayJob}
-use Rattle.af_toolkit.specs.Trace.{Finish, bad_sound, one_shape, sound_cut, too_long}
+use Rattle.af_toolkit.specs.Trace.{Finish, bad_sound, one_shape, sound_cut, too_long, value_by}
 use Rattle.af_tools.specs.declared.sound.SourceSound.{SourceSound}
 
 -- how many bytes a source may give, with the header of a file
@@ -88,11 +88,6 @@ file_sound device head size = record {
   head = size;
   length = head.length;
 }
-
--- a value leads to another one or to an end, and an end stays
-abbrev pub value_by : {X Y : Type 0} → Result X Finish → (X → Result Y Finish) → Result Y Finish
-value_by (Ok x) next = next x
-value_by (Err finish) next = Err finish
 
 -- what the front of a file says: its header, or an end for its fault, or for the end of the source
 abbrev pub header_or_end : HeadStep → Result SoundHead Finish

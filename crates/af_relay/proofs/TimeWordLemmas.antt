@@ -53,15 +53,7 @@ called_word {left} {asked} {old} {new} {result} word c = record {
   untouched = c.untouched;
   exchanged = λ usable.
       let e = c.exchanged usable in
-      record {
-        sends = e.sends;
-        answers = λ sound. BothTold-map (left old.link) (left new.link) _ _ (e.answers sound) (λ b a told. ((alike_message old.order (opcode_of asked) _).alike result word told.0, told.1, told.2));
-        gained = e.gained;
-        fresh = e.fresh;
-        tells = e.tells;
-        failed = e.failed;
-        count = e.count;
-      };
+      record { sends = e.sends; answers = λ sound. BothTold-map (left old.link) (left new.link) _ _ (e.answers sound) (λ b a told. ((alike_message old.order (opcode_of asked) _).alike result word told.0, told.1, told.2)); gained = e.gained; fresh = e.fresh; tells = e.tells; failed = e.failed; count = e.count };
   keeps = c.keeps;
 }
 

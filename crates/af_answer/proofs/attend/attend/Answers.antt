@@ -23,8 +23,8 @@ loop-left-init g c =
       stays = record {
         usable = ap (λ (conn : ConnState _). conn.cause) kept;
         devices = ap (λ (conn : ConnState _). conn.devices) kept;
-        tells = asked.tells;
-        count = asked.count;
+        tells = (asked.exchanged c.requires.usable).tells;
+        count = (asked.exchanged c.requires.usable).count;
       };
       children = omega arith;
       few = subst (λ (t : Tally). t.answered + job.calls ≤ job.calls) (sym none) (omega arith);

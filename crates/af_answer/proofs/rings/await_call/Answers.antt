@@ -41,8 +41,8 @@ loop-allowed-preserved g c =
       stays = record {
         usable = stays.0;
         devices = stays.1 ∙ i.stays.devices;
-        tells = λ t. e.tells (i.stays.tells t);
-        count = omega (arith, e.count, i.stays.count);
+        tells = λ t. e.read.tells (i.stays.tells t);
+        count = omega (arith, e.read.counts.0, i.stays.count);
       };
       few = omega (arith, c.rings_after-rings.ensures.few, i.few);
       waiting = λ acts held.

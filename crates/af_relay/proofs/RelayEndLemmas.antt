@@ -9,7 +9,7 @@ use Rattle.af_lib.specs.declared.fault.ConnFault.{ConnFault}
 use Rattle.af_toolkit.specs.declared.end.ToolEnd.{ToolEnd}
 use Rattle.af_toolkit.specs.declared.end.ToolEnd.TheVariants as end
 use Rattle.af_cli.specs.declared.job.PassJob.{PassJob}
-use Rattle.af_toolkit.specs.Trace.{Finish, ClientState, channel_mismatch, done, tool_end, ends, mismatch, no_device, one_shape, refused, writes_first, value_by}
+use Rattle.af_toolkit.specs.Trace.{Finish, ClientState, channel_mismatch, done, tool_end, ends, mismatch, no_device, one_shape, refused, value_by, writes_first}
 use Rattle.af_dialogue.specs.Parts.{Goes, Outcome, end_among, followed, goes_on, part_among, part_by}
 use Rattle.af_toolkit.specs.ToolParts.{IsClientOf, LinkSight}
 use Rattle.af_relay.specs.RelayParts.{RelayDid, SendsBoth, relaying}

@@ -55,7 +55,7 @@ pub record MatchesRelay (relay : RelayTrace) (how : ToolEnd) (did : RelayDeeds) 
 abbrev pub SendsBoth : RelayDeeds → (sent sent' : Both (Option (List ℕ))) → Type 0
 SendsBoth did sent sent' = Appended sent.from did.from sent'.from × Appended sent.to did.to sent'.to
 
--- the same of a relay that ended: the sink gained what was written, and this holds of what was sent
+-- A relay ended: what it did matches its trace, the sink gained what was written, and this holds of what was sent.
 pub record RelayDid (relay : RelayTrace) (how : ToolEnd) (held held' : Option (List ℕ))
     (IsSent : RelayDeeds → Type 0) : Type 0 where
   pub did : RelayDeeds

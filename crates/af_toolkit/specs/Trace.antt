@@ -82,7 +82,7 @@ abbrev pub trace_by : {X : Type 0} → Result X Finish → (X → Trace) → Tra
 trace_by (Ok x) next = next x
 trace_by (Err finish) next = ends finish
 
--- the same, where another value or an end follows
+-- a value that is there leads to another one or to an end, and an end stays
 abbrev pub value_by : {X Y : Type 0} → Result X Finish → (X → Result Y Finish) → Result Y Finish
 value_by (Ok x) next = next x
 value_by (Err finish) next = Err finish

@@ -32,7 +32,7 @@ use Rattle.af_toolkit.specs.Ends.{EndsByReply, IsAnswered, is_outer}
 use Rattle.af_sound.specs.declared.head.SoundForm.{SoundForm}
 use Rattle.af_tools.specs.Reading.{SetUpFirst, TellsIfRead, UsesSource, is_of_tool, is_unfit, EndsIfUnfit}
 
--- each link of a relay, which gives these bytes, is set up in a byte order, and the devices of its server are the value
+-- a link of a relay, which gives these bytes, is set up in a byte order, and the devices of its server are the value
 abbrev pub sets_up_from : Order → List ℕ → RelayPart ConnFault (List DeviceInfo)
 sets_up_from order input at =
     called (deeds (setup_bytes order) [] []) (setup_answer order input) (both (client_after_setup order input) at.to)
@@ -47,7 +47,7 @@ relays_to order job [] from = stops doing not_dialled
 relays_to order job (link ∷ links) from =
     goes_on doing (part_among refused (sets_up_to order link.gives)) (λ to. relays job from to)
 
--- a client whose link is not there yet
+-- in place of a client whose link is not set up yet
 abbrev pub no_client : Order → ClientState
 no_client order = client_before_setup order []
 
@@ -95,14 +95,6 @@ source_form _ = None
 abbrev pub job_form : Job → Option SoundForm
 job_form (one server order task) = source_form task
 job_form (relay from to order job) = None
-
-abbrev pub form_of : Option Job → Option SoundForm
-form_of (Some j) = job_form j
-form_of None = None
-
-abbrev pub reads_of : Option Job → Bool
-reads_of (Some j) = job_reads j
-reads_of None = false
 
 -- the ends of a tool over a link that was dialled, and of one that dials, by those that it has over its connections
 abbrev pub is_of_far : (ToolEnd → Bool) → ToolEnd → Bool

@@ -1,5 +1,6 @@
 // The tools, by their arguments: a server is dialled, and the job is done.
-ghost use Rattle.std.specs.Prelude.{◌≡◌, ◌≢◌, ◌≤◌, ◌⊎◌, ◌∷◌, [], ℕ, List, true, length};
+ghost use Rattle.std.specs.Prelude.{◌≡◌, ◌≢◌, ◌≤◌, ◌⊎◌, ◌∷◌, [], ℕ, List, true, false, length, option_and_then};
+ghost use Rattle.std.specs.Option.{option_map_or};
 ghost use Rattle.std.specs.declared.option.Option.TheVariants.{None, Some};
 ghost use Rattle.af_io.specs.Observed.{CountsFault, Appended, FaultCounted};
 ghost use Rattle.af_io.specs.Dial.{ToldLink};
@@ -9,7 +10,7 @@ ghost use Rattle.af_cli.specs.Words.{is_spelled, job, one, Job};
 ghost use Rattle.af_cli.specs.Call.{job_of_call, IsCall};
 ghost use Rattle.af_cli.specs.Ranges.{IsAddress, IsRanged};
 ghost use Rattle.af_tools.specs.Reading.{FollowsTrace, TellsIfRead, UsesSource, DialGivesContext, GivesContext, JobReadsLate, ReadsLate, is_of_tool};
-ghost use Rattle.af_tools.specs.Run.{form_of, is_of_af, is_of_dial, is_of_far, is_of_job, job_form, job_reads, reads_of, reads_source, servers_of, source_form, task_trace, AskedFor, DoesJob, EndsForCause, JobRan};
+ghost use Rattle.af_tools.specs.Run.{is_of_af, is_of_dial, is_of_far, is_of_job, job_form, job_reads, reads_source, servers_of, source_form, task_trace, AskedFor, DoesJob, EndsForCause, JobRan};
 ghost use Rattle.af_cli.specs.Sizes.{greatest_block};
 
 use crate::memory::Memory;
@@ -172,8 +173,8 @@ pub fn af_run<S: Source, K: Sink, D: Dial>(
 
     // each end has its cause
     ensures end { is_of_af (job words.now) result ≡ true }
-    ensures causes { EndsForCause S.left S.faults K.faults D.faults D.hurt (reads_of (job words.now)) (form_of (job words.now))
-        result source.old source.new sink.old sink.new dial.old dial.new }
+    ensures causes { EndsForCause S.left S.faults K.faults D.faults D.hurt (option_map_or job_reads (job words.now) false)
+        (option_and_then job_form (job words.now)) result source.old source.new sink.old sink.new dial.old dial.new }
     ensures unread { (j : Job) → job words.now ≡ Some j → JobReadsLate D.links j dial.old source.old source.new }
 {
     match call_of(alloc, words) {

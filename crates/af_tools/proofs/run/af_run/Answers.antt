@@ -1,10 +1,11 @@
-use Rattle.std.proofs.Common.{refl, subst, sym, ap, ◌∙◌, Option}
+use Rattle.std.proofs.Common.{refl, subst, sym, ap, ◌∙◌, false, Option, option_and_then}
+use Rattle.std.specs.Option.{option_map_or}
 use Rattle.std.proofs.lemmas.Option.{same_Some}
 use Rattle.af_toolkit.specs.declared.end.ToolEnd.TheVariants as end
 use Rattle.af_cli.specs.Words.{Job}
 use Rattle.af_cli.specs.Call.{job_of_call}
 use Rattle.af_tools.specs.Reading.{TellsIfRead}
-use Rattle.af_tools.specs.Run.{EndsForCause, JobDone, form_of, job_reads, reads_of}
+use Rattle.af_tools.specs.Run.{EndsForCause, JobDone, job_form, job_reads}
 use Rattle.af_tools.proofs.OutcomeLemmas.{did, ranged_call}
 use Rattle.af_tools.proofs.DialLemmas.{not_too_long, ran_none}
 use Rattle.af_tools.proofs.run.af_run.Goals as goal
@@ -25,7 +26,7 @@ returns-in-Ok-clause-told g c j called used links bytes told tells =
 
 pub returns-in-Ok-clause-causes : goal.returns-in-Ok-clause-causes
 returns-in-Ok-clause-causes g c =
-    subst (λ (o : Option Job). EndsForCause g.S.Source.left g.S.Source.faults g.K.Sink.faults g.D.Dial.faults g.D.Dial.hurt (reads_of o) (form_of o) c.run_call.result c.args.source.now c.run_call.new.source c.args.sink.now c.run_call.new.sink c.args.dial.now c.run_call.new.dial) (sym c.in-Ok.ensures.ok) c.run_call.ensures.causes
+    subst (λ (o : Option Job). EndsForCause g.S.Source.left g.S.Source.faults g.K.Sink.faults g.D.Dial.faults g.D.Dial.hurt (option_map_or job_reads o false) (option_and_then job_form o) c.run_call.result c.args.source.now c.run_call.new.source c.args.sink.now c.run_call.new.sink c.args.dial.now c.run_call.new.dial) (sym c.in-Ok.ensures.ok) c.run_call.ensures.causes
 
 pub returns-in-Ok-clause-unread : goal.returns-in-Ok-clause-unread
 returns-in-Ok-clause-unread g c j called server order t is = c.run_call.ensures.unread server order t (same_Some (job_of_call c.in-Ok.call) j (sym c.in-Ok.ensures.ok ∙ called) ∙ is)

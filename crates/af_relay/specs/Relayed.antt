@@ -47,7 +47,7 @@ record_replies (suc n) pace at v =
       | Err fault ↦ []
     ]
 
--- A block is not played when it was due, by these times as a request states them, in 32 bits. The first is never due.
+-- 1 for a block that was due at another time, in the 32 bits that a request states, and else 0: the first is never due
 abbrev pub is_moved : Option DevTime → DevTime → ℕ
 is_moved None time = 0
 is_moved (Some due) time = if (time.0 % 2 ^ 32) == (due.0 % 2 ^ 32) then 0 else 1

@@ -56,7 +56,6 @@ abbrev pub SendsBoth : RelayDeeds → (sent sent' : Both (Option (List ℕ))) �
 SendsBoth did sent sent' = Appended sent.from did.from sent'.from × Appended sent.to did.to sent'.to
 
 -- A relay ended: what it did matches its trace, the sink gained what was written, and this holds of what was sent.
--- A relay ended: what it did matches its trace, the sink gained what was written, and this holds of what was sent.
 pub record RelayDid (relay : RelayTrace) (how : ToolEnd) (held held' : Option (List ℕ))
     (IsSent : RelayDeeds → Type 0) : Type 0 where
   pub did : RelayDeeds

@@ -35,55 +35,91 @@ fmt: ## lays out each crate's files
 # Where install puts things is where Debian's policy has them. A package says PREFIX=/usr, DESTDIR for the folder that it is made
 # in, WIRESHARK=/usr/lib/$(DEB_HOST_MULTIARCH)/wireshark/plugins for the dissector, and ZSH=/usr/share/zsh/vendor-completions for
 # the completions of zsh, where Debian's looks; it compresses the pages itself. tools/make-deb makes one so.
+# Each path may have spaces, quotes and other signs that the shell reads. What cannot work is refused, see below.
 PREFIX = /usr/local
 DESTDIR =
 AFD = bin/afd
 AF = bin/af
 WIRESHARK = $(PREFIX)/share/audiofile
 ZSH = $(PREFIX)/share/zsh/site-functions
-PROGRAMS = $(DESTDIR)$(PREFIX)/bin
-MANUALS = $(DESTDIR)$(PREFIX)/share/man
-UNITS = $(DESTDIR)$(PREFIX)/lib/systemd/system
-USER_UNITS = $(DESTDIR)$(PREFIX)/lib/systemd/user
-BASH_COMPLETIONS = $(DESTDIR)$(PREFIX)/share/bash-completion/completions
-ZSH_COMPLETIONS = $(DESTDIR)$(ZSH)
-PAGES = $(DESTDIR)$(PREFIX)/share/doc/audiofile
-DISSECTORS = $(DESTDIR)$(WIRESHARK)
+
+# characters that make cannot take as they are
+empty :=
+space := $(empty) $(empty)
+tab := $(empty)	$(empty)
+define newline
+
+
+endef
+
+# a path as a word of the shell, as a word of a command in a unit, and as sed puts it in place of another
+shell_word = '$(subst ','\'',$1)'
+unit_word = $(subst $(space),\s,$(subst %,%%,$1))
+sed_text = $(subst |,\|,$(subst &,\&,$(subst \,\\,$1)))
+
+# each of these is a word of the shell
+PROGRAMS = $(call shell_word,$(DESTDIR)$(PREFIX)/bin)
+SHARE = $(call shell_word,$(DESTDIR)$(PREFIX)/share)
+MANUALS = $(SHARE)/man
+UNITS = $(call shell_word,$(DESTDIR)$(PREFIX)/lib/systemd/system)
+USER_UNITS = $(call shell_word,$(DESTDIR)$(PREFIX)/lib/systemd/user)
+BASH_COMPLETIONS = $(SHARE)/bash-completion/completions
+ZSH_COMPLETIONS = $(call shell_word,$(DESTDIR)$(ZSH))
+PAGES = $(SHARE)/doc/audiofile
+DISSECTORS = $(call shell_word,$(DESTDIR)$(WIRESHARK))
+UNIT_EDIT = $(call shell_word,s|/usr/local/bin|$(call sed_text,$(call unit_word,$(PREFIX)/bin))|)
 ADAPTERS = $(wildcard contrib/audiofile-*-card contrib/audiofile-phone-*)
 EXAMPLES = $(wildcard contrib/*.conf) contrib/asoundrc $(wildcard examples/*.script examples/*.py) contrib/python/audiofile.py
 DISSECTOR = $(wildcard contrib/audiofile.lua)
 
+# Refuses a path that cannot work, or that may not be the one that is meant. Make reads all lines of a recipe before it runs one,
+# so nothing is touched before.
+dollar = $(if $(filter-out file,$(origin $1)),$(findstring $$,$(subst $$$$,,$(value $1))))
+no_dollar = $(if $(call dollar,$1),$(error $1 has a $$ that make takes for itself: write $$$$ where a name has one))
+no_newline = $(if $(findstring $(newline),$($1)),$(error $1 has a newline))
+from_root = $(if $(filter /%,$(firstword $($1))),,$(error $1 does not begin with a slash))
+# systemd starts no program that has one of these in its path
+in_no_unit = $(findstring ',$(PREFIX))$(findstring ",$(PREFIX))$(findstring \,$(PREFIX))$(findstring $(tab),$(PREFIX))
+refused = $(foreach name,PREFIX DESTDIR WIRESHARK ZSH AFD AF,$(call no_dollar,$(name))) \
+  $(foreach name,PREFIX DESTDIR WIRESHARK ZSH AFD AF,$(call no_newline,$(name))) \
+  $(foreach name,$(if $(PREFIX),PREFIX) WIRESHARK ZSH,$(call from_root,$(name))) \
+  $(if $(in_no_unit),$(error PREFIX has a quote, a backslash or a tab: systemd starts no program in such a folder)) \
+  $(if $(filter ~%,$(firstword $(DESTDIR))),$(error DESTDIR begins with a ~ that the shell did not replace: write the whole path))
+
 install: ## puts programs, manual pages, units, completions, examples and dissector below PREFIX (/usr/local); after make build
-	@for program in $(AFD) $(AF); do \
-	  [ -x $$program ] || { echo "$$program is not there: make build proves and makes it" >&2; exit 1; }; done
-	install -d $(PROGRAMS) $(MANUALS)/man1 $(MANUALS)/man5 $(MANUALS)/man7 $(MANUALS)/man8 $(UNITS) $(USER_UNITS)
-	install -d $(PAGES)/examples $(DISSECTORS) $(BASH_COMPLETIONS) $(ZSH_COMPLETIONS)
-	install -m 755 $(AFD) $(PROGRAMS)/afd
-	install -m 755 $(AF) $(PROGRAMS)/af
-	install -m 755 $(ADAPTERS) $(PROGRAMS)
-	install -m 644 man/af.1 $(MANUALS)/man1/af.1
-	install -m 644 man/afd-script.5 $(MANUALS)/man5/afd-script.5
-	install -m 644 man/audiofile-protocol.7 $(MANUALS)/man7/audiofile-protocol.7
-	install -m 644 man/afd.8 $(MANUALS)/man8/afd.8
-	sed 's,/usr/local/bin,$(PREFIX)/bin,' contrib/afd.service > $(UNITS)/afd.service && chmod 644 $(UNITS)/afd.service
-	sed 's,/usr/local/bin,$(PREFIX)/bin,' contrib/afd-user.service > $(USER_UNITS)/afd.service && chmod 644 $(USER_UNITS)/afd.service
-	install -m 644 contrib/completions/audiofile.bash $(BASH_COMPLETIONS)/af
-	ln -sf af $(BASH_COMPLETIONS)/afd
-	install -m 644 contrib/completions/_audiofile $(ZSH_COMPLETIONS)/_audiofile
-	install -m 644 $(EXAMPLES) $(PAGES)/examples
-	install -m 644 LICENSE $(PAGES)/copyright
-	for file in $(DISSECTOR); do install -m 644 $$file $(DISSECTORS); done
+	@$(refused)
+	@for program in $(call shell_word,$(AFD)) $(call shell_word,$(AF)); do [ -f "$$program" ] && [ -x "$$program" ] || \
+	  { printf '%s is not there: make build proves and makes it\n' "$$program" >&2; exit 1; }; done
+	install -d -- $(PROGRAMS) $(MANUALS)/man1 $(MANUALS)/man5 $(MANUALS)/man7 $(MANUALS)/man8 $(UNITS) $(USER_UNITS)
+	install -d -- $(PAGES)/examples $(DISSECTORS) $(BASH_COMPLETIONS) $(ZSH_COMPLETIONS)
+	install -m 755 -- $(call shell_word,$(AFD)) $(PROGRAMS)/afd
+	install -m 755 -- $(call shell_word,$(AF)) $(PROGRAMS)/af
+	install -m 755 -- $(ADAPTERS) $(PROGRAMS)
+	install -m 644 -- man/af.1 $(MANUALS)/man1/af.1
+	install -m 644 -- man/afd-script.5 $(MANUALS)/man5/afd-script.5
+	install -m 644 -- man/audiofile-protocol.7 $(MANUALS)/man7/audiofile-protocol.7
+	install -m 644 -- man/afd.8 $(MANUALS)/man8/afd.8
+	sed $(UNIT_EDIT) contrib/afd.service > $(UNITS)/afd.service && chmod 644 -- $(UNITS)/afd.service
+	sed $(UNIT_EDIT) contrib/afd-user.service > $(USER_UNITS)/afd.service && chmod 644 -- $(USER_UNITS)/afd.service
+	install -m 644 -- contrib/completions/audiofile.bash $(BASH_COMPLETIONS)/af
+	ln -sf -- af $(BASH_COMPLETIONS)/afd
+	install -m 644 -- contrib/completions/_audiofile $(ZSH_COMPLETIONS)/_audiofile
+	install -m 644 -- $(EXAMPLES) $(PAGES)/examples
+	install -m 644 -- LICENSE $(PAGES)/copyright
+	for file in $(DISSECTOR); do install -m 644 -- "$$file" $(DISSECTORS); done
 
 uninstall: ## takes away what install put there, with the same PREFIX and DESTDIR, and leaves configuration and sound
-	rm -f $(PROGRAMS)/afd $(PROGRAMS)/af $(addprefix $(PROGRAMS)/,$(notdir $(ADAPTERS))) $(UNITS)/afd.service $(USER_UNITS)/afd.service $(PAGES)/copyright
-	rm -f $(BASH_COMPLETIONS)/af $(BASH_COMPLETIONS)/afd $(ZSH_COMPLETIONS)/_audiofile
-	rm -f $(MANUALS)/man1/af.1 $(MANUALS)/man5/afd-script.5 $(MANUALS)/man7/audiofile-protocol.7 $(MANUALS)/man8/afd.8
-	rm -f $(addprefix $(PAGES)/examples/,$(notdir $(EXAMPLES))) $(addprefix $(DISSECTORS)/,$(notdir $(DISSECTOR)))
-	rm -f $(PAGES)/examples/__pycache__/audiofile.*.pyc
-	for folder in $(PAGES)/examples/__pycache__ $(PAGES)/examples $(PAGES) $(DESTDIR)$(PREFIX)/share/audiofile; do \
-	  [ ! -d $$folder ] || rmdir --ignore-fail-on-non-empty $$folder; done
+	@$(refused)
+	rm -f -- $(PROGRAMS)/afd $(PROGRAMS)/af $(addprefix $(PROGRAMS)/,$(notdir $(ADAPTERS)))
+	rm -f -- $(UNITS)/afd.service $(USER_UNITS)/afd.service $(PAGES)/copyright
+	rm -f -- $(BASH_COMPLETIONS)/af $(BASH_COMPLETIONS)/afd $(ZSH_COMPLETIONS)/_audiofile
+	rm -f -- $(MANUALS)/man1/af.1 $(MANUALS)/man5/afd-script.5 $(MANUALS)/man7/audiofile-protocol.7 $(MANUALS)/man8/afd.8
+	rm -f -- $(addprefix $(PAGES)/examples/,$(notdir $(EXAMPLES))) $(addprefix $(DISSECTORS)/,$(notdir $(DISSECTOR)))
+	rm -f -- $(PAGES)/examples/__pycache__/audiofile.*.pyc
+	for folder in $(PAGES)/examples/__pycache__ $(PAGES)/examples $(PAGES) $(SHARE)/audiofile; do \
+	  [ ! -d "$$folder" ] || rmdir --ignore-fail-on-non-empty -- "$$folder"; done
 
-check-install: ## tries install and uninstall in a temporary folder, and the manual pages: seconds
+check-install: ## tries install and uninstall in a temporary folder, and the manual pages: half a minute at most
 	@tools/check-install
 
 .PHONY: help demo script kit build install uninstall check-install check-scripts test fmt

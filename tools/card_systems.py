@@ -155,6 +155,20 @@ def alsa_card(trial):
         ends(trial, server, "aplay", "arecord")
 
 
+def no_setpriv(trial):
+    """Without the setpriv of util-linux the script of a card starts nothing, and says so. Another one knows no --pdeathsig."""
+    other = os.path.join(trial.folder, "setpriv")
+    trial.file(trial.folder, "setpriv", b"#!/bin/sh\nexit 1\n")
+    os.chmod(other, 0o755)
+    for found, words in [("/nowhere", "a folder without it"), (trial.folder, "another setpriv")]:
+        for name, card in [("alsa", "null 8000 1 MU_LAW"), ("pulse", "8000 1 ulaw"), ("pipewire", "8000 1 ulaw")]:
+            script = os.path.join(SCRIPTS, "audiofile-%s-card" % name)
+            done = subprocess.run(
+                [script, *card.split()], stdin=subprocess.DEVNULL, capture_output=True, timeout=10, env={"PATH": found})
+            wanted = (1, b"", b"audiofile-%s-card: setpriv of util-linux is missing\n" % name.encode())
+            trial.holds("%s: %s" % (words, done), (done.returncode, done.stdout, done.stderr) == wanted)
+
+
 def programs(folder, name):
     """The processes of a program that run in a folder."""
     found = []

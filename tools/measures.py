@@ -33,9 +33,13 @@ class Sound:
         """How many a block has."""
         return self.rate // self.often
 
+    def width(self):
+        """How many bytes a frame has."""
+        return WIDTHS[self.type] * self.channels
+
     def size(self):
         """How many bytes a block has."""
-        return self.frames() * WIDTHS[self.type] * self.channels
+        return self.frames() * self.width()
 
     def block(self):
         """A block that is not silence."""

@@ -1,5 +1,6 @@
 """Trials of tools/try-phone: the program for baresip, which another baresip calls over the loopback, alone and then before the
-answering machine of a real server. Where baresip is not installed they are passed over."""
+answering machine of a real server. Where baresip is not installed they are passed over. A script stands for baresip where it says
+what no baresip should."""
 
 import json
 import os
@@ -34,6 +35,17 @@ audio_source aufile,{folder}/said.wav
 audio_player aubridge,nowhere
 audio_alert aubridge,nowhere
 """
+
+# what is no event, of which a caller's name could be a part; and what is one, but not as it should be
+TEXTS = [
+    b"", b"null", b"5", b"NaN", b"[1, 2]", b'"x"', b"9" * 5000, b"[" * 90000, b'{"a":' * 90000, b'{"type": "CALL_CLOSED"',
+    b"\xff\xfe", b"\x1b]0;mine\x07" * 300, b'{"type": ["CALL_DTMF_START"], "param": {}}', b'{"type": "CALL_DTMF_START", "param": ["5"]}',
+    b'{"type": "CALL_DTMF_START", "param": "\\ud800"}', b'{"type": "CALL_DTMF_START", "param": %s}' % (b"9" * 5000)]
+CALLS = b'{"type": "CALL_INCOMING", "peerdisplayname": "\xff\x1b[2J\n\0"}'
+# what no baresip says, and what is printed of it
+OF_OTHERS = [
+    (b"HTTP/1.1 400\r\n", b"HTTP/1.1 400\\x0d\\x0a"), (b"\x1b[2J:", b"\\x1b[2J:"), (b"1234567:", b"1234567:"), (b":", b":"),
+    ("5\u202e".encode(), b"5\\u{202e}"), (b"x" * 4000, b"x" * 98 + b"..")]
 
 
 def is_missing():
@@ -78,7 +90,7 @@ class Baresip:
     def tell(self, command, params=""):
         octets = json.dumps({"command": command, "params": params}).encode()
         with socket.create_connection(("127.0.0.1", self.control)) as link:
-            link.sendall(b"%d:%s," % (len(octets), octets))
+            link.sendall(netstring(octets))
             link.settimeout(5)
             # it answers once it has begun
             link.recv(4096)
@@ -130,6 +142,38 @@ def baresip(trial):
     refused = (1, b"", ("audiofile-phone-baresip: %s: Connection refused\n" % near.address).encode())
     trial.holds("without a baresip it says so", run(trial.folder, BARESIP, near.address) == refused)
     trial.holds("an address has a port", run(trial.folder, BARESIP, "localhost")[0] == 2)
+
+
+def baresip_texts(trial):
+    """Texts that are no events, or bad ones, are skipped, and the next call rings. Of the skipped ones the first is printed."""
+    with socket.create_server(("127.0.0.1", 0)) as server:
+        address = "127.0.0.1:%d" % server.getsockname()[1]
+        with Line(trial.folder, BARESIP, address) as line:
+            link = server.accept()[0]
+            line.hand("onhook")
+            trial.holds("it begins without a call", line.says("ring off", "loop off"))
+            for text in TEXTS:
+                link.sendall(netstring(text) + netstring(CALLS))
+                trial.holds("after %s a call rings" % text[:20], line.says("ring on"))
+                link.sendall(netstring(b'{"type": "CALL_CLOSED"}'))
+                trial.holds("and ends", line.says("ring off"))
+            link.close()
+            ended = line.ended()
+            told = [b"audiofile-phone-baresip: skipped what is no event: ", b"audiofile-phone-baresip: %s: " % address.encode()]
+            lines = ended[1].splitlines()
+            is_so = ended[0] == 1 and len(lines) == 2 and all(map(bytes.startswith, lines, told))
+            trial.holds("it tells the first one, and its end: %s" % ended[1], is_so)
+        for said, shown in OF_OTHERS:
+            with Line(trial.folder, BARESIP, address) as line:
+                with server.accept()[0] as link:
+                    link.sendall(said)
+                    wanted = (1, b"audiofile-phone-baresip: %s: this is no baresip: it says %s\n" % (address.encode(), shown))
+                    ended = line.ended()
+                    trial.holds("what is no baresip is told: %s" % (ended,), ended == wanted)
+
+
+def netstring(octets):
+    return b"%d:%s," % (len(octets), octets)
 
 
 def baresip_call(trial):

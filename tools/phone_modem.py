@@ -12,6 +12,13 @@ from phones import LATE, Machine, Watcher
 
 MODEM = os.path.join(CONTRIB, "audiofile-phone-modem")
 SETUP = "ATE0Q0V1&C1&D2S0=0"
+# how often a hook is moved at once, how many commands may come of that, and after how many seconds there are no more
+HOOKS, MOST_COMMANDS, MOST_SECONDS = 6000, 20, 3
+# what a modem may say, and what is printed of it
+RAW = [
+    ("\x1b]0;mine\x07 \x9b31m \u202e\u2066\ufeff\u061c\u180e \u00e9".encode(),
+     "\\x1b]0;mine\\x07 \\u{9b}31m \\u{202e}\\u{2066}\\u{feff}\\u{61c}\\u{180e} \u00e9"),
+    (b"\x9b2J \xff", "\\x9b2J \\xff")]
 
 
 class FakeModem(Pty):
@@ -36,7 +43,7 @@ class FakeModem(Pty):
         os.write(self.master, octets)
 
     def tell(self, text):
-        self.say(b"\r\n%s\r\n" % text.encode())
+        self.say(b"\r\n%s\r\n" % (text if isinstance(text, bytes) else text.encode()))
 
     def gets(self, *commands, seconds=20):
         """Waits for so many commands. Whether these came and no more since it was asked last."""
@@ -99,6 +106,36 @@ def modem_waits(trial):
         device.answers["H1"] = "ERROR"
         line.hand("offhook")
         trial.holds("a line that is not had is without current", device.gets("ATH1") and line.says("loop off"))
+
+
+def modem_hooks(trial):
+    """A hook that is moved faster than a modem follows: it is told the last place of the hook, and next to none before that."""
+    with FakeModem() as device, Line(trial.folder, MODEM, device.path) as line:
+        line.hand("onhook")
+        trial.holds("it is set up", line.says("ring off", "loop off") and device.gets(SETUP, "ATH"))
+        line.near.settimeout(20)
+        line.near.sendall(b"offhook\nonhook\n" * (HOOKS // 2) + b"offhook\n")
+        time.sleep(MOST_SECONDS)
+        commands = list(device.commands)
+        told = "%d hooks are %d commands in %d s, the last is %s" % (HOOKS, len(commands), MOST_SECONDS, commands[-1:])
+        trial.holds(told, commands[-1:] == ["ATH1"] and len(commands) <= MOST_COMMANDS)
+        trial.holds("the line has current: %s" % line.said[-1:], [it for it, _ in line.said[-1:]] == ["loop on"])
+        time.sleep(1)
+        trial.holds("and no more comes", device.commands == commands)
+        trial.holds("it ends with the server", line.close() == (0, b""))
+
+
+def modem_prints(trial):
+    """What a modem says is printed in one line that a terminal only shows, and of a long one no more than its beginning."""
+    for said, shown in [*RAW, (b"x" * 4000, "x" * 86 + ".."), (b"\x1b" * 300, None)]:
+        with FakeModem({"E0": b"+CME ERROR: " + said}) as device, Line(trial.folder, MODEM, device.path) as line:
+            line.hand("onhook")
+            status, told = line.ended()
+            before = ("audiofile-phone-modem: %s: the modem answers " % device.path).encode()
+            answer = told.removeprefix(before).removesuffix(b" to %s\n" % SETUP.encode()).decode()
+            trial.holds("it ends, and prints one line: %s" % ascii(told), status == 1 and told.startswith(before))
+            fits = answer == "+CME ERROR: " + shown if shown else len(answer) <= 100
+            trial.holds("what is printed is shown: %s" % ascii(answer), fits and answer.isprintable())
 
 
 def modem_faults(trial):

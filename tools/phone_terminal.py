@@ -79,6 +79,10 @@ def terminal(trial):
             trial.holds("who takes it off without a call has current", line.says("loop on") and person.sees("off the hook"))
             line.hand("onhook")
             trial.holds("until it is on again", line.says("loop off") and person.sees("on the hook"))
+            line.near.settimeout(20)
+            line.near.sendall(b"offhook\nonhook\n" * 3000)
+            moved = ["loop on", "loop off"] * 3000
+            trial.holds("each of many moves of the hook acts", line.says(*moved) and person.sees("on the hook"))
             person.press("rq")
             trial.holds("who leaves hangs up", line.says("ring on", "ring off"))
             trial.holds("the terminal is as it was", person.ended() == (0, True))

@@ -7,9 +7,14 @@ ghost use Rattle.af.specs.Statuses.{answer_status, tool_status};
 
 use af_answer::{AnswerEnd, answer_run, names_answer};
 use af_details::{
-    WatchedDial, WatchedSource, WatchedSpawner, as_tool_end, tell_answer, tell_no_text, tell_tool,
+    Streams, WatchedDial, WatchedSource, WatchedSpawner, as_tool_end, tell_answer, tell_no_text,
+    tell_tool,
 };
-use af_io::{Args, StdSink, WordsFault, open_standard_streams, program_words, wants_details};
+use af_io::{
+    Args, StdSink, StdSource, TcpDial, WordsFault, open_standard_streams, program_words,
+    wants_details,
+};
+use af_process::StdSpawner;
 use af_tools::{ToolEnd, af_run};
 use std::io;
 use std::process::ExitCode;
@@ -134,14 +139,25 @@ fn run(rt: &HostRuntime, words: &Args, details: bool) -> ToolEnd {
     let Ok(net) = rt.clone() else {
         return said(rt, ToolEnd::OutOfMemory);
     };
-    let mut source = WatchedSource::new(rt.reader());
+    let mut source = WatchedSource::new(StdSource::new(rt.reader()));
     let mut sink = StdSink::new(io::writer(rt));
-    let mut dial = WatchedDial::new(net);
+    let mut dial = WatchedDial::new(TcpDial::new(net));
     let end = af_run(rt.alloc(), words, &mut source, &mut sink, &mut dial);
     let end = said(rt, end);
     if details {
-        let reason = sink.reason();
-        tell_tool(rt, rt.alloc(), words, end, &dial, &mut source, reason);
+        let streams = Streams {
+            input: source.source().reason(),
+            output: sink.reason(),
+        };
+        tell_tool(
+            rt,
+            rt.alloc(),
+            words,
+            end,
+            dial.seen(),
+            &mut source,
+            streams,
+        );
     }
     end
 }
@@ -155,13 +171,21 @@ fn attend(rt: &HostRuntime, words: &Args, details: bool) -> AnswerEnd {
         return said_answer(rt, AnswerEnd::OutOfMemory);
     };
     let mut sink = StdSink::new(io::writer(rt));
-    let mut dial = WatchedDial::new(net);
-    let mut spawner = WatchedSpawner::new(programs);
+    let mut dial = WatchedDial::new(TcpDial::new(net));
+    let mut spawner = WatchedSpawner::new(StdSpawner::new(programs));
     let end = answer_run(rt.alloc(), words, &mut sink, &mut dial, &mut spawner);
     let end = said_answer(rt, end);
     if details {
         let reason = sink.reason();
-        tell_answer(rt, rt.alloc(), words, end, &dial, &spawner, reason);
+        tell_answer(
+            rt,
+            rt.alloc(),
+            words,
+            end,
+            dial.seen(),
+            spawner.calls(),
+            reason,
+        );
     }
     end
 }

@@ -1,5 +1,5 @@
 -- The steps of an answering machine: a request, an event that is waited for, and a child.
-use Rattle.std.proofs.Common.{◌≡◌, ℕ, zero, suc, List, [], ◌∷◌, slice_get, sym, ap, ap₂, ◌∙◌, refl, Result, Ok, Err, Option, None, Some, inl, inr}
+use Rattle.std.proofs.Common.{◌≡◌, ℕ, zero, suc, List, [], ◌∷◌, slice_get, sym, subst, ap, ap₂, ◌∙◌, refl, Result, Ok, Err, Option, None, Some, inl, inr}
 use Rattle.af_wire.specs.declared.event.Event.{Event}
 use Rattle.af_io.specs.Observed.{Appended}
 use Rattle.af_io.proofs.AppendedLemmas.{appended_none}
@@ -20,6 +20,7 @@ use Rattle.af_toolkit.proofs.ToolPartLemmas.{Known, asked_known}
 use Rattle.af_answer.specs.declared.child.ChildEnd.{ChildEnd}
 use Rattle.af_answer.specs.AnswerTrace.{AnswerFinish, MachineOutcome, ToCome, after_event, awaits_event, connection_end, deeds_of_work, exchanges, hears, machine_end, met_fault, next_event, refusal, requests, runs_child, work}
 use Rattle.af_answer.specs.AnswerParts.{Added, GoesBy, RunsBy, Seen, Went, answering, seen_as}
+use Rattle.af_answer.specs.OffHook.{IsOffHook}
 use Rattle.af_answer.specs.Children.{ChildRun, run_end, shell_words, told_of_run}
 use Rattle.af_answer.proofs.AnswerPartLemmas.{added_none, went_stop, went_through}
 
@@ -66,6 +67,25 @@ unfolding requests
 requested_went {left} {sent} {faults} {old} {new} {acts} {asked} {result} called usable held =
     exchange_went (refusal asked) (refusal_end asked) (λ w. request_bytes w.order asked) (answer_on asked as_done) after_reply _ _ acts held result (called.exchanged usable).fresh
     (λ input told. ((called.exchanged usable).sends, asked_known left sent faults asked as_done old new input result called usable told))
+
+-- and so are a request and an answer that was looked at later
+pub answered_went : {L : Type 0} {left sent : L → Option (List ℕ)} {faults : L → ℕ} {old new : ConnState L} {acts : Option (List Told)} {asked : Asked} {result : Result (Unit {0}) ConnFault} (answer : Result (Unit {0}) ConnFault) →
+    result ≡ answer → Called left sent faults asked as_done old new result → old.cause ≡ None → GoesBy left sent old new acts acts (requests asked) (end_among connection_end answer)
+answered_went {left} {sent} {old} {new} {acts} {asked} answer is called usable held =
+    subst (λ r. Went (requests asked) (end_among connection_end r) (seen_as (link_sight left sent old) acts held) (seen_as (link_sight left sent new) acts held)) is (requested_went called usable held)
+
+-- the hook was taken off, and nothing was sent since
+pub took_off : {L : Type 0} {left sent : L → Option (List ℕ)} {faults : L → ℕ} {old new : ConnState L} {device : ℕ} {u : Unit {0}} →
+    Called left sent faults (hook_switch device 1) as_done old new (Ok u) → old.cause ≡ None → IsOffHook sent new
+took_off {sent} {old} {new} {device} called usable =
+    let order = ap (λ (conn : ConnState _). conn.order) (called.keeps usable) in
+    let sends = (called.exchanged usable).sends.whole (λ e. cc e) in
+    record {
+      device = device;
+      before = sent old.link;
+      last = subst (λ o. Appended (sent old.link) (request_bytes o (hook_switch device 1)) (sent new.link)) (sym order) sends;
+      usable = ap (λ (conn : ConnState _). conn.cause) (called.keeps usable);
+    }
 
 -- what is known of an event that was waited for
 event_known : {L : Type 0} (left sent : L → Option (List ℕ)) (faults : L → ℕ) (old new : ConnState L) (input : List ℕ) (result : Result Event ConnFault) (first : Option Event) → slice_get old.ring.events 0 ≡ first →

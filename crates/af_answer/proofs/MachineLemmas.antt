@@ -22,7 +22,7 @@ use Rattle.af_answer.specs.declared.job.AnswerJob.{AnswerJob}
 use Rattle.af_answer.specs.declared.tally.Tally.{Tally}
 use Rattle.af_answer.specs.Acts.{MachineAct, no_calls}
 use Rattle.af_answer.specs.AnswerTrace.{MachineTrace, ToCome, AnswerFinish, MachineDeeds, MachineOutcome, MachinePart, Work, all_answered, attends_all, working, child_starved, connection_end, deeds_of_work, device_missing, doing, finish_of, line_at, line_missing, missing, machine_end, met_fault, off_hook_fault, on_hook_fault, rang_too_little, tally_text, work, writes_tally}
-use Rattle.af_answer.specs.AnswerParts.{Added, MatchesAnswer, Seen, Went, is_from_outside, is_of_calls, seen_as}
+use Rattle.af_answer.specs.AnswerParts.{Added, MachineEnd, MatchesAnswer, Seen, Went, is_from_outside, is_of_calls, seen_as}
 use Rattle.af_answer.specs.Answered.{AnswerRan, HangsUp, HasLine, KeepsToActs, LeavesHook, PutsOn, RanAs, StopsAtOffHook, SwitchesHook, acts_asked, work_of_job}
 use Rattle.af_answer.specs.Children.{ChildRun, run_end}
 use Rattle.af_answer.proofs.AnswerPartLemmas.{added_none, added_on, matches_after, stopped_matches, works_end, works_on}
@@ -38,6 +38,21 @@ pub line_of_calls : (how : AnswerEnd) → is_of_calls how ≡ true → is_of_lin
 line_of_calls end.Done way = refl
 line_of_calls end.SinkFault way = refl
 line_of_calls how way = way
+
+-- what lacks, or comes within calls, or is a fault of the connection, ends a machine as a machine can end
+pub lacking_ends : (job : AnswerJob) (line : Option Bool) (devices : ℕ) {how : AnswerEnd} → option_map machine_end (missing job line devices) ≡ Some how → MachineEnd how
+lacking_ends job (Some true) devices is = cc is
+lacking_ends job (Some false) devices {how} is = let same : how ≡ end.NoLine job.device = cc in rw same refl
+lacking_ends job None devices {how} is = let same : how ≡ end.NoDevice devices = cc in rw same refl
+
+pub calls_end : (how : AnswerEnd) → is_of_calls how ≡ true → MachineEnd how
+calls_end end.Usage way = cc way
+calls_end end.DialFault way = cc way
+calls_end how way = refl
+
+pub fault_ends : (f : ConnFault) → MachineEnd (connection_end f)
+fault_ends fault.LinkFault = refl
+fault_ends f = refl
 
 -- an end that passes a test is none that fails it
 is_other : (test : AnswerEnd → Bool) {how x : AnswerEnd} → test how ≡ true → test x ≡ false → how ≢ x

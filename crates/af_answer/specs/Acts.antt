@@ -22,7 +22,8 @@ pub data MachineAct : Type 0 where
 abbrev pub ring_count_after : EventKind → ℕ → ℕ
 ring_count_after kind.Ring rings = rings + 1
 ring_count_after kind.Hook rings = 0
-ring_count_after _ rings = rings
+ring_count_after kind.Current rings = rings
+ring_count_after kind.Digit rings = rings
 
 -- any other event, or one of another device, does nothing
 abbrev pub rings_after : AnswerJob → ℕ → Event → ℕ
@@ -33,7 +34,8 @@ rings_after job rings e = if e.device == job.device && e.value == 1 then ring_co
 -- ends badly.
 abbrev pub acts_after_greeting : ChildEnd → List ChildEnd → (ChildEnd → List ChildEnd → List MachineAct) → List MachineAct
 acts_after_greeting end.Good ends next = record_message ∷ on_hook ∷ next (get_or ends 0 end.Bad) (drop 1 ends)
-acts_after_greeting greeting ends next = on_hook ∷ next greeting ends
+acts_after_greeting end.Bad ends next = on_hook ∷ next end.Bad ends
+acts_after_greeting end.NoMemory ends next = on_hook ∷ next end.NoMemory ends
 
 -- no call was answered yet
 abbrev pub no_calls : Tally
@@ -45,10 +47,15 @@ tally_after end.Good t = record { answered = t.answered + 1; recorded = t.record
 tally_after end.Bad t = record { answered = t.answered + 1; recorded = t.recorded; failed = t.failed + 1 }
 tally_after end.NoMemory t = record { answered = t.answered + 1; recorded = t.recorded; failed = t.failed }
 
--- the acts after a call: none if memory ran out in it, and the numbers are written if it was the last
+-- the acts after so many calls: the numbers are written if these were all
+abbrev pub acts_after_calls : (calls : ℕ) → Tally → List MachineAct → List MachineAct
+acts_after_calls calls t more = if t.answered == calls then write_tally t ∷ [] else more
+
+-- the acts after a call: none if memory ran out in it
 abbrev pub acts_after : ChildEnd → (calls : ℕ) → Tally → List MachineAct → List MachineAct
 acts_after end.NoMemory calls t more = []
-acts_after how calls t more = if t.answered == calls then write_tally t ∷ [] else more
+acts_after end.Good calls t more = acts_after_calls calls t more
+acts_after end.Bad calls t more = acts_after_calls calls t more
 
 -- the acts after so many rings and calls: at the ring of the job's number a call is taken, and rings are counted from 0 again
 unfoldable pub acts_from : AnswerJob → (rings : ℕ) → Tally → List Event → List ChildEnd → List MachineAct
@@ -67,7 +74,9 @@ answer_acts job events ends = acts_from job 0 no_calls events ends
 abbrev pub off_after : Bool → MachineAct → Bool
 off_after off off_hook = true
 off_after off on_hook = false
-off_after off act = off
+off_after off greet = off
+off_after off record_message = off
+off_after off (write_tally t) = off
 
 -- whether these acts leave the hook off
 abbrev pub leaves_off : List MachineAct → Bool

@@ -16,7 +16,15 @@ abbrev pub is_from_outside : AnswerEnd → Bool
 is_from_outside end.DialFault = true
 is_from_outside end.LinkFault = true
 is_from_outside end.SinkFault = true
-is_from_outside _ = false
+is_from_outside end.Done = false
+is_from_outside end.Usage = false
+is_from_outside end.LinkEnded = false
+is_from_outside (end.NoDevice devices) = false
+is_from_outside (end.NoLine device) = false
+is_from_outside (end.Refused code value) = false
+is_from_outside (end.BadReply header first) = false
+is_from_outside end.EventFlood = false
+is_from_outside end.OutOfMemory = false
 
 -- the ends of a machine within its calls: it sends requests, waits for events, and runs children
 abbrev pub is_of_calls : AnswerEnd → Bool
@@ -26,7 +34,31 @@ is_of_calls (end.Refused code value) = true
 is_of_calls (end.BadReply header first) = true
 is_of_calls end.EventFlood = true
 is_of_calls end.OutOfMemory = true
-is_of_calls _ = false
+is_of_calls end.Done = false
+is_of_calls end.Usage = false
+is_of_calls end.DialFault = false
+is_of_calls (end.NoDevice devices) = false
+is_of_calls (end.NoLine device) = false
+is_of_calls end.SinkFault = false
+
+-- the ends of a machine on a link that is set up, or is to be
+abbrev pub is_of_machine : AnswerEnd → Bool
+is_of_machine end.Done = true
+is_of_machine (end.NoDevice devices) = true
+is_of_machine (end.NoLine device) = true
+is_of_machine end.LinkFault = true
+is_of_machine end.LinkEnded = true
+is_of_machine (end.Refused code value) = true
+is_of_machine (end.BadReply header first) = true
+is_of_machine end.EventFlood = true
+is_of_machine end.SinkFault = true
+is_of_machine end.OutOfMemory = true
+is_of_machine end.Usage = false
+is_of_machine end.DialFault = false
+
+-- a machine ended in one of these ways
+abbrev pub MachineEnd : AnswerEnd → Type 0
+MachineEnd how = is_of_machine how ≡ true
 
 -- A machine ended and has done this: the first of what its trace has. If nothing from outside ended it, this is all of that, and
 -- the end is that of the trace.

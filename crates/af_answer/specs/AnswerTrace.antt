@@ -129,7 +129,8 @@ runs_child text a = called (deeds_of_work (work [] (told_of_run (shell_words tex
 -- the message is recorded after a good greeting, and else the call ends as the greeting did
 abbrev pub leaves_message : AnswerJob → ChildEnd → MachinePart ChildEnd
 leaves_message job ended.Good = runs_child job.message.bytes
-leaves_message job greeting = has_value doing greeting
+leaves_message job ended.Bad = has_value doing ended.Bad
+leaves_message job ended.NoMemory = has_value doing ended.NoMemory
 
 -- a call is taken, and then the hook is put on
 unfoldable pub takes_call : AnswerJob → MachinePart ChildEnd

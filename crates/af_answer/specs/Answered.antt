@@ -38,7 +38,9 @@ work_of_act order job (write_tally t) run = work [] [] (tally_text t)
 abbrev pub later_runs : MachineAct → List ChildRun → List ChildRun
 later_runs greet runs = drop 1 runs
 later_runs record_message runs = drop 1 runs
-later_runs act runs = runs
+later_runs off_hook runs = runs
+later_runs on_hook runs = runs
+later_runs (write_tally t) runs = runs
 
 -- the work of acts, in order, by how their children run
 abbrev pub work_of : Order → AnswerJob → List MachineAct → List ChildRun → Work
@@ -85,7 +87,7 @@ pub record StopsAtOffHook (order : Order) (job : AnswerJob) (acts : List Machine
   pub on : leaves_off before ≡ false
 
 -- The hook at each end. It is put on again each time; or it is on unless an OnHook was answered with this fault, where an OffHook
--- may have been refused last; or it is on unless an OffHook or an OnHook was; or the link failed, and it may be off. At all other
+-- may have been refused last; or it is on unless an OffHook or an OnHook was; or the link failed, and it may be off. At the other
 -- ends it was never taken off: nothing was sent.
 abbrev pub LeavesHook : AnswerEnd → AnswerFinish → (hung_up refused_off : Type 0) → (sends : List ℕ) → Type 0
 LeavesHook end.Done finish hung_up refused_off sends = hung_up
@@ -96,7 +98,10 @@ LeavesHook end.LinkEnded finish hung_up refused_off sends = SwitchesHook finish 
 LeavesHook (end.BadReply header first) finish hung_up refused_off sends = SwitchesHook finish → hung_up
 LeavesHook end.EventFlood finish hung_up refused_off sends = SwitchesHook finish → hung_up
 LeavesHook end.LinkFault finish hung_up refused_off sends = ⊤
-LeavesHook how finish hung_up refused_off sends = sends ≡ []
+LeavesHook (end.NoDevice devices) finish hung_up refused_off sends = sends ≡ []
+LeavesHook (end.NoLine device) finish hung_up refused_off sends = sends ≡ []
+LeavesHook end.Usage finish hung_up refused_off sends = sends ≡ []
+LeavesHook end.DialFault finish hung_up refused_off sends = sends ≡ []
 
 -- what the events that a machine got and the ends of its children ask for
 abbrev pub acts_asked : AnswerJob → MachineTrace → List ChildRun → List MachineAct

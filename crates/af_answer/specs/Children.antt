@@ -1,5 +1,5 @@
 -- How the children of an answering machine run, and what is told of them.
-use Rattle.std.specs.Prelude.{ℕ, ℤ, pos, zero, Bool, true, false, List, [], ◌∷◌, codes, Option, Some}
+use Rattle.std.specs.Prelude.{ℕ, ℤ, pos, negsuc, zero, suc, Bool, true, false, List, [], ◌∷◌, codes, Option, None, Some}
 use Rattle.af_process.specs.declared.act.BeganGot.TheVariants as got
 use Rattle.af_process.specs.Acts.{Told, began, finished}
 use Rattle.af_answer.specs.declared.child.ChildEnd.{ChildEnd}
@@ -19,7 +19,9 @@ pub data ChildRun : Type 0 where
 -- a child ended well with status 0
 abbrev pub end_by_status : Option ℤ → ChildEnd
 end_by_status (Some (pos zero)) = end.Good
-end_by_status _ = end.Bad
+end_by_status (Some (pos (suc n))) = end.Bad
+end_by_status (Some (negsuc n)) = end.Bad
+end_by_status None = end.Bad
 
 -- how a child ended: badly also if it did not start or could not be waited for
 abbrev pub run_end : ChildRun → ChildEnd
@@ -30,7 +32,8 @@ run_end (child_ran child status) = end_by_status status
 -- there was no memory to start it
 abbrev pub is_starved : ChildEnd → Bool
 is_starved end.NoMemory = true
-is_starved how = false
+is_starved end.Good = false
+is_starved end.Bad = false
 
 -- the acts of a child that ran by this command line: one start, and if it started, one finish
 abbrev pub told_of_run : List (List ℕ) → ChildRun → List Told

@@ -1,5 +1,6 @@
 pub mod Children
 pub mod Acts
+pub mod OffHook
 pub mod AnswerTrace
 pub mod AnswerParts
 pub mod Answered

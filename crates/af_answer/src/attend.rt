@@ -6,20 +6,20 @@ ghost use Rattle.af_answer.specs.AnswerTrace.{attends_all};
 ghost use Rattle.af_answer.specs.AnswerParts.{is_of_calls, GoesBy};
 
 use crate::call::take_call;
+use crate::commands::Commands;
 use crate::end::AnswerEnd;
 use crate::job::AnswerJob;
 use crate::rings::await_call;
 use crate::tally::Tally;
 use af_io::Link;
 use af_lib::Conn;
-use af_process::Spawner;
 use std::alloc::Global;
 
 // Rings and hooks of a line, in a mask of events.
 const RINGS_AND_HOOKS: u32 = 3;
 
 /// Asks for the rings and hooks of a line, and takes all calls. If memory runs out for a child, the machine ends after that call.
-pub fn attend<L: Link + Drop, S: Spawner>(
+pub fn attend<L: Link + Drop, S: Commands<L>>(
     alloc: Global,
     job: &AnswerJob,
     conn: &mut Conn<L>,

@@ -4,33 +4,36 @@ ghost use Rattle.std.specs.declared.option.Option.TheVariants.{None};
 ghost use Rattle.af_toolkit.specs.Ends.{KeepsConnectionBy};
 ghost use Rattle.af_answer.specs.AnswerTrace.{leaves_message, takes_call};
 ghost use Rattle.af_answer.specs.AnswerParts.{is_of_calls, GoesBy, RunsBy};
+ghost use Rattle.af_answer.specs.OffHook.{IsOffHook};
 
 use crate::child::{ChildEnd, run_child};
+use crate::commands::Commands;
 use crate::end::AnswerEnd;
 use crate::job::AnswerJob;
 use af_io::Link;
 use af_lib::Conn;
-use af_process::Spawner;
 use std::alloc::Global;
 
 // Records the message after a good greeting. A call ends as its last child does.
-fn leave_message<S: Spawner>(
+fn leave_message<L: Link + Drop, S: Commands<L>>(
     alloc: Global,
     job: &AnswerJob,
     greeting: ChildEnd,
+    conn: &Conn<L>,
     spawner: &mut S,
 ) -> ChildEnd
+    requires { IsOffHook L.sent conn.now }
     ensures left { RunsBy (S.acts spawner.old) (S.acts spawner.new) (leaves_message job.now greeting) result }
     ensures count { S.faults spawner.old ≤ S.faults spawner.new }
 {
     match greeting {
-        ChildEnd::Good => run_child(alloc, &job.message, spawner),
+        ChildEnd::Good => run_child(alloc, &job.message, conn, spawner),
         ChildEnd::Bad | ChildEnd::NoMemory => greeting,
     }
 }
 
 /// Takes a call: it plays the greeting, records the message, and puts the hook on, whatever came of the two.
-pub fn take_call<L: Link + Drop, S: Spawner>(
+pub fn take_call<L: Link + Drop, S: Commands<L>>(
     alloc: Global,
     job: &AnswerJob,
     conn: &mut Conn<L>,
@@ -43,8 +46,9 @@ pub fn take_call<L: Link + Drop, S: Spawner>(
     ensures count { S.faults spawner.old ≤ S.faults spawner.new }
 {
     conn.hook(job.device, true)?;
-    let greeting = run_child(alloc, &job.greeting, spawner);
-    let end = leave_message(alloc, job, greeting, spawner);
-    conn.hook(job.device, false)?;
+    let greeting = run_child(alloc, &job.greeting, conn, spawner);
+    let end = leave_message(alloc, job, greeting, conn, spawner);
+    let hung_up = conn.hook(job.device, false);
+    hung_up?;
     Ok(end)
 }

@@ -4,9 +4,13 @@ ghost use Rattle.arrayvec.specs.ArrayVec.{array_vec_len};
 ghost use Rattle.af_process.specs.Acts.{status_of, words_of};
 ghost use Rattle.af_answer.specs.AnswerTrace.{runs_child};
 ghost use Rattle.af_answer.specs.AnswerParts.{RunsBy};
+ghost use Rattle.af_answer.specs.OffHook.{IsOffHook};
 ghost use Rattle.af_answer.specs.Children.{end_by_status, is_starved, shell_words};
 
-use af_process::{Finished, Spawner, Started, Words};
+use crate::commands::Commands;
+use af_io::Link;
+use af_lib::Conn;
+use af_process::{Finished, Started, Words};
 use arrayvec::ArrayString;
 use std::alloc::Global;
 
@@ -60,13 +64,19 @@ fn finished_end(finished: Finished) -> ChildEnd
     }
 }
 
-/// Runs a text as a child, and waits for its end.
-pub fn run_child<S: Spawner>(alloc: Global, text: &ArrayString<200>, spawner: &mut S) -> ChildEnd
+/// Runs a text as a child while the hook is off, and waits for its end.
+pub fn run_child<L: Link + Drop, S: Commands<L>>(
+    alloc: Global,
+    text: &ArrayString<200>,
+    conn: &Conn<L>,
+    spawner: &mut S,
+) -> ChildEnd
+    requires { IsOffHook L.sent conn.now }
     ensures ran { RunsBy (S.acts spawner.old) (S.acts spawner.new) (runs_child text.now.bytes) result }
     ensures count { S.faults spawner.old ≤ S.faults spawner.new }
 {
-    match spawner.start(alloc, &shell_words(text)) {
-        Started::Child(child) => finished_end(spawner.finish(child)),
+    match spawner.start_command(alloc, conn, &shell_words(text)) {
+        Started::Child(child) => finished_end(spawner.finish_command(conn, child)),
         Started::Failed => ChildEnd::Bad,
         Started::OutOfMemory => ChildEnd::NoMemory,
     }

@@ -4,6 +4,7 @@
 mod attend;
 mod call;
 mod child;
+mod commands;
 mod end;
 mod job;
 mod machine;
@@ -13,6 +14,7 @@ mod rings;
 mod run;
 mod tally;
 
+pub use commands::Commands;
 pub use end::AnswerEnd;
 pub use job::AnswerJob;
 pub use machine::answer;

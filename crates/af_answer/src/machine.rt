@@ -4,16 +4,16 @@ ghost use Rattle.std.specs.declared.option.Option.TheVariants.{None, Some};
 ghost use Rattle.af_io.specs.Observed.{CountsFault};
 ghost use Rattle.af_toolkit.specs.Ends.{client_of};
 ghost use Rattle.af_answer.specs.AnswerTrace.{line_at, machine_end, missing};
-ghost use Rattle.af_answer.specs.AnswerParts.{seen_as};
+ghost use Rattle.af_answer.specs.AnswerParts.{seen_as, MachineEnd};
 ghost use Rattle.af_answer.specs.Answered.{AnswerRan, IsAnswerJob};
 
 use crate::attend::attend;
+use crate::commands::Commands;
 use crate::end::AnswerEnd;
 use crate::job::AnswerJob;
 use crate::report::report;
 use af_io::{Link, Put, Sink};
 use af_lib::Conn;
-use af_process::Spawner;
 use std::alloc::Global;
 
 // The end of the machine where the job's device is missing, or has no line.
@@ -32,12 +32,12 @@ fn missing<L: Link + Drop>(job: &AnswerJob, conn: &Conn<L>) -> Option<AnswerEnd>
 
 /// Attends the line of a device until so many calls were taken, and then writes how many of them were answered, how many
 /// messages were recorded, and in how many a child has failed. A call is taken at the ring with the stated number: the hook is
-/// taken off, the greeting is run, after one that ended well the message, and the hook is put on. The connection is one that was
-/// just made.
+/// taken off, the greeting is run, after one that ended well the message, and the hook is put on. A command runs only while the
+/// hook is off (`Commands`). The connection is one that was just made.
 ///
 /// The hook is on at the end. It may be off only if the server refused OnHook, if the link failed, or if the link ended, or a bad
 /// reply or too many events came, in answer to OffHook or OnHook.
-pub fn answer<L: Link + Drop, S: Spawner, K: Sink>(
+pub fn answer<L: Link + Drop, S: Commands<L>, K: Sink>(
     alloc: Global,
     job: &AnswerJob,
     conn: &mut Conn<L>,
@@ -55,7 +55,7 @@ pub fn answer<L: Link + Drop, S: Spawner, K: Sink>(
 
     // each end has its cause: NoDevice, with the number of devices, exactly if that of the job is not below it; NoLine exactly if
     // the device exists and has no line
-    ensures end { (result ≢ AnswerEnd.Usage) × (result ≢ AnswerEnd.DialFault) }
+    ensures end { MachineEnd result }
     ensures no_device { (n : ℕ) → (result ≡ AnswerEnd.NoDevice n)
         ↔ ((n ≡ length conn.old.devices) × (length conn.old.devices ≤ job.now.device)) }
     ensures no_line { (n : ℕ) → (result ≡ AnswerEnd.NoLine n)

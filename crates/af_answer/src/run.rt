@@ -6,8 +6,9 @@ ghost use Rattle.af_cli.specs.Ranges.{IsAddress};
 ghost use Rattle.af_answer.specs.Answered.{IsAnswerJob};
 ghost use Rattle.af_answer.specs.AnswerWords.{answer_words, is_answer_spelled, words_of_call, AnswerWords};
 ghost use Rattle.af_answer.specs.AnswerRun.{dial_sight, IsIdle, RanOver, RunsAsked};
-ghost use Rattle.af_answer.specs.AnswerParts.{seen_as};
+ghost use Rattle.af_answer.specs.AnswerParts.{seen_as, MachineEnd};
 
+use crate::commands::Commands;
 use crate::end::AnswerEnd;
 use crate::job::AnswerJob;
 use crate::machine::answer;
@@ -15,12 +16,11 @@ use crate::options::{AnswerCall, call_of};
 use af_cli::OptionsFault;
 use af_io::{Args, Dial, Dialed, Link, Sink};
 use af_lib::Conn;
-use af_process::Spawner;
 use af_wire::Order;
 use std::alloc::Global;
 
 // Sets a link up in big-endian order, and attends a line over it. The link comes back.
-fn answer_over<L: Link + Drop, S: Spawner, K: Sink>(
+fn answer_over<L: Link + Drop, S: Commands<L>, K: Sink>(
     alloc: Global,
     job: &AnswerJob,
     far: L,
@@ -31,7 +31,7 @@ fn answer_over<L: Link + Drop, S: Spawner, K: Sink>(
     ensures ran { (input : List ℕ) → L.left far ≡ Some input → RanOver job.now input result.0
         (seen_as (L.sent far) (S.acts spawner.old) (K.held sink.old))
         (seen_as (L.sent result.1) (S.acts spawner.new) (K.held sink.new)) }
-    ensures end { (result.0 ≢ AnswerEnd.Usage) × (result.0 ≢ AnswerEnd.DialFault) }
+    ensures end { MachineEnd result.0 }
     ensures link { result.0 ≡ AnswerEnd.LinkFault → FaultCounted (L.faults far) (L.faults result.1) }
     ensures sink { CountsFault (result.0 ≡ AnswerEnd.SinkFault) (K.faults sink.old) (K.faults sink.new) }
     ensures children { S.faults spawner.old ≤ S.faults spawner.new }
@@ -46,7 +46,7 @@ fn answer_over<L: Link + Drop, S: Spawner, K: Sink>(
 }
 
 // Dials a server, and attends a line of it. The link is given back.
-fn answer_on<K: Sink, D: Dial, S: Spawner>(
+fn answer_on<K: Sink, D: Dial, S: Commands<D::Far>>(
     alloc: Global,
     call: &AnswerCall<'_>,
     sink: &mut K,
@@ -77,8 +77,9 @@ fn answer_on<K: Sink, D: Dial, S: Spawner>(
 }
 
 /// The answering machine by its arguments; the first is its name. The server is dialled, the line of the device is attended, and
-/// the link is given back before any answer. All memory is taken before the first request, except that for children.
-pub fn answer_run<K: Sink, D: Dial, S: Spawner>(
+/// the link is given back before any answer. All memory is taken before the first request, except that for children. A command
+/// runs only while the hook is off (`Commands`).
+pub fn answer_run<K: Sink, D: Dial, S: Commands<D::Far>>(
     alloc: Global,
     words: &Args,
     sink: &mut K,

@@ -111,18 +111,19 @@ may_be_refused (kind.Card which restarts words) = true
 may_be_refused kind.Silent = false
 may_be_refused (kind.Codec restarts words) = false
 
--- the backend of a device of this kind that was just attached
-abbrev pub IsBackend : Kind → DeviceSpec → BackendState → Type 0
-IsBackend kind.Silent spec b = b ≡ always_silent spec.ty
-IsBackend (kind.Files input output) spec b = (f : FileState) × (f.silent ≡ silent_byte spec.ty) × (b ≡ over_files f)
-IsBackend (kind.Codec restarts words) spec b = b ≡ over_codec spec.ty
-IsBackend (kind.Card which restarts words) spec b =
-    (begun_card : CardUse) × IsBegun which restarts (words_of words.now) spec begun_card × (b ≡ over_card begun_card)
+-- the backend of a device of this kind that was just attached, at this moment
+abbrev pub IsBackend : Kind → DeviceSpec → ℕ → BackendState → Type 0
+IsBackend kind.Silent spec at b = b ≡ always_silent spec.ty
+IsBackend (kind.Files input output) spec at b = (f : FileState) × (f.silent ≡ silent_byte spec.ty) × (b ≡ over_files f)
+IsBackend (kind.Codec restarts words) spec at b = b ≡ over_codec spec.ty
+IsBackend (kind.Card which restarts words) spec at b =
+    (begun_card : CardUse) × IsBegun which restarts (words_of words.now) spec begun_card × (begun_card.at ≡ at)
+    × (b ≡ over_card begun_card)
 
 -- an attach that was done puts a device there; any other attach changes nothing
-abbrev pub AttachesAt : Ready → Kind → ℕ → DeviceSpec → List (Option BackendState) → List (Option BackendState) → Type 0
-AttachesAt ready.Done k d spec old new = (b : BackendState) × IsBackend k spec b × (new ≡ slice_set old d (Some b))
-AttachesAt _ k d spec old new = new ≡ old
+abbrev pub AttachesAt : Ready → Kind → ℕ → DeviceSpec → ℕ → List (Option BackendState) → List (Option BackendState) → Type 0
+AttachesAt ready.Done k d spec at old new = (b : BackendState) × IsBackend k spec at b × (new ≡ slice_set old d (Some b))
+AttachesAt _ k d spec at old new = new ≡ old
 
 -- the clock of a device of this kind: its program, or the system's clock with so many frames a second
 abbrev pub source_of : Kind → ℕ → Source

@@ -1,19 +1,21 @@
 -- A device that goes by a program, as a server has it: only the acts of the program are kept.
-use Rattle.std.specs.Prelude.{◌≡◌, ⊤, ℕ, true, is_some, List, [], ◌∷◌, length, MatchOption}
+use Rattle.std.specs.Prelude.{◌≡◌, ◌≢◌, ⊤, ℕ, ◌*◌, ◌/◌, ◌-◌, ◌^◌, min, max, true, false, is_some, List, [], ◌∷◌, length, MatchOption}
 use Rattle.std.specs.declared.option.Option.{Option}
-use Rattle.std.specs.declared.option.Option.TheVariants.{None}
+use Rattle.std.specs.declared.option.Option.TheVariants.{None, Some}
 use Rattle.af_sample.specs.SampleTypes.{frame_bytes}
 use Rattle.af_io.specs.declared.flow.Put.{Put}
 use Rattle.af_io.specs.declared.flow.Put.TheVariants as put
-use Rattle.af_io.specs.Observed.{Appended}
+use Rattle.af_io.specs.Observed.{Appended, Unchanged}
 use Rattle.af_program.specs.declared.program.Launched.TheVariants as launch
 use Rattle.af_program.specs.Acts.{ToldAct, captured, launched}
 use Rattle.af_world.specs.declared.card_kind.CardKind.{CardKind}
+use Rattle.af_world.specs.declared.card_kind.CardKind.TheVariants as card_kind
 use Rattle.af_world.specs.declared.script.DeviceSpec.{DeviceSpec}
 use Rattle.af_world.specs.Outside.{silent_byte}
 use Rattle.af_clock.specs.Pacing.{PaceState, new_pace}
 use Rattle.af_card.specs.declared.shape.Shape.{Shape}
-use Rattle.af_card.specs.Between.{BetweenState, new_between, captured_of}
+use Rattle.af_card.specs.Between.{BetweenState, new_between, captured_of, is_over_of, running_since}
+use Rattle.af_card.specs.Passing.{HandsOf, Meets, captured_between}
 use Rattle.af_card.specs.Card.{CardState, DueOf, EmitsAndStarts, IsFed, StartsOnly, captures, emits}
 
 -- the acts of its program, if they are observable; what stands between the two; the command line of each start; its pace while no
@@ -51,6 +53,16 @@ card_orders card = orders_of card.between.shape card.between.starts.restarts car
 abbrev pub shape_of : CardKind → ℕ → DeviceSpec → Shape
 shape_of kind width spec = record { kind = kind; frame_bytes = width; silence = silent_byte spec.ty; rate = spec.rate }
 
+-- How many bytes may wait before the program of a device: before a card those of a quarter of a second, and before a loudspeaker
+-- as few as the system can have. The system rounds this up.
+abbrev pub shortest_input : ℕ
+shortest_input = 2304
+
+abbrev pub input_bytes_of : CardKind → Shape → ℕ
+input_bytes_of card_kind.Speaker shape = shortest_input
+input_bytes_of card_kind.Microphone shape = shortest_input
+input_bytes_of card_kind.Card shape = max (min (shape.rate / 4 * shape.frame_bytes) (2 ^ 32 - 1)) shortest_input
+
 -- It was just attached: its program was started once, by this command line, and runs.
 pub record IsBegun (kind : CardKind) (restarts : ℕ) (words : List (List ℕ)) (spec : DeviceSpec) (card : CardUse) : Type 0 where
   pub shape : card.between.shape ≡ shape_of kind (frame_bytes spec.ty spec.channels) spec
@@ -58,6 +70,7 @@ pub record IsBegun (kind : CardKind) (restarts : ℕ) (words : List (List ℕ)) 
   pub started_by : card.words ≡ words
   pub tried : card.between.starts.tried ≡ 1
   pub runs : is_some card.between.running ≡ true
+  pub since : card.between.running ≡ Some (running_since card.at)
   pub launched_once : MatchOption card.acts ⊤ (λ acts. acts ≡ launched card.at words launch.Runs ∷ [])
   pub fed : IsFedUse card
 
@@ -65,7 +78,11 @@ pub record IsBegun (kind : CardKind) (restarts : ℕ) (words : List (List ℕ)) 
 -- of the clock.
 pub record AsksCard (at frames : ℕ) (before after : CardUse) : Type 0 where
   pub due : DueOf before.between.tick before.between.running at frames before.between after.between before.pace after.pace
-  pub words : before.between.running ≡ None → StartsOnly at before.words before.acts after.acts
+  pub words : before.between.running ≡ None → StartsOnly at before.words before.between after.between before.acts after.acts
+  pub meets : before.between.tick ≡ None → before.between.running ≢ None →
+      Meets at before.between after.between before.acts after.acts
+  pub over : before.between.tick ≡ None → frames ≡ 0 → is_over_of after.between.running after.between.shape.kind at ≡ false
+  pub waits : before.between.tick ≢ None → Unchanged before.acts after.acts
   pub fed : IsFedUse after
   pub same : KeepsOrders before after
   pub now : after.at ≡ at
@@ -75,6 +92,8 @@ pub record CardCaptures (answer : Put) (before : CardUse) (into : List ℕ) (aft
   pub answers : answer ≡ captures before.between (length into)
   pub sound : answer ≡ put.Done → into ≡ captured_of before.between.running before.between (length into)
   pub acts : answer ≡ put.Done → Appended before.acts (captured into ∷ []) after.acts
+  pub state : answer ≡ put.Done → after.between ≡ captured_between (length into) before.between
+  pub pace : after.pace ≡ before.pace
   pub fed : IsFedUse after
   pub same : KeepsOrders before after
 
@@ -84,6 +103,9 @@ pub record CardEmits (answer : Put) (before : CardUse) (sound : List ℕ) (after
   pub answers : answer ≡ emits before.between (length sound)
   pub failed : answer ≡ put.Failed → after ≡ before
   pub words : answer ≡ put.Done → before.between.running ≡ None →
-      EmitsAndStarts before.at sound before.words before.acts after.acts
+      EmitsAndStarts before.at sound before.words before.between after.between before.acts after.acts
+  pub hands : answer ≡ put.Done → before.between.running ≢ None →
+      HandsOf before.between.running before.at sound before.between after.between before.acts after.acts
+  pub pace : after.pace ≡ before.pace
   pub fed : IsFedUse after
   pub same : KeepsOrders before after

@@ -54,7 +54,7 @@ impl<F: Read + Write + Drop, P: Program + Drop> AttachedDevice<F, P> {
         programs: &mut G,
         asked: &NewDevice<'_>,
     ) -> io::Result<AttachedDevice<F, P>>
-        ensures made { IfOk result (λ device. IsBackend asked.now.kind asked.now.spec.now device) }
+        ensures made { IfOk result (λ device. IsBackend asked.now.kind asked.now.spec.now asked.now.at device) }
         ensures done { may_be_refused asked.now.kind ≡ false → IsOk result }
     {
         let ty = asked.spec.ty;

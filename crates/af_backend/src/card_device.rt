@@ -3,7 +3,7 @@ ghost use Rattle.std.specs.Prelude.{◌≡◌, ◌<◌, ◌≤◌, length, IfOk}
 ghost use Rattle.af_limits.specs.Limits.{longest_tick};
 ghost use Rattle.af_process.specs.Acts.{words_of};
 ghost use Rattle.af_sample.specs.SampleTypes.{frame_bytes};
-ghost use Rattle.af_backend.specs.CardUse.{shape_of, AsksCard, CardCaptures, CardEmits, IsBegun};
+ghost use Rattle.af_backend.specs.CardUse.{shape_of, input_bytes_of, AsksCard, CardCaptures, CardEmits, IsBegun};
 
 use af_card::{Card, Shape};
 use af_config::is_command_line;
@@ -54,6 +54,7 @@ impl<P: Program + Drop> CardDevice<P> {
     ) -> io::Result<CardDevice<P>>
         ensures begun { IfOk result
             (λ device. IsBegun orders.entry.card orders.entry.restarts (words_of orders.entry.words.now) spec.now device) }
+        ensures moment { IfOk result (λ device. device.at ≡ at) }
     {
         let shape = shape_of(orders.card, spec);
         let in_range = 1 <= shape.frame_bytes && shape.frame_bytes <= 8;
@@ -125,7 +126,10 @@ fn ways_of(card: CardKind) -> Ways {
 /// How many bytes may wait before the program. A loudspeaker has as few as the system can have, since that is the delay of its
 /// sound. A card has a quarter of a second. The system doubles this, and counts pieces of 10 or 20 milliseconds twice as long as
 /// they are.
-fn input_bytes(shape: &Shape) -> u32 {
+fn input_bytes(shape: &Shape) -> u32
+    requires { shape.now.frame_bytes ≤ 8 }
+    ensures { result ≡ input_bytes_of shape.now.kind shape.now }
+{
     match shape.kind {
         CardKind::Speaker | CardKind::Microphone => SHORTEST_INPUT,
         CardKind::Card => {

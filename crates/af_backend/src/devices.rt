@@ -71,8 +71,8 @@ impl<F: Read + Write + Drop, S: Spawner + Drop, P: Program + Drop> Devices<F, S,
             codec_allows self.old.codec asked.entry.kind ≡ true → may_be_refused asked.entry.kind ≡ false → result ≡ Ready.Done }
         ensures round { self.new.round
             ≡ round_after result asked.entry.kind self.old.round asked.entry.number asked.entry.spec.now.rate }
-        ensures attached { AttachesAt result asked.entry.kind asked.entry.number asked.entry.spec.now self.old.attached
-            self.new.attached }
+        ensures attached { AttachesAt result asked.entry.kind asked.entry.number asked.entry.spec.now asked.entry.at
+            self.old.attached self.new.attached }
         ensures codec { self.new.codec ≡ codec_after result asked.entry.kind self.old.codec }
     {
         let place = asked.number as usize;

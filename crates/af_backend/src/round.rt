@@ -101,6 +101,13 @@ impl Round {
         self.reading
     }
 
+    /// The last reading that this or an earlier round went by.
+    pub fn last_reading(&self) -> Option<u64>
+        ensures { result ≡ self.now.last }
+    {
+        self.last
+    }
+
     /// The reading that a round goes by if the clock shows this as it comes to its first device: at most 20 milliseconds after
     /// that of the round before.
     pub fn reading_after(&self, shown: u64) -> u64

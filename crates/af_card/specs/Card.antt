@@ -14,6 +14,7 @@ use Rattle.af_card.specs.declared.running.Running.{Running}
 use Rattle.af_card.specs.Ledger.{Run, ledger_of}
 use Rattle.af_card.specs.Fed.{PastFits, RunFits}
 use Rattle.af_card.specs.Between.{BetweenState, new_between, frames_of, is_dead, may_capture, may_emit}
+use Rattle.af_card.specs.Passing.{HandsNone, begun_between}
 
 -- a device: its program, what stands between the two, the command line of each start, its pace while no program runs, and the
 -- latest moment
@@ -76,16 +77,17 @@ abbrev pub begins_now : {P : Type 0} → CardState P → Bool
 begins_now card = is_none card.between.running && may_come card.between.starts card.at
     && not (nat_lt 0 (due_at card.pace card.at))
 
--- If no program runs, nothing happens to it but one start, by this command line.
-abbrev pub StartsOnly : ℕ → List (List ℕ) → Option (List ToldAct) → Option (List ToldAct) → Type 0
-StartsOnly at words before after = Unchanged before after
-    ⊎ ((came : Launched) × Appended before (launched at words came ∷ []) after)
+-- If no program runs, nothing happens but one start, by this command line and at this moment.
+abbrev pub StartsOnly : ℕ → List (List ℕ) → BetweenState → BetweenState → Option (List ToldAct) → Option (List ToldAct) → Type 0
+StartsOnly at words before after acts acts' = ((after ≡ before) × Unchanged acts acts')
+    ⊎ ((came : Launched) × (after ≡ begun_between came at before) × Appended acts (launched at words came ∷ []) acts')
 
--- the same after the sound of a tick is emitted
-abbrev pub EmitsAndStarts : ℕ → List ℕ → List (List ℕ) → Option (List ToldAct) → Option (List ToldAct) → Type 0
-EmitsAndStarts at sound words before after =
-    Appended before (emitted sound ∷ []) after
-    ⊎ ((came : Launched) × Appended before (emitted sound ∷ launched at words came ∷ []) after)
+-- the same after the sound of a tick is emitted, which nobody is handed
+abbrev pub EmitsAndStarts : ℕ → List ℕ → List (List ℕ) → BetweenState → BetweenState → Option (List ToldAct) →
+    Option (List ToldAct) → Type 0
+EmitsAndStarts at sound words before after acts acts' = HandsNone sound before after acts acts'
+    ⊎ ((came : Launched) × (after ≡ begun_between came at (record before { tick = None }))
+    × Appended acts (emitted sound ∷ launched at words came ∷ []) acts')
 
 -- No frame is due between the two calls of a tick.
 abbrev pub DueOf : Option ℕ → Option Running → ℕ → ℕ → BetweenState → BetweenState → PaceState → PaceState → Type 0

@@ -1,17 +1,18 @@
 // What stands between a device and its program: two queues of bytes, one each way, and the starts of the program.
-ghost use Rattle.std.specs.Prelude.{◌≡◌, ◌≢◌, ◌≤◌, ◌<◌, ◌+◌, ◌-◌, ◌⊎◌, [], ◌∷◌, length, take, replicate, true, false, is_some, is_none, ◌&&◌, List, IfOk};
+ghost use Rattle.std.specs.Prelude.{◌≡◌, ◌≢◌, ◌≤◌, ◌<◌, ◌+◌, ◌-◌, ◌⊎◌, [], ◌∷◌, length, take, drop, replicate, true, false, is_some, is_none, ◌&&◌, List, IfOk};
 ghost use Rattle.std.specs.declared.option.Option.{Option};
 ghost use Rattle.std.specs.declared.option.Option.TheVariants.{None, Some};
 ghost use Rattle.arrayvec.specs.ArrayVec.{array_vec_len};
 ghost use Rattle.af_limits.specs.Limits.{longest_capture, longest_tick};
 ghost use Rattle.af_io.specs.Observed.{Appended};
-ghost use Rattle.af_program.specs.Acts.{ToldAct, captured, emitted, launched, RunsWhereTold};
+ghost use Rattle.af_program.specs.Acts.{ToldAct, captured, emitted, ended, launched, RunsWhereTold};
 ghost use Rattle.af_process.specs.Acts.{words_of};
 ghost use Rattle.af_card.specs.Fed.{IsSilent};
 ghost use Rattle.af_world.specs.Kinds.{most_card_restarts};
 ghost use Rattle.af_program.specs.Waits.{longest_wait, may_come};
 ghost use Rattle.af_card.specs.Between.{Keeps, IsWhole, PassesOn, Accounts, new_between, CanBegin, CanCapture, CanEmit, CanEnd, LeavesLess, gives_sound, is_dead, may_capture, may_emit, frames_of, is_stalled, is_over_of, running_after_look, captured_of, takes_now};
 ghost use Rattle.af_card.specs.Lost.{lost_after};
+ghost use Rattle.af_card.specs.Passing.{GivesOwed, HandsOf, PassesSound, TakesGiven, begun_between, captured_between, ended_between, owing};
 
 use crate::handing::{pass_on, without_room};
 use crate::running::Running;
@@ -102,6 +103,7 @@ impl Between {
         ensures acts { Appended (P.acts program.old) (launched at (words_of words.now) result ∷ []) (P.acts program.new) }
         ensures tried { self.new.starts.tried ≡ self.old.starts.tried + 1 }
         ensures runs { result ≡ Launched.Runs → is_some self.new.running ≡ true }
+        ensures state { self.new ≡ begun_between result at self.old }
     {
         let launched = program.start(alloc, at, words);
         self.starts.begin();
@@ -219,6 +221,7 @@ impl Between {
         requires fits { Accounts self.old (P.acts program.old) }
         ensures fits { Accounts self.new (P.acts program.new) }
         ensures keeps { Keeps self.old.tick self.old self.new }
+        ensures takes { TakesGiven at self.old self.new (P.acts program.old) (P.acts program.new) }
     {
         let Some(running) = self.running else {
             return;
@@ -236,6 +239,7 @@ impl Between {
         requires fits { Accounts self.old (P.acts program.old) }
         ensures fits { Accounts self.new (P.acts program.new) }
         ensures keeps { Keeps self.old.tick self.old self.new }
+        ensures gives { GivesOwed at self.old self.new (P.acts program.old) (P.acts program.new) }
     {
         let Some(running) = self.running else {
             return;
@@ -294,6 +298,7 @@ impl Between {
         ensures acts { Appended (P.acts program.old) (captured into.new ∷ []) (P.acts program.new) }
         ensures keeps { Keeps (Some (length into.new)) self.old self.new }
         ensures sound { into.new ≡ captured_of self.old.running self.old (length into.old) }
+        ensures state { self.new ≡ captured_between (length into.old) self.old }
     {
         match self.running {
             Some(_) if self.shape.gives_sound() => self.capture_given(program, into),
@@ -311,6 +316,8 @@ impl Between {
         ensures acts { Appended (P.acts program.old) (captured into.new ∷ []) (P.acts program.new) }
         ensures keeps { Keeps (Some (length into.new)) self.old self.new }
         ensures sound { into.new ≡ take (length into.old) self.old.left }
+        ensures state { self.new ≡
+            record self.old { left = drop (length into.old) self.old.left; tick = Some (length into.old) } }
     {
         into.copy_from_slice(&self.input.as_slice()[..into.len()]);
         self.input.drop_front(into.len());
@@ -327,6 +334,7 @@ impl Between {
         ensures acts { Appended (P.acts program.old) (captured into.new ∷ []) (P.acts program.new) }
         ensures keeps { Keeps (Some (length into.new)) self.old self.new }
         ensures sound { into.new ≡ replicate (length into.old) self.old.shape.silence }
+        ensures state { self.new ≡ record self.old { tick = Some (length into.old) } }
     {
         silence(into, self.shape.silence);
         program.note_captured(into);
@@ -341,6 +349,7 @@ impl Between {
         ensures fits { Accounts self.new (P.acts program.new) }
         ensures keeps { Keeps None self.old self.new }
         ensures idle { self.old.running ≡ None → Appended (P.acts program.old) (emitted sound.now ∷ []) (P.acts program.new) }
+        ensures hands { HandsOf self.old.running at sound.now self.old self.new (P.acts program.old) (P.acts program.new) }
     {
         match self.running {
             Some(_) if self.shape.kind == CardKind::Speaker => {
@@ -363,6 +372,8 @@ impl Between {
         requires fits { Accounts self.old (P.acts program.old) }
         ensures fits { Accounts self.new (P.acts program.new) }
         ensures keeps { Keeps None self.old self.new }
+        ensures state { self.new ≡ owing sound.now self.old }
+        ensures acts { Appended (P.acts program.old) (emitted sound.now ∷ []) (P.acts program.new) }
     {
         program.note_emitted(sound);
         self.owed.append(sound);
@@ -378,6 +389,8 @@ impl Between {
         requires fits { Accounts self.old (P.acts program.old) }
         ensures fits { Accounts self.new (P.acts program.new) }
         ensures keeps { Keeps None self.old self.new }
+        ensures passes { self.old.running ≢ None →
+            PassesSound at sound.now self.old self.new (P.acts program.old) (P.acts program.new) }
     {
         program.note_emitted(sound);
         self.tick = None;
@@ -403,6 +416,7 @@ impl Between {
         ensures fits { Accounts self.new (P.acts program.new) }
         ensures keeps { Keeps None self.old self.new }
         ensures acts { Appended (P.acts program.old) (emitted sound.now ∷ []) (P.acts program.new) }
+        ensures state { self.new ≡ record self.old { tick = None } }
     {
         program.note_emitted(sound);
         self.tick = None;
@@ -416,6 +430,8 @@ impl Between {
         ensures same { (self.new.shape ≡ self.old.shape) × (self.new.starts.restarts ≡ self.old.starts.restarts) }
         ensures ended { self.new.running ≡ None }
         ensures tick { self.new.tick ≡ None }
+        ensures state { self.old.running ≢ None → self.new ≡ ended_between at self.old }
+        ensures acts { self.old.running ≢ None → Appended (P.acts program.old) (ended at ∷ []) (P.acts program.new) }
     {
         let Some(running) = self.running else {
             return;

@@ -8,8 +8,9 @@ ghost use Rattle.af_process.specs.Acts.{words_of};
 ghost use Rattle.af_program.specs.Acts.{captured, launched, TellsNothing};
 ghost use Rattle.af_world.specs.Kinds.{most_card_restarts};
 ghost use Rattle.af_program.specs.Waits.{may_come, next_start};
-ghost use Rattle.af_card.specs.Between.{Accounts, new_between, captured_of, takes_now};
+ghost use Rattle.af_card.specs.Between.{Accounts, new_between, captured_of, is_over_of, takes_now};
 ghost use Rattle.af_card.specs.Lost.{CountsLost};
+ghost use Rattle.af_card.specs.Passing.{HandsOf, Meets, begun_between, captured_between};
 ghost use Rattle.af_card.specs.Card.{new_card, begins_now, EmitsAndStarts, SameOrders, StartsOnly, captures, emits, DueByClock, DueByProgram, DueOf, IsFedWhereTold};
 
 use crate::between::Between;
@@ -91,6 +92,8 @@ impl<P: Program + Drop> Card<P> {
         ensures now { self.new.at ≡ at }
         ensures tried { self.new.between.starts.tried ≡ self.old.between.starts.tried + 1 }
         ensures runs { result ≡ Launched.Runs → is_some self.new.between.running ≡ true }
+        ensures state { self.new.between ≡ begun_between result at self.old.between }
+        ensures pace { self.new.pace ≡ self.old.pace }
     {
         self.at = at;
         self.between
@@ -101,7 +104,12 @@ impl<P: Program + Drop> Card<P> {
     pub fn due(&mut self, at: u64) -> u32
         ensures most { result ≤ longest_tick }
         ensures words { self.old.between.running ≡ None →
-            StartsOnly at self.old.words (P.acts self.old.program) (P.acts self.new.program) }
+            StartsOnly at self.old.words self.old.between self.new.between (P.acts self.old.program) (P.acts self.new.program) }
+        ensures meets { self.old.between.tick ≡ None → self.old.between.running ≢ None →
+            Meets at self.old.between self.new.between (P.acts self.old.program) (P.acts self.new.program) }
+        ensures over { self.old.between.tick ≡ None → result ≡ 0 →
+            is_over_of self.new.between.running self.new.between.shape.kind at ≡ false }
+        ensures waits { self.old.between.tick ≢ None → Unchanged (P.acts self.old.program) (P.acts self.new.program) }
         ensures due { DueOf self.old.between.tick self.old.between.running at result self.old.between self.new.between
             self.old.pace self.new.pace }
         ensures fed { IsFedWhereTold P.acts self.new }
@@ -133,6 +141,8 @@ impl<P: Program + Drop> Card<P> {
         ensures answer { result ≡ captures self.old.between (length into.old) }
         ensures done { result ≡ Put.Done → into.new ≡ captured_of self.old.between.running self.old.between (length into.old) }
         ensures acts { result ≡ Put.Done → Appended (P.acts self.old.program) (captured into.new ∷ []) (P.acts self.new.program) }
+        ensures state { result ≡ Put.Done → self.new.between ≡ captured_between (length into.old) self.old.between }
+        ensures pace { self.new.pace ≡ self.old.pace }
         ensures failed { result ≡ Put.Failed → self.new ≡ self.old }
         ensures fed { IsFedWhereTold P.acts self.new }
         ensures same { SameOrders self.old self.new }
@@ -152,7 +162,12 @@ impl<P: Program + Drop> Card<P> {
         ensures answer { result ≡ emits self.old.between (length sound.now) }
         ensures failed { result ≡ Put.Failed → self.new ≡ self.old }
         ensures words { result ≡ Put.Done → self.old.between.running ≡ None →
-            EmitsAndStarts self.old.at sound.now self.old.words (P.acts self.old.program) (P.acts self.new.program) }
+            EmitsAndStarts self.old.at sound.now self.old.words self.old.between self.new.between
+            (P.acts self.old.program) (P.acts self.new.program) }
+        ensures hands { result ≡ Put.Done → self.old.between.running ≢ None →
+            HandsOf self.old.between.running self.old.at sound.now self.old.between self.new.between
+            (P.acts self.old.program) (P.acts self.new.program) }
+        ensures pace { self.new.pace ≡ self.old.pace }
         ensures tried { result ≡ Put.Done →
             self.new.between.starts.tried
             ≡ (if begins_now self.old then self.old.between.starts.tried + 1 else self.old.between.starts.tried) }
@@ -238,6 +253,8 @@ fn due_by_program<P: Program>(
     ensures fits { Accounts between.new (P.acts program.new) }
     ensures same { (between.new.shape ≡ between.old.shape) × (between.new.starts.restarts ≡ between.old.starts.restarts) }
     ensures tick { between.new.tick ≡ None }
+    ensures meets { Meets at between.old between.new (P.acts program.old) (P.acts program.new) }
+    ensures over { result ≡ 0 → is_over_of between.new.running between.new.shape.kind at ≡ false }
 {
     between.give_owed(program, at);
     between.take(program, at);
@@ -267,7 +284,8 @@ fn due_by_clock<P: Program>(
     requires fits { Accounts between.old (P.acts program.old) }
     ensures most { result ≤ longest_tick }
     ensures due { DueByClock at result between.old between.new pace.old pace.new }
-    ensures words { StartsOnly at (words_of words.now) (P.acts program.old) (P.acts program.new) }
+    ensures words { StartsOnly at (words_of words.now) between.old between.new (P.acts program.old) (P.acts program.new) }
+    ensures over { is_over_of between.new.running between.new.shape.kind at ≡ false }
     ensures fits { Accounts between.new (P.acts program.new) }
     ensures same { (between.new.shape ≡ between.old.shape) × (between.new.starts.restarts ≡ between.old.starts.restarts) }
     ensures tick { between.new.tick ≡ None }

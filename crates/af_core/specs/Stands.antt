@@ -6,7 +6,7 @@ use Rattle.af_limits.specs.Limits.{most_links, longest_frame, event_limit}
 use Rattle.af_wait.specs.declared.Wait.{Wait}
 use Rattle.af_world.specs.declared.happening.Happening.TheVariants.{Woke}
 use Rattle.af_world.specs.declared.happening.Wake.{Wake}
-use Rattle.af_world.specs.declared.happening.Wake.TheVariants.{Opened, Readable, Writable}
+use Rattle.af_world.specs.declared.happening.Wake.TheVariants.{Opened, Readable, Writable, Ticked, Line, Idle, Stop}
 use Rattle.af_io.specs.Observed.{Appended}
 use Rattle.af_world.specs.Log.{Log}
 use Rattle.af_wait.specs.Waits.{without_first}
@@ -109,7 +109,12 @@ NoneOpenFrom n links = (k : ℕ) → n ≤ k → is_open_at (slice_get (map is_s
 -- the number below which all open links are after a wake, which may open one
 abbrev pub open_below_after : Wake → ℕ → ℕ
 open_below_after (Opened k) n = max n (k + 1)
-open_below_after _ n = n
+open_below_after (Readable k) n = n
+open_below_after (Writable k) n = n
+open_below_after (Ticked device frames) n = n
+open_below_after (Line device change) n = n
+open_below_after Idle n = n
+open_below_after Stop n = n
 
 -- whether a link is open at a number and is to be read, written or closed
 abbrev pub wants_at : List KeptDeferral → List (Option LinkState) → ℕ → Bool
@@ -149,7 +154,10 @@ abbrev pub bounds_after : Wake → WantingSpan → WantingSpan
 bounds_after (Opened k) b = bounds_with k (record b { open_below = max b.open_below (k + 1) })
 bounds_after (Readable k) b = bounds_with k b
 bounds_after (Writable k) b = bounds_with k b
-bounds_after _ b = b
+bounds_after (Ticked device frames) b = b
+bounds_after (Line device change) b = b
+bounds_after Idle b = b
+bounds_after Stop b = b
 
 -- each link is to be read, written or closed if it was before
 abbrev pub WantTheSame : List KeptDeferral → List (Option LinkState) → List KeptDeferral → List (Option LinkState) → Type 0
@@ -160,7 +168,10 @@ abbrev pub WakesOnly : Wake → List KeptDeferral → List (Option LinkState) �
 WakesOnly (Opened k) ks links ks' links' = (j : ℕ) → j ≢ k → wants_at ks' links' j ≡ wants_at ks links j
 WakesOnly (Readable k) ks links ks' links' = (j : ℕ) → j ≢ k → wants_at ks' links' j ≡ wants_at ks links j
 WakesOnly (Writable k) ks links ks' links' = (j : ℕ) → j ≢ k → wants_at ks' links' j ≡ wants_at ks links j
-WakesOnly _ ks links ks' links' = WantTheSame ks links ks' links'
+WakesOnly (Ticked device frames) ks links ks' links' = WantTheSame ks links ks' links'
+WakesOnly (Line device change) ks links ks' links' = WantTheSame ks links ks' links'
+WakesOnly Idle ks links ks' links' = WantTheSame ks links ks' links'
+WakesOnly Stop ks links ks' links' = WantTheSame ks links ks' links'
 
 -- what all links share, and the links
 abbrev pub kept_of : KeptSharedState → List (Option LinkState) → Kept

@@ -2,17 +2,15 @@
 ghost use Rattle.std.specs.Prelude.{◌≡◌};
 ghost use Rattle.af_details.specs.AnswerEnds.{as_tool_end};
 
-use crate::children::WatchedSpawner;
-use crate::dial::WatchedDial;
+use crate::children::Calls;
+use crate::dial::Seen;
 use crate::links::{tell_no_device, tell_no_line};
-use crate::tool::tell_end;
+use crate::tool::{Streams, tell_end};
 use crate::usage::{device_in, tell_usage};
 use af_answer::AnswerEnd;
 use af_io::{Args, Reason};
 use af_toolkit::ToolEnd;
 use std::alloc::Global;
-use std::net::Net;
-use std::process::Processes;
 
 /// The end of a tool that means the same, and is told in the same words. A tool needs no line.
 pub fn as_tool_end(end: AnswerEnd) -> Option<ToolEnd>
@@ -35,22 +33,26 @@ pub fn as_tool_end(end: AnswerEnd) -> Option<ToolEnd>
 }
 
 /// Tells of the end of an answering machine what its line does not, and counts the calls so far.
-pub fn tell_answer<R: Net + Drop, P: Processes + Drop>(
+pub fn tell_answer(
     rt: &impl Eprint,
     alloc: Global,
     words: &Args,
     end: AnswerEnd,
-    dial: &WatchedDial<R>,
-    spawner: &WatchedSpawner<P>,
-    sink: Option<Reason>,
+    seen: &Seen,
+    calls: Calls,
+    output: Option<Reason>,
 ) {
     if end == AnswerEnd::Usage {
         return tell_usage(rt, alloc, words);
     }
     if let Some(end) = as_tool_end(end) {
-        tell_end(rt, end, dial, None, sink);
+        let streams = Streams {
+            input: None,
+            output,
+        };
+        tell_end(rt, end, seen, streams);
     }
-    if let Some(talk) = &dial.first {
+    if let Some(talk) = &seen.first {
         match end {
             AnswerEnd::NoDevice { devices: _ } => {
                 tell_no_device(rt, talk, device_in(alloc, words));
@@ -59,6 +61,5 @@ pub fn tell_answer<R: Net + Drop, P: Processes + Drop>(
             _ => {}
         }
     }
-    let calls = spawner.calls();
     let _ = eprintln!(rt; "af: {calls}");
 }

@@ -1,16 +1,9 @@
 // The children of an answering machine, counted.
-ghost use Rattle.std.specs.Prelude.{◌≡◌, ◌≤◌, ◌^◌, ◌-◌, ℕ};
-ghost use Rattle.std.specs.declared.option.Option.TheVariants.{None};
-ghost use Rattle.arrayvec.specs.ArrayVec.{array_vec_len};
-ghost use Rattle.af_io.specs.Observed.{CountsOneFault};
-ghost use Rattle.af_process.specs.Acts.{started_after};
-
 use af_io::Put;
-use af_process::{Finished, Spawner, Started, StdSpawner, Words};
+use af_process::{Finished, Spawner, Started, Words};
 use std::alloc::Global;
 use std::fmt;
 use std::fmt::{Formatter, Write};
-use std::process::Processes;
 
 /// The calls of an answering machine so far: how many began with their greeting, in how many a message was recorded, and in how
 /// many a child failed. All counts stand still at 2^64 - 1.
@@ -73,20 +66,26 @@ impl fmt::Display for Calls {
     }
 }
 
-/// Starts programs of the system for an answering machine, and counts its calls by them.
+/// A spawner that is watched: it counts the calls of an answering machine by its children. Each of its calls is that call of the
+/// spawner below it.
 #[derive(Drop)]
-pub struct WatchedSpawner<R: Processes + Drop> {
-    spawner: StdSpawner<R>,
+pub struct WatchedSpawner<S: Spawner + Drop> {
+    spawner: S,
     calls: Calls,
 }
 
-impl<R: Processes + Drop> WatchedSpawner<R> {
-    /// A spawner of the programs of this runtime.
-    pub fn new(rt: R) -> WatchedSpawner<R> {
+impl<S: Spawner + Drop> WatchedSpawner<S> {
+    /// A spawner over another.
+    pub fn new(spawner: S) -> WatchedSpawner<S> {
         WatchedSpawner {
-            spawner: StdSpawner::new(rt),
+            spawner,
             calls: Calls::new(),
         }
+    }
+
+    /// The spawner below it.
+    pub fn spawner(&self) -> &S {
+        &self.spawner
     }
 
     /// The calls so far.
@@ -95,42 +94,36 @@ impl<R: Processes + Drop> WatchedSpawner<R> {
     }
 }
 
-impl<R: Processes + Drop> Spawner for WatchedSpawner<R> {
-    ghost acts = { λ _. None };
+impl<S: Spawner + Drop> Spawner for WatchedSpawner<S> {
+    ghost acts = { λ watched. S.acts watched.spawner };
 
-    ghost started = { λ spawner. spawner.spawner.started };
+    ghost started = { λ watched. S.started watched.spawner };
 
-    ghost faults = { λ spawner. spawner.spawner.faults };
+    ghost faults = { λ watched. S.faults watched.spawner };
 
-    fn note(&mut self, sound: &[u8])
-        ensures same { self.new.spawner ≡ self.old.spawner }
-    {
+    ghost notes = { λ before sound after. S.notes before.spawner sound after.spawner };
+
+    ghost starts = { λ before words answer after. S.starts before.spawner words answer after.spawner };
+
+    ghost gives = { λ before child bytes answer after. S.gives before.spawner child bytes answer after.spawner };
+
+    ghost finishes = { λ before child answer after. S.finishes before.spawner child answer after.spawner };
+
+    fn note(&mut self, sound: &[u8]) {
         self.spawner.note(sound);
     }
 
-    fn start(&mut self, alloc: Global, words: &Words) -> Started
-        requires { 1 ≤ array_vec_len words.now }
-        ensures faults { CountsOneFault (result ≡ Started.Failed) self.old.spawner.faults self.new.spawner.faults }
-        ensures number { (child : ℕ) → result ≡ Started.Child child → child ≡ self.old.spawner.started }
-        ensures most { self.old.spawner.started ≡ 2 ^ 32 - 1 → result ≡ Started.Failed }
-        ensures started { self.new.spawner.started ≡ started_after self.old.spawner.started result }
-    {
+    fn start(&mut self, alloc: Global, words: &Words) -> Started {
         let started = self.spawner.start(alloc, words);
         self.calls.note_start(started);
         started
     }
 
-    fn give(&mut self, child: u32, bytes: &[u8]) -> Put
-        ensures faults { CountsOneFault (result ≡ Put.Failed) self.old.spawner.faults self.new.spawner.faults }
-        ensures started { self.new.spawner.started ≡ self.old.spawner.started }
-    {
+    fn give(&mut self, child: u32, bytes: &[u8]) -> Put {
         self.spawner.give(child, bytes)
     }
 
-    fn finish(&mut self, child: u32) -> Finished
-        ensures faults { CountsOneFault (result ≡ Finished.Failed) self.old.spawner.faults self.new.spawner.faults }
-        ensures started { self.new.spawner.started ≡ self.old.spawner.started }
-    {
+    fn finish(&mut self, child: u32) -> Finished {
         let finished = self.spawner.finish(child);
         self.calls.note_end(finished);
         finished

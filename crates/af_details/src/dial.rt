@@ -1,35 +1,29 @@
-// A dial over TCP, and its links. What goes over them is watched.
-ghost use Rattle.std.specs.Prelude.{◌≡◌, ◌≤◌, ◌<◌, length};
-ghost use Rattle.std.specs.declared.option.Option.TheVariants.{None};
-ghost use Rattle.af_limits.specs.Limits.{longest_address};
-ghost use Rattle.af_io.specs.Observed.{CountsOneFault};
-ghost use Rattle.af_io.specs.Flow.{GotFits};
-ghost use Rattle.af_io.specs.Dial.{CountsHurt, IsUnhurt};
+// A dial and its links. What goes over them is watched.
+ghost use Rattle.af_io.specs.Dial.{dialed_over};
 
+use crate::reasons::TellsReason;
 use crate::talk::{Address, Talk};
-use af_io::{Dial, Dialed, Got, Link, Put, Reason, TcpDial, TcpLink};
-use std::io::{Read, Write};
-use std::net::{Net, OpenStream};
+use af_io::{Dial, Dialed, Got, Link, Put, Reason};
 
-/// A link over TCP that follows what is said on it.
+/// A link that is watched: it follows what is said on the link below it. Each of its calls is that call of the link below.
 #[derive(Drop)]
-pub struct WatchedLink<S: Read + Write + Drop> {
-    link: TcpLink<S>,
+pub struct WatchedLink<L: Link + Drop> {
+    link: L,
     talk: Talk,
 }
 
-impl<S: Read + Write + Drop> Link for WatchedLink<S> {
-    ghost left = { λ _. None };
+impl<L: Link + Drop> Link for WatchedLink<L> {
+    ghost left = { λ watched. L.left watched.link };
 
-    ghost sent = { λ _. None };
+    ghost sent = { λ watched. L.sent watched.link };
 
-    ghost faults = { λ link. link.link.faults };
+    ghost faults = { λ watched. L.faults watched.link };
 
-    fn read(&mut self, into: &mut [u8]) -> Got
-        requires { 0 < length into.old }
-        ensures bound { GotFits result (length into.new) None }
-        ensures faults { CountsOneFault (result ≡ Got.Failed) self.old.link.faults self.new.link.faults }
-    {
+    ghost reads = { λ before answer into after. L.reads before.link answer into after.link };
+
+    ghost writes = { λ before piece answer after. L.writes before.link piece answer after.link };
+
+    fn read(&mut self, into: &mut [u8]) -> Got {
         let got = self.link.read(into);
         if let Got::Bytes(count) = got {
             self.talk.came(&into[..count]);
@@ -37,86 +31,96 @@ impl<S: Read + Write + Drop> Link for WatchedLink<S> {
         got
     }
 
-    fn write(&mut self, piece: &[u8]) -> Put
-        requires { 0 < length piece.now }
-        ensures faults { CountsOneFault (result ≡ Put.Failed) self.old.link.faults self.new.link.faults }
-    {
+    fn write(&mut self, piece: &[u8]) -> Put {
         self.talk.sent(piece);
         self.link.write(piece)
     }
 }
 
-/// A dial over TCP whose links are watched. It keeps what was said on the first two that are given back.
+/// What was seen of a dial: the address that was dialled last, why it was refused, and what was said on the first two links that
+/// were given back.
 #[derive(Drop)]
-pub struct WatchedDial<R: Net + Drop> {
-    dial: TcpDial<R>,
-    /// The address that was dialled last.
+pub struct Seen {
     pub address: Address,
-    /// What was said on the link that was given back first.
+    pub reason: Option<Reason>,
     pub first: Option<Talk>,
-    /// What was said on the one that was given back next.
     pub second: Option<Talk>,
 }
 
-impl<R: Net + Drop> WatchedDial<R> {
-    /// A dial over the sockets of this runtime.
-    pub fn new(rt: R) -> WatchedDial<R> {
+/// A dial whose links are watched. Each of its calls is that call of the dial below it.
+#[derive(Drop)]
+pub struct WatchedDial<D: TellsReason + Drop> {
+    dial: D,
+    seen: Seen,
+}
+
+impl<D: TellsReason + Drop> WatchedDial<D> {
+    /// A dial over another.
+    pub fn new(dial: D) -> WatchedDial<D> {
         WatchedDial {
-            dial: TcpDial::new(rt),
-            address: Address::new(),
-            first: None,
-            second: None,
+            dial,
+            seen: Seen {
+                address: Address::new(),
+                reason: None,
+                first: None,
+                second: None,
+            },
         }
     }
 
-    /// Why a dial failed last, if one did.
-    pub fn reason(&self) -> Option<Reason> {
-        self.dial.reason()
+    /// The dial below it.
+    pub fn dial(&self) -> &D {
+        &self.dial
+    }
+
+    /// What was seen of it.
+    pub fn seen(&self) -> &Seen {
+        &self.seen
     }
 }
 
-impl<R: Net + Drop> Dial for WatchedDial<R> {
-    type Far = WatchedLink<R::Stream>;
+impl<D: TellsReason + Drop> Dial for WatchedDial<D> {
+    type Far = WatchedLink<D::Far>;
 
-    ghost faults = { λ dial. dial.dial.faults };
+    ghost faults = { λ watched. D.Dial.faults watched.dial };
 
-    ghost hurt = { λ dial. dial.dial.hurt };
+    ghost hurt = { λ watched. D.Dial.hurt watched.dial };
 
-    ghost asked = { λ _. None };
+    ghost asked = { λ watched. D.Dial.asked watched.dial };
 
-    ghost back = { λ _. None };
+    ghost back = { λ watched. D.Dial.back watched.dial };
 
-    ghost links = { λ _. None };
+    ghost links = { λ watched. D.Dial.links watched.dial };
 
-    fn dial(&mut self, address: &str) -> Dialed<WatchedLink<R::Stream>>
-        requires { (1 ≤ length address.now) × (length address.now ≤ longest_address) }
-        ensures faults { CountsOneFault (result ≡ Dialed.Failed) self.old.dial.faults self.new.dial.faults }
-        ensures fresh { IsUnhurt (λ link. link.link.faults) result }
-        ensures hurt { self.new.dial.hurt ≡ self.old.dial.hurt }
-    {
-        self.address = Address::new();
-        let _ = self.address.try_push_str(address);
+    ghost dials = { λ before address answer after.
+        D.Dial.dials before.dial address (dialed_over (λ watched. watched.link) answer) after.dial };
+
+    ghost hangs_up = { λ before far after. D.Dial.hangs_up before.dial far.link after.dial };
+
+    fn dial(&mut self, address: &str) -> Dialed<WatchedLink<D::Far>> {
+        self.seen.address = Address::new();
+        let _ = self.seen.address.try_push_str(address);
         match self.dial.dial(address) {
             Dialed::Far(link) => Dialed::Far(WatchedLink {
                 link,
-                talk: Talk::new(self.address),
+                talk: Talk::new(self.seen.address),
             }),
-            Dialed::Failed => Dialed::Failed,
+            Dialed::Failed => {
+                self.seen.reason = self.dial.dial_reason();
+                Dialed::Failed
+            }
             Dialed::OutOfMemory => Dialed::OutOfMemory,
         }
     }
 
-    fn hang_up(&mut self, far: WatchedLink<R::Stream>)
-        ensures count { self.new.dial.faults ≡ self.old.dial.faults }
-        ensures hurt { CountsHurt far.link.faults self.old.dial.hurt self.new.dial.hurt }
-    {
+    fn hang_up(&mut self, far: WatchedLink<D::Far>) {
         let WatchedLink { link, mut talk } = far;
-        talk.reason = link.reason();
+        talk.reason = D::link_reason(&link);
         self.dial.hang_up(link);
-        if self.first.is_none() {
-            self.first = Some(talk);
+        if self.seen.first.is_none() {
+            self.seen.first = Some(talk);
         } else {
-            self.second = Some(talk);
+            self.seen.second = Some(talk);
         }
     }
 }

@@ -1,14 +1,13 @@
 // What went wrong between a tool and its servers.
 use crate::asked::{channels_text, type_name};
-use crate::dial::WatchedDial;
+use crate::dial::Seen;
 use crate::talk::Talk;
 use af_io::Reason;
 use af_request::DeviceInfo;
-use std::net::Net;
 
 /// The talk in which something was asked that was not answered, or else the last one.
-pub fn waiting<R: Net + Drop>(dial: &WatchedDial<R>) -> Option<&Talk> {
-    match (&dial.first, &dial.second) {
+pub fn waiting(seen: &Seen) -> Option<&Talk> {
+    match (&seen.first, &seen.second) {
         (Some(first), Some(second)) => Some(if first.waits { first } else { second }),
         (Some(first), None) => Some(first),
         (None, _) => None,
@@ -16,20 +15,20 @@ pub fn waiting<R: Net + Drop>(dial: &WatchedDial<R>) -> Option<&Talk> {
 }
 
 /// Tells why a server was not reached.
-pub fn tell_dial<R: Net + Drop>(rt: &impl Eprint, dial: &WatchedDial<R>) {
-    let address = dial.address.as_str();
+pub fn tell_dial(rt: &impl Eprint, seen: &Seen) {
+    let address = seen.address.as_str();
     if !address.contains(":") {
         let _ = eprintln!(rt;
             "af: {address} has no port; an address is HOST:PORT, such as 127.0.0.1:1701"
         );
-    } else if let Some(reason) = dial.reason() {
+    } else if let Some(reason) = seen.reason {
         let _ = eprintln!(rt; "af: {address}: {reason}");
     }
 }
 
 /// Tells why a link has failed, or that it ended.
-pub fn tell_link<R: Net + Drop>(rt: &impl Eprint, dial: &WatchedDial<R>) {
-    let Some(talk) = waiting(dial) else {
+pub fn tell_link(rt: &impl Eprint, seen: &Seen) {
+    let Some(talk) = waiting(seen) else {
         return;
     };
     let address = talk.address.as_str();
@@ -57,10 +56,10 @@ pub fn tell_asked(rt: &impl Eprint, talk: &Talk) {
 }
 
 /// Tells what a server refused, and why.
-pub fn tell_refusal<R: Net + Drop>(rt: &impl Eprint, dial: &WatchedDial<R>, code: u8) {
+pub fn tell_refusal(rt: &impl Eprint, seen: &Seen, code: u8) {
     let why = refusal(code);
     let _ = eprintln!(rt; "af: {why}");
-    if let Some(talk) = waiting(dial) {
+    if let Some(talk) = waiting(seen) {
         tell_asked(rt, talk);
     }
 }
@@ -81,8 +80,8 @@ fn refusal<'a>(code: u8) -> &'a str {
 }
 
 /// Tells that what came is no answer.
-pub fn tell_bad_reply<R: Net + Drop>(rt: &impl Eprint, dial: &WatchedDial<R>) {
-    let Some(talk) = waiting(dial) else {
+pub fn tell_bad_reply(rt: &impl Eprint, seen: &Seen) {
+    let Some(talk) = waiting(seen) else {
         return;
     };
     let address = talk.address.as_str();

@@ -6,15 +6,15 @@ use crate::shown::Counted;
 use crate::source::WatchedSource;
 use crate::talk::Talk;
 use af_cli::PlayJob;
+use af_io::Source;
 use af_sound::SoundForm;
 use af_toolkit::ToolEnd;
-use std::io::Read;
 
 /// The greatest lead that may be asked for, in milliseconds.
 const LONGEST_LEAD: u64 = 60_000;
 
 /// Tells what is wrong with a sound file, and what makes one that can be played.
-pub fn tell_sound<S: Read + Drop>(
+pub fn tell_sound<S: Source + Drop>(
     rt: &impl Eprint,
     job: &PlayJob,
     end: ToolEnd,
@@ -80,7 +80,7 @@ fn tell_remedy(rt: &impl Eprint, job: &PlayJob, form: SoundForm, talk: &Talk) {
 }
 
 /// Tells which frames were not heard, and of a file that has sound though its header says none.
-pub fn tell_played<S: Read + Drop>(
+pub fn tell_played<S: Source + Drop>(
     rt: &impl Eprint,
     job: &PlayJob,
     end: ToolEnd,

@@ -1,12 +1,6 @@
-// A source over a reader. Its first bytes are kept.
-ghost use Rattle.std.specs.Prelude.{◌≡◌, ◌<◌, length};
-ghost use Rattle.std.specs.declared.option.Option.TheVariants.{None};
-ghost use Rattle.af_io.specs.Observed.{CountsOneFault};
-ghost use Rattle.af_io.specs.Flow.{GotFits};
-
-use af_io::{Got, Reason, Source, StdSource};
+// A source whose first bytes are kept.
+use af_io::{Got, Source};
 use arrayvec::ArrayVec;
-use std::io::Read;
 
 /// So many bytes are kept: enough to see what kind of file it is.
 pub const MOST_KEPT: usize = 64;
@@ -30,24 +24,30 @@ impl Given {
     }
 }
 
-/// A source over any reader that keeps the first bytes, and counts all of them.
+/// A source that is watched: it keeps the first bytes of the source below it, and counts all of them. Each of its reads is that
+/// read of the source below.
 #[derive(Drop)]
-pub struct WatchedSource<R: Read + Drop> {
-    source: StdSource<R>,
+pub struct WatchedSource<S: Source + Drop> {
+    source: S,
     given: Given,
 }
 
-impl<R: Read + Drop> WatchedSource<R> {
-    /// A source of what this reader gives.
-    pub fn new(reader: R) -> WatchedSource<R> {
+impl<S: Source + Drop> WatchedSource<S> {
+    /// A source over another.
+    pub fn new(source: S) -> WatchedSource<S> {
         WatchedSource {
-            source: StdSource::new(reader),
+            source,
             given: Given {
                 first: ArrayVec::new(),
                 count: 0,
                 ended: false,
             },
         }
+    }
+
+    /// The source below it.
+    pub fn source(&self) -> &S {
+        &self.source
     }
 
     /// The first bytes that it gave.
@@ -60,11 +60,6 @@ impl<R: Read + Drop> WatchedSource<R> {
         self.given.count
     }
 
-    /// Why a read failed last, if one did.
-    pub fn reason(&self) -> Option<Reason> {
-        self.source.reason()
-    }
-
     /// Whether it gives another byte, which is read.
     pub fn gives_more(&mut self) -> bool {
         let mut byte = [0];
@@ -72,16 +67,14 @@ impl<R: Read + Drop> WatchedSource<R> {
     }
 }
 
-impl<R: Read + Drop> Source for WatchedSource<R> {
-    ghost left = { λ _. None };
+impl<S: Source + Drop> Source for WatchedSource<S> {
+    ghost left = { λ watched. S.left watched.source };
 
-    ghost faults = { λ source. source.source.faults };
+    ghost faults = { λ watched. S.faults watched.source };
 
-    fn read(&mut self, into: &mut [u8]) -> Got
-        requires { 0 < length into.old }
-        ensures bound { GotFits result (length into.new) None }
-        ensures faults { CountsOneFault (result ≡ Got.Failed) self.old.source.faults self.new.source.faults }
-    {
+    ghost reads = { λ before answer into after. S.reads before.source answer into after.source };
+
+    fn read(&mut self, into: &mut [u8]) -> Got {
         let got = self.source.read(into);
         match got {
             Got::Bytes(count) => self.given.note(&into[..count]),

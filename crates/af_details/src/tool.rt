@@ -1,5 +1,5 @@
 // Details of the end of a tool.
-use crate::dial::WatchedDial;
+use crate::dial::Seen;
 use crate::links::{
     tell_bad_reply, tell_dial, tell_link, tell_no_device, tell_refusal, tell_stream,
 };
@@ -9,34 +9,39 @@ use crate::source::WatchedSource;
 use crate::talk::Talk;
 use crate::usage::tell_usage;
 use af_cli::{Call, RecordJob, Task, call_of};
-use af_io::{Args, Reason};
+use af_io::{Args, Reason, Source};
 use af_toolkit::ToolEnd;
 use std::alloc::Global;
-use std::io::Read;
-use std::net::Net;
+
+/// Why a read of standard input failed last, and a write to standard output, if one did.
+#[derive(Clone, Copy)]
+pub struct Streams {
+    pub input: Option<Reason>,
+    pub output: Option<Reason>,
+}
 
 /// Tells of the end of a tool what its line does not: which word is wrong, what the system said, what was asked, what was lost.
-pub fn tell_tool<R: Net + Drop, S: Read + Drop>(
+pub fn tell_tool<S: Source + Drop>(
     rt: &impl Eprint,
     alloc: Global,
     words: &Args,
     end: ToolEnd,
-    dial: &WatchedDial<R>,
+    seen: &Seen,
     source: &mut WatchedSource<S>,
-    sink: Option<Reason>,
+    streams: Streams,
 ) {
     if end == ToolEnd::Usage {
         return tell_usage(rt, alloc, words);
     }
-    tell_end(rt, end, dial, source.reason(), sink);
+    tell_end(rt, end, seen, streams);
     match call_of(alloc, words) {
         Ok(Call::One(call)) => {
-            if let Some(talk) = &dial.first {
+            if let Some(talk) = &seen.first {
                 tell_task(rt, &call.task, end, talk, source);
             }
         }
         Ok(Call::Relay(call)) => {
-            if let (Some(from), Some(to)) = (&dial.first, &dial.second) {
+            if let (Some(from), Some(to)) = (&seen.first, &seen.second) {
                 tell_pair(rt, &call.job, end, from, to);
                 tell_passed(rt, &call.job, from, to);
             }
@@ -46,23 +51,17 @@ pub fn tell_tool<R: Net + Drop, S: Read + Drop>(
 }
 
 /// Tells what every tool tells of an end.
-pub fn tell_end<R: Net + Drop>(
-    rt: &impl Eprint,
-    end: ToolEnd,
-    dial: &WatchedDial<R>,
-    source: Option<Reason>,
-    sink: Option<Reason>,
-) {
+pub fn tell_end(rt: &impl Eprint, end: ToolEnd, seen: &Seen, streams: Streams) {
     match end {
-        ToolEnd::DialFault => tell_dial(rt, dial),
-        ToolEnd::LinkFault | ToolEnd::LinkEnded => tell_link(rt, dial),
-        ToolEnd::Refused { code, value: _ } => tell_refusal(rt, dial, code),
+        ToolEnd::DialFault => tell_dial(rt, seen),
+        ToolEnd::LinkFault | ToolEnd::LinkEnded => tell_link(rt, seen),
+        ToolEnd::Refused { code, value: _ } => tell_refusal(rt, seen, code),
         ToolEnd::BadReply {
             header: _,
             first: _,
-        } => tell_bad_reply(rt, dial),
-        ToolEnd::ReadFault => tell_stream(rt, "standard input", source),
-        ToolEnd::SinkFault => tell_stream(rt, "standard output", sink),
+        } => tell_bad_reply(rt, seen),
+        ToolEnd::ReadFault => tell_stream(rt, "standard input", streams.input),
+        ToolEnd::SinkFault => tell_stream(rt, "standard output", streams.output),
         ToolEnd::TooLong => {
             let _ = eprintln!(rt; "af: standard input gave more than 2^40 bytes");
         }
@@ -71,7 +70,7 @@ pub fn tell_end<R: Net + Drop>(
 }
 
 // Tells the end of a tool that has one server.
-fn tell_task<S: Read + Drop>(
+fn tell_task<S: Source + Drop>(
     rt: &impl Eprint,
     task: &Task,
     end: ToolEnd,

@@ -1,5 +1,6 @@
 pub mod ReadingLemmas
 pub mod NoteLemmas
 pub mod RunLemmas
+pub mod HookLemmas
 pub mod AccountLemmas
 pub mod DialogueLemmas

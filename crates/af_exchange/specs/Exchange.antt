@@ -1,12 +1,10 @@
 -- The program of a line, as a caller has it.
-use Rattle.std.specs.Prelude.{◌≡◌, ⊤, ℕ, ◌+◌, ◌&&◌, ◌||◌, not, is_some, if◌then◌else◌, List, [], ◌∷◌, MatchOption}
+use Rattle.std.specs.Prelude.{◌≡◌, ⊤, ℕ, ◌+◌, ◌&&◌, not, is_some, if◌then◌else◌, List, [], ◌∷◌, MatchOption}
 use Rattle.std.specs.declared.option.Option.{Option}
 use Rattle.std.specs.declared.option.Option.TheVariants.{None, Some}
-use Rattle.af_io.specs.declared.flow.Put.{Put}
-use Rattle.af_io.specs.declared.flow.Put.TheVariants as put
 use Rattle.af_phone.specs.declared.line.LineChange.{LineChange}
 use Rattle.af_program.specs.Acts.{ToldAct}
-use Rattle.af_program.specs.Waits.{is_left, may_come}
+use Rattle.af_program.specs.Waits.{may_come}
 use Rattle.af_exchange.specs.Lines.{text_of}
 use Rattle.af_exchange.specs.Ledger.{ledger_of, Order}
 use Rattle.af_exchange.specs.Told.{IsTold, IsDrained}
@@ -46,7 +44,3 @@ order_at d words at = if not (is_some d.running) && may_come d.starts at then re
 -- how many starts were tried after a moment at which one is tried, if no program runs and one may come
 abbrev pub tried_after : DialogueState → ℕ → ℕ
 tried_after d at = if not (is_some d.running) && may_come d.starts at then d.starts.tried + 1 else d.starts.tried
-
--- Failed if no program runs that takes lines, and no start is left
-abbrev pub hook_answer : DialogueState → Put
-hook_answer d = if is_open d.running || is_left d.starts then put.Done else put.Failed

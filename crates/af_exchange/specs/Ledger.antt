@@ -5,7 +5,7 @@ use Rattle.std.specs.Prelude.{ℕ, List, [], ◌∷◌, ◌++◌, codes, flat_ma
 use Rattle.std.specs.declared.option.Option.{Option}
 use Rattle.std.specs.declared.option.Option.TheVariants.{None, Some}
 use Rattle.af_io.specs.Observed.{Appended}
-use Rattle.af_program.specs.Acts.{ToldAct, launched, captured, emitted}
+use Rattle.af_program.specs.Acts.{ToldAct, launched, gave, took, ended, captured, emitted}
 use Rattle.af_program.specs.Ledger.{Book, Ledger, ledger_by}
 
 -- While one program ran: the bytes that it gave and those that it took; the lines of the changes that were given meanwhile; and
@@ -40,13 +40,21 @@ ledger_of acts = ledger_by exchange_book first_hook acts
 
 -- the line of the change that an act notes, if it notes one
 abbrev pub change_in : ToldAct → List (List ℕ)
+change_in (launched at words came_to) = []
+change_in (gave bytes) = []
+change_in (took bytes) = []
+change_in (ended at) = []
 change_in (captured line) = line ∷ []
-change_in _ = []
+change_in (emitted line) = []
 
 -- the line of the hook call that an act notes, if it notes one
 abbrev pub call_in : ToldAct → List (List ℕ)
+call_in (launched at words came_to) = []
+call_in (gave bytes) = []
+call_in (took bytes) = []
+call_in (ended at) = []
+call_in (captured line) = []
 call_in (emitted line) = line ∷ []
-call_in _ = []
 
 -- the moment and the words of a start
 pub record Order : Type 0 where
@@ -56,7 +64,11 @@ pub record Order : Type 0 where
 -- the start that an act is, if it is one
 abbrev pub order_in : ToldAct → List Order
 order_in (launched at words came_to) = record { at = at; words = words } ∷ []
-order_in _ = []
+order_in (gave bytes) = []
+order_in (took bytes) = []
+order_in (ended at) = []
+order_in (captured line) = []
+order_in (emitted line) = []
 
 -- what all acts have of this, in order, if they are observable
 abbrev pub all_told : {A : Type 0} → (ToldAct → List A) → Option (List ToldAct) → Option (List A)

@@ -3,4 +3,5 @@ pub mod Fronts
 pub mod Ledger
 pub mod Told
 pub mod Dialogue
+pub mod Hook
 pub mod Exchange

@@ -3,12 +3,14 @@ ghost use Rattle.std.specs.Prelude.{◌≡◌, ◌↔◌, ◌≤◌, ◌+◌, []
 ghost use Rattle.std.specs.declared.option.Option.{Option};
 ghost use Rattle.std.specs.declared.option.Option.TheVariants.{None, Some};
 ghost use Rattle.arrayvec.specs.ArrayVec.{array_vec_len};
-ghost use Rattle.af_program.specs.Acts.{ToldAct};
+ghost use Rattle.af_io.specs.Observed.{Appended};
+ghost use Rattle.af_program.specs.Acts.{ToldAct, emitted};
 ghost use Rattle.af_process.specs.Acts.{words_of};
 ghost use Rattle.af_world.specs.Kinds.{most_card_restarts};
 ghost use Rattle.af_exchange.specs.Lines.{text_of, hook_text};
 ghost use Rattle.af_exchange.specs.Fronts.{FrontOf, NoComment};
 ghost use Rattle.af_exchange.specs.Ledger.{Notes};
+ghost use Rattle.af_exchange.specs.Hook.{after_call, OffersOwed};
 ghost use Rattle.af_exchange.specs.Dialogue.{new_dialogue, is_open, is_over, Accounts, CanBegin, CanEnd, LeavesNone, PassesOver};
 
 use crate::line::{Front, front_of, hook_text, note_change};
@@ -147,6 +149,8 @@ impl Dialogue {
         ensures fits { Accounts self.new (P.acts program.new) }
         ensures same { self.new.starts ≡ self.old.starts }
         ensures off { self.new.off ≡ off }
+        ensures after { self.new ≡ after_call off self.old }
+        ensures acts { Appended (P.acts program.old) (emitted (hook_text off) ∷ []) (P.acts program.new) }
         ensures notes { Notes [] (hook_text off ∷ []) [] (P.acts program.old) (P.acts program.new) }
     {
         let text = hook_text(off);
@@ -174,6 +178,7 @@ impl Dialogue {
         ensures fits { Accounts self.new (P.acts program.new) }
         ensures same { (self.new.starts ≡ self.old.starts) × (self.new.off ≡ self.old.off) × (self.new.left ≡ self.old.left) }
         ensures runs { is_some self.new.running ≡ is_some self.old.running }
+        ensures offers { OffersOwed self.old self.new (P.acts program.old) (P.acts program.new) }
         ensures notes { Notes [] [] [] (P.acts program.old) (P.acts program.new) }
     {
         let Some(running) = self.running else {

@@ -12,7 +12,8 @@ ghost use Rattle.af_exchange.specs.Lines.{hook_text};
 ghost use Rattle.af_exchange.specs.Ledger.{Notes};
 ghost use Rattle.af_exchange.specs.Fronts.{FrontOf, NoComment};
 ghost use Rattle.af_exchange.specs.Dialogue.{Accounts, CanBegin, LeavesNone, new_dialogue, is_over};
-ghost use Rattle.af_exchange.specs.Exchange.{new_exchange, IsToldWhereTold, IsDrainedWhereTold, SameOrders, lines_of, order_at, tried_after, hook_answer};
+ghost use Rattle.af_exchange.specs.Exchange.{new_exchange, IsToldWhereTold, IsDrainedWhereTold, SameOrders, lines_of, order_at, tried_after};
+ghost use Rattle.af_exchange.specs.Hook.{CallsHook};
 
 use crate::dialogue::Dialogue;
 use crate::line::Front;
@@ -116,7 +117,8 @@ impl<P: Program + Drop> Exchange<P> {
 
     /// Takes the hook off, or puts it on. Failed says that no program runs that takes lines, and no start is left.
     pub fn set_hook(&mut self, off: bool, at: u64) -> Put
-        ensures answer { result ≡ hook_answer self.new.dialogue }
+        ensures calls { CallsHook off result self.old.dialogue self.new.dialogue (P.acts self.old.program)
+            (P.acts self.new.program) }
         ensures told { IsToldWhereTold P.acts self.new }
         ensures notes { Notes [] (hook_text off ∷ []) [] (P.acts self.old.program) (P.acts self.new.program) }
         ensures off { self.new.dialogue.off ≡ off }

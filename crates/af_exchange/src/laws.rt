@@ -1,9 +1,14 @@
 //! Laws of what a program says, each the contract of a function that does nothing.
-ghost use Rattle.std.specs.Prelude.{◌≡◌, ◌++◌, ◌∷◌, [], ℕ, List, Bool, true, false, codes, replicate};
+ghost use Rattle.std.specs.Prelude.{◌≡◌, ◌≢◌, ◌++◌, ◌∷◌, [], ℕ, List, Bool, true, false, codes, is_some, replicate};
 ghost use Rattle.std.specs.List.{fold};
+ghost use Rattle.std.specs.declared.option.Option.{Option};
 ghost use Rattle.std.specs.declared.option.Option.TheVariants.{None, Some};
+ghost use Rattle.af_io.specs.declared.flow.Put.{Put};
 ghost use Rattle.af_program.specs.declared.program.Launched.{Launched};
-ghost use Rattle.af_program.specs.Acts.{launched, gave, took, ended, captured, emitted};
+ghost use Rattle.af_program.specs.declared.program.Took.{Took};
+ghost use Rattle.af_program.specs.Acts.{ToldAct, launched, gave, took, ended, captured, emitted};
+ghost use Rattle.af_exchange.specs.Dialogue.{DialogueState, is_open};
+ghost use Rattle.af_exchange.specs.Hook.{CallsHook, takes_call};
 ghost use Rattle.af_exchange.specs.Ledger.{ledger_of};
 ghost use Rattle.af_phone.specs.declared.line.LineChange.{LineChange};
 ghost use Rattle.af_phone.specs.Lines.{is_change};
@@ -40,6 +45,15 @@ pub fn what_was_said_stays()
 /// The line of a change says that change.
 pub fn a_line_says_its_change()
     ensures { (change : LineChange) → is_change change ≡ true → said_of (text_of change) ≡ Said.Change change }
+{}
+
+/// A hook call ends no program. One that takes the call goes on taking lines, unless it answers that it takes none any more.
+pub fn a_hook_call_leaves_the_program_running()
+    ensures runs { (off : Bool) (result : Put) (before after : DialogueState) (acts acts' : Option (List ToldAct)) →
+        CallsHook off result before after acts acts' → is_some after.running ≡ is_some before.running }
+    ensures stays_open { (off : Bool) (result : Put) (before after : DialogueState) (acts acts' : Option (List ToldAct)) →
+        (call : CallsHook off result before after acts acts') → takes_call off before ≡ true → call.answer ≢ Some Took.Ended →
+        is_open after.running ≡ true }
 {}
 
 /// A small run of acts, sorted by program: one is told the hook at its start and a call, gives a change in two pieces, takes the

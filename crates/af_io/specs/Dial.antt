@@ -4,7 +4,8 @@ use Rattle.std.specs.declared.option.Option.{Option}
 use Rattle.std.specs.declared.option.Option.TheVariants.{None, Some}
 use Rattle.af_io.specs.declared.dial.Dialed.{Dialed}
 use Rattle.af_io.specs.declared.dial.Dialed.TheVariants as dialed
-use Rattle.af_io.specs.Observed.{Appended, FaultCounted, next_count}
+use Rattle.af_io.specs.declared.dial.DialCounts.{DialCounts}
+use Rattle.af_io.specs.Observed.{Appended, CountsOneFault, FaultCounted, next_count}
 
 -- a link that a dial will give: the bytes that it gives, and those that it was sent before
 pub record ToldLink : Type 0 where
@@ -29,7 +30,19 @@ GivesNext left sent dialed.OutOfMemory before after = after ≡ before
 -- a link that is dialled has not failed yet
 abbrev pub IsUnhurt : {F : Type 0} → (F → ℕ) → Dialed F → Type 0
 IsUnhurt faults (dialed.Far far) = faults far ≡ 0
-IsUnhurt faults _ = ⊤
+IsUnhurt faults dialed.Failed = ⊤
+IsUnhurt faults dialed.OutOfMemory = ⊤
+
+-- what a dial gave, whose link stands over this one
+abbrev pub dialed_over : {F G : Type 0} → (F → G) → Dialed F → Dialed G
+dialed_over inner (dialed.Far far) = dialed.Far (inner far)
+dialed_over inner dialed.Failed = dialed.Failed
+dialed_over inner dialed.OutOfMemory = dialed.OutOfMemory
+
+-- a dial that failed is counted, and no other
+pub record CountsDial {F : Type 0} (answer : Dialed F) (before after : DialCounts) : Type 0 where
+  pub faults : CountsOneFault (answer ≡ dialed.Failed) before.faults after.faults
+  pub hurt : after.hurt ≡ before.hurt
 
 -- if the links that were given back are observable, this one was added: what it had been sent
 abbrev pub AppendedBack : Option (List (List ℕ)) → Option (List ℕ) → Option (List (List ℕ)) → Type 0

@@ -6,6 +6,7 @@ use Rattle.af_io.specs.declared.flow.Got.{Got}
 use Rattle.af_io.specs.declared.flow.Got.TheVariants as got
 use Rattle.af_io.specs.declared.flow.Put.{Put}
 use Rattle.af_io.specs.declared.flow.Put.TheVariants as put
+use Rattle.af_io.specs.Observed.{CountsOneFault}
 
 -- a source over a reader: the bytes that the reader has left to give, if they are known, and how many reads have failed
 pub record ReaderState : Type 0 where
@@ -45,3 +46,21 @@ pub record AppendsPrefix (before : Option (List ℕ)) (piece : List ℕ) (after 
 abbrev pub WritesOn : Put → Option (List ℕ) → List ℕ → Option (List ℕ) → Type 0
 WritesOn put.Done before piece after = Appends before after piece
 WritesOn put.Failed before piece after = AppendsPrefix before piece after
+
+-- What a call of each does: it reads or writes as above, and one that failed is counted.
+
+pub record SourceReads (before : ReaderState) (answer : Got) (into : List ℕ) (after : ReaderState) : Type 0 where
+  pub reads : ReadsOn answer before.remaining into after.remaining
+  pub faults : CountsOneFault (answer ≡ got.Failed) before.faults after.faults
+
+pub record SinkWrites (before : WriterState) (piece : List ℕ) (answer : Put) (after : WriterState) : Type 0 where
+  pub writes : WritesOn answer before.contents piece after.contents
+  pub faults : CountsOneFault (answer ≡ put.Failed) before.faults after.faults
+
+pub record LinkReads (before : StreamState) (answer : Got) (into : List ℕ) (after : StreamState) : Type 0 where
+  pub reads : ReadsOn answer before.remaining into after.remaining
+  pub faults : CountsOneFault (answer ≡ got.Failed) before.faults after.faults
+
+pub record LinkWrites (before : StreamState) (piece : List ℕ) (answer : Put) (after : StreamState) : Type 0 where
+  pub writes : WritesOn answer before.contents piece after.contents
+  pub faults : CountsOneFault (answer ≡ put.Failed) before.faults after.faults

@@ -2,6 +2,7 @@
 ghost use Rattle.std.specs.Prelude.{◌≡◌, ◌≤◌, ℕ, List, [], ◌∷◌, length};
 ghost use Rattle.std.specs.declared.option.Option.{Option};
 ghost use Rattle.af_limits.specs.Limits.{longest_address};
+ghost use Rattle.af_io.specs.declared.dial.Dialed.{Dialed};
 ghost use Rattle.af_io.specs.Dial.{CountsHurt, hurt_after};
 
 use crate::Link;
@@ -37,6 +38,13 @@ pub trait Dial {
     /// The links that it will give, in order, if they are observed.
     ghost links: { Self → Option (List ToldLink) };
 
+    /// A dial of this address, with this answer, leads from the first to the second. What that says is for each to state. One
+    /// that stands over another has just the dials of that one.
+    ghost dials: { Self → List ℕ → Dialed Self.Far → Self → Type 0 };
+
+    /// Giving this link back leads from the first to the second.
+    ghost hangs_up: { Self → Self.Far → Self → Type 0 };
+
     /// Dials an address of 1 to 64 bytes. The link has not failed yet.
     fn dial(&mut self, address: &str) -> Dialed<Self::Far>
         requires { (1 ≤ length address.now) × (length address.now ≤ longest_address) }
@@ -46,7 +54,8 @@ pub trait Dial {
         ensures hurt { hurt self.new ≡ hurt self.old }
         ensures asked { Appended (asked self.old) (address.now ∷ []) (asked self.new) }
         ensures back { back self.new ≡ back self.old }
-        ensures gives { GivesNext Self.Far.Link.left Self.Far.Link.sent result (links self.old) (links self.new) };
+        ensures gives { GivesNext Self.Far.Link.left Self.Far.Link.sent result (links self.old) (links self.new) }
+        ensures step { dials self.old address.now result self.new };
 
     /// Takes a link back.
     fn hang_up(&mut self, far: Self::Far)
@@ -54,7 +63,8 @@ pub trait Dial {
         ensures hurt { CountsHurt (Self.Far.Link.faults far) (hurt self.old) (hurt self.new) }
         ensures asked { asked self.new ≡ asked self.old }
         ensures back { AppendedBack (back self.old) (Self.Far.Link.sent far) (back self.new) }
-        ensures gives { links self.new ≡ links self.old };
+        ensures gives { links self.new ≡ links self.old }
+        ensures step { hangs_up self.old far self.new };
 }
 
 /// How many dials have failed, and how many of the links that were given back. Both counts stand still at 2^64 - 1.

@@ -1,6 +1,8 @@
 // A source of bytes, and a sink for them.
 ghost use Rattle.std.specs.Prelude.{◌≡◌, ◌≤◌, ◌<◌, ℕ, List, length};
 ghost use Rattle.std.specs.declared.option.Option.{Option};
+ghost use Rattle.af_io.specs.declared.flow.Got.{Got};
+ghost use Rattle.af_io.specs.declared.flow.Put.{Put};
 
 /// What a read gave: n bytes, the end, or a fault.
 #[derive(Clone, Copy, Debug, PartialEq, Eq)]
@@ -28,13 +30,18 @@ pub trait Source {
     /// How often a read has failed.
     ghost faults: { Self → ℕ };
 
+    /// A read with this answer, which left these bytes in its room, leads from the first source to the second. What that says is
+    /// for each source to state. One that stands over another has just the reads of that one.
+    ghost reads: { Self → Got → List ℕ → Self → Type 0 };
+
     /// Reads at least one byte, or answers Ended exactly if none is left.
     fn read(&mut self, into: &mut [u8]) -> Got
         requires { 0 < length into.old }
         ensures consumed { Consumed (left self.old) (given_of result into.new) (left self.new) }
         ensures bound { GotFits result (length into.new) (left self.new) }
         ensures count { faults self.old ≤ faults self.new }
-        ensures cause { result ≡ Got.Failed → FaultCounted (faults self.old) (faults self.new) };
+        ensures cause { result ≡ Got.Failed → FaultCounted (faults self.old) (faults self.new) }
+        ensures step { reads self.old result into.new self.new };
 }
 
 /// Bytes go there.
@@ -48,10 +55,15 @@ pub trait Sink {
     /// How often a write has failed.
     ghost faults: { Self → ℕ };
 
+    /// A write of this piece, with this answer, leads from the first sink to the second. What that says is for each sink to
+    /// state.
+    ghost writes: { Self → List ℕ → Put → Self → Type 0 };
+
     /// Adds the whole piece where it answers Done, and a prefix of it where it answers Failed.
     fn write(&mut self, piece: &[u8]) -> Put
         requires { 0 < length piece.now }
         ensures written { Written result (held self.old) piece.now (held self.new) }
         ensures count { faults self.old ≤ faults self.new }
-        ensures cause { result ≡ Put.Failed → FaultCounted (faults self.old) (faults self.new) };
+        ensures cause { result ≡ Put.Failed → FaultCounted (faults self.old) (faults self.new) }
+        ensures step { writes self.old piece.now result self.new };
 }

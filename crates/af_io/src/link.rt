@@ -1,6 +1,8 @@
 // A link to a server, as a client has it.
 ghost use Rattle.std.specs.Prelude.{◌≡◌, ◌≤◌, ◌<◌, ℕ, List, length, IsSome};
 ghost use Rattle.std.specs.declared.option.Option.{Option};
+ghost use Rattle.af_io.specs.declared.flow.Got.{Got};
+ghost use Rattle.af_io.specs.declared.flow.Put.{Put};
 
 use crate::{Got, Put};
 
@@ -18,6 +20,13 @@ pub trait Link {
     /// How often a read or a write has failed.
     ghost faults: { Self → ℕ };
 
+    /// A read with this answer, which left these bytes in its room, leads from the first link to the second. What that says is
+    /// for each link to state. One that stands over another has just the reads and the writes of that one.
+    ghost reads: { Self → Got → List ℕ → Self → Type 0 };
+
+    /// A write of this piece, with this answer, leads from the first link to the second.
+    ghost writes: { Self → List ℕ → Put → Self → Type 0 };
+
     /// Reads at least one byte, or answers Ended exactly if none is left.
     fn read(&mut self, into: &mut [u8]) -> Got
         requires { 0 < length into.old }
@@ -26,7 +35,8 @@ pub trait Link {
         ensures tells { IsSome (left self.old) → IsSome (left self.new) }
         ensures sends { sent self.new ≡ sent self.old }
         ensures count { faults self.old ≤ faults self.new }
-        ensures cause { result ≡ Got.Failed → FaultCounted (faults self.old) (faults self.new) };
+        ensures cause { result ≡ Got.Failed → FaultCounted (faults self.old) (faults self.new) }
+        ensures step { reads self.old result into.new self.new };
 
     /// Sends the whole piece where it answers Done, and a prefix of it where it answers Failed.
     fn write(&mut self, piece: &[u8]) -> Put
@@ -34,5 +44,6 @@ pub trait Link {
         ensures written { Written result (sent self.old) piece.now (sent self.new) }
         ensures gives { left self.new ≡ left self.old }
         ensures count { faults self.old ≤ faults self.new }
-        ensures cause { result ≡ Put.Failed → FaultCounted (faults self.old) (faults self.new) };
+        ensures cause { result ≡ Put.Failed → FaultCounted (faults self.old) (faults self.new) }
+        ensures step { writes self.old piece.now result self.new };
 }

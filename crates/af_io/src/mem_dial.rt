@@ -5,7 +5,7 @@ ghost use Rattle.af_limits.specs.Limits.{longest_address};
 ghost use Rattle.af_io.specs.Observed.{told_if, Appended, CountsOneFault};
 ghost use Rattle.af_io.specs.Link.{MemLinkState};
 ghost use Rattle.af_io.specs.Dial.{CountsHurt, GivesNext, AppendedBack, IsUnhurt, hurt_after};
-ghost use Rattle.af_io.specs.MemDial.{back_of, both_of, told_link};
+ghost use Rattle.af_io.specs.MemDial.{back_of, both_of, told_link, MemDials, MemHangsUp};
 
 use crate::dial::DialCounts;
 use crate::faults::faults_after;
@@ -95,20 +95,18 @@ impl Dial for MemDial {
 
     ghost links = { λ dial. Some (map told_link dial.links) };
 
+    ghost dials = { λ before _ answer after. MemDials before answer after };
+
+    ghost hangs_up = { MemHangsUp };
+
     fn dial(&mut self, address: &str) -> Dialed<MemLink>
         requires { (1 ≤ length address.now) × (length address.now ≤ longest_address) }
-        ensures faults { CountsOneFault (result ≡ Dialed.Failed) self.old.faults self.new.faults }
         ensures fresh { IsUnhurt (λ (link : MemLinkState). link.faults) result }
-        ensures hurt { self.new.hurt ≡ self.old.hurt }
         ensures asked { Appended self.old.asked (address.now ∷ []) self.new.asked }
-        ensures tells { IfSome self.old.asked (λ said. length said < 2 → IsSome self.new.asked) }
         ensures back { back_of self.new ≡ back_of self.old }
         ensures gives { GivesNext (λ (link : MemLinkState). Some link.left) (λ (link : MemLinkState). Some link.sent) result
             (Some (map told_link self.old.links)) (Some (map told_link self.new.links)) }
-        ensures failed { (result ≡ Dialed.Failed) ↔ (self.old.links ≡ []) }
-        ensures first { (link : MemLinkState) → result ≡ Dialed.Far link → self.old.links ≡ link ∷ self.new.links }
-        ensures memory { result ≢ Dialed.OutOfMemory }
-        ensures kept { (self.new.kept ≡ self.old.kept) × (self.new.keeps_all ≡ self.old.keeps_all) }
+        ensures step { MemDials self.old result self.new }
     {
         self.tells_asked = note(&mut self.addresses, self.tells_asked, address);
         match take_next(&mut self.first, &mut self.second) {
@@ -121,14 +119,9 @@ impl Dial for MemDial {
     }
 
     fn hang_up(&mut self, far: MemLink)
-        ensures count { self.new.faults ≡ self.old.faults }
         ensures hurt { CountsHurt far.faults self.old.hurt self.new.hurt }
-        ensures asked { self.new.asked ≡ self.old.asked }
         ensures back { AppendedBack (back_of self.old) (Some far.sent) (back_of self.new) }
-        ensures gives { Some (map told_link self.new.links) ≡ Some (map told_link self.old.links) }
-        ensures counts { self.new.hurt ≡ hurt_after far.faults self.old.hurt }
-        ensures kept { length self.old.kept < 2 → (self.new.kept ≡ self.old.kept ++ far ∷ [])
-            × (self.new.keeps_all ≡ self.old.keeps_all) }
+        ensures step { MemHangsUp self.old far self.new }
     {
         self.counts.count_hurt(far.faults());
         if !keep(&mut self.kept, &mut self.kept_later, far) {

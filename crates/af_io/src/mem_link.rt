@@ -3,6 +3,7 @@ ghost use Rattle.std.specs.Prelude.{◌≡◌, ◌≤◌, ◌<◌, ◌+◌, ◌�
 ghost use Rattle.std.specs.declared.option.Option.TheVariants.{Some};
 ghost use Rattle.af_io.specs.Observed.{Consumed, CountsOneFault, next_count};
 ghost use Rattle.af_io.specs.Flow.{given_of, GotFits, Written};
+ghost use Rattle.af_io.specs.Link.{MemLinkGives, MemLinkTakes};
 
 use crate::bytes::copy_first;
 use crate::calls::Calls;
@@ -97,19 +98,17 @@ impl Link for MemLink {
 
     ghost faults = { λ link. link.faults };
 
+    ghost reads = { MemLinkGives };
+
+    ghost writes = { MemLinkTakes };
+
     fn read(&mut self, into: &mut [u8]) -> Got
         requires { 0 < length into.old }
         ensures consumed { Consumed (Some self.old.left) (given_of result into.new) (Some self.new.left) }
         ensures bound { GotFits result (length into.new) (Some self.new.left) }
         ensures tells { IsSome (Some self.old.left) → IsSome (Some self.new.left) }
         ensures sends { Some self.new.sent ≡ Some self.old.sent }
-        ensures faults { CountsOneFault (result ≡ Got.Failed) self.old.faults self.new.faults }
-        ensures failed { (result ≡ Got.Failed) ↔ Contains self.old.fails self.old.calls }
-        ensures whole { (n : ℕ) → result ≡ Got.Bytes n
-            → n ≡ min (min self.old.piece (length into.new)) (length self.old.left) }
-        ensures calls { self.new.calls ≡ next_count self.old.calls }
-        ensures rest { self.new
-            ≡ record self.old { left = self.new.left; calls = self.new.calls; faults = self.new.faults } }
+        ensures step { MemLinkGives self.old result into.new self.new }
     {
         if self.calls.next_fails(self.fails.as_slice()) {
             return Got::Failed;
@@ -128,13 +127,7 @@ impl Link for MemLink {
         requires { 0 < length piece.now }
         ensures written { Written result (Some self.old.sent) piece.now (Some self.new.sent) }
         ensures gives { Some self.new.left ≡ Some self.old.left }
-        ensures faults { CountsOneFault (result ≡ Put.Failed) self.old.faults self.new.faults }
-        ensures failed { (result ≡ Put.Failed)
-            ↔ (Contains self.old.fails self.old.calls ⊎ (self.old.room < length self.old.sent + length piece.now)) }
-        ensures nothing { result ≡ Put.Failed → self.new.sent ≡ self.old.sent }
-        ensures calls { self.new.calls ≡ next_count self.old.calls }
-        ensures rest { self.new
-            ≡ record self.old { sent = self.new.sent; calls = self.new.calls; faults = self.new.faults } }
+        ensures step { MemLinkTakes self.old piece.now result self.new }
     {
         let is_refused = piece.len() > self.room - self.sent.len();
         if self.calls.next_fails_or(self.fails.as_slice(), is_refused) {

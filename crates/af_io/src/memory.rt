@@ -3,6 +3,7 @@ ghost use Rattle.std.specs.Prelude.{◌≡◌, ◌≤◌, ◌<◌, ◌+◌, ◌�
 ghost use Rattle.std.specs.declared.option.Option.TheVariants.{Some};
 ghost use Rattle.af_io.specs.Observed.{Consumed, CountsOneFault, next_count};
 ghost use Rattle.af_io.specs.Flow.{given_of, GotFits, Written};
+ghost use Rattle.af_io.specs.Memory.{SourceGives, SinkTakes};
 
 use crate::bytes::copy_first;
 use crate::calls::Calls;
@@ -62,17 +63,13 @@ impl<'a> Source for MemSource<'a> {
 
     ghost faults = { λ source. source.faults };
 
+    ghost reads = { SourceGives };
+
     fn read(&mut self, into: &mut [u8]) -> Got
         requires { 0 < length into.old }
         ensures consumed { Consumed (Some self.old.left) (given_of result into.new) (Some self.new.left) }
         ensures bound { GotFits result (length into.new) (Some self.new.left) }
-        ensures faults { CountsOneFault (result ≡ Got.Failed) self.old.faults self.new.faults }
-        ensures failed { (result ≡ Got.Failed) ↔ Contains self.old.fails self.old.calls }
-        ensures whole { (n : ℕ) → result ≡ Got.Bytes n
-            → n ≡ min (min self.old.piece (length into.new)) (length self.old.left) }
-        ensures calls { self.new.calls ≡ next_count self.old.calls }
-        ensures rest { self.new
-            ≡ record self.old { left = self.new.left; calls = self.new.calls; faults = self.new.faults } }
+        ensures step { SourceGives self.old result into.new self.new }
     {
         if self.calls.next_fails(self.fails) {
             return Got::Failed;
@@ -142,16 +139,12 @@ impl<'a> Sink for MemSink<'a> {
 
     ghost faults = { λ sink. sink.faults };
 
+    ghost writes = { SinkTakes };
+
     fn write(&mut self, piece: &[u8]) -> Put
         requires { 0 < length piece.now }
         ensures written { Written result (Some self.old.held) piece.now (Some self.new.held) }
-        ensures faults { CountsOneFault (result ≡ Put.Failed) self.old.faults self.new.faults }
-        ensures failed { (result ≡ Put.Failed)
-            ↔ (Contains self.old.fails self.old.calls ⊎ (self.old.size < length self.old.held + length piece.now)) }
-        ensures nothing { result ≡ Put.Failed → self.new.held ≡ self.old.held }
-        ensures calls { self.new.calls ≡ next_count self.old.calls }
-        ensures rest { self.new
-            ≡ record self.old { held = self.new.held; calls = self.new.calls; faults = self.new.faults } }
+        ensures step { SinkTakes self.old piece.now result self.new }
     {
         let is_refused = piece.len() > self.room.len() - self.written;
         if self.calls.next_fails_or(self.fails, is_refused) {

@@ -4,7 +4,7 @@ ghost use Rattle.std.specs.declared.option.Option.TheVariants.{None};
 ghost use Rattle.std.specs.Io.KnownBytes.{Appends, Keeps};
 ghost use Rattle.af_io.specs.Observed.{CountsOneFault};
 ghost use Rattle.af_io.specs.Flow.{GotFits};
-ghost use Rattle.af_io.specs.Real.{ReadsOn, WritesOn};
+ghost use Rattle.af_io.specs.Real.{SourceReads, SinkWrites, ReadsOn, WritesOn};
 
 use crate::faults::faults_after;
 use crate::{Got, Put, Reason, Sink, Source};
@@ -54,11 +54,12 @@ impl<R: Read + Drop> Source for StdSource<R> {
 
     ghost faults = { λ source. source.faults };
 
+    ghost reads = { SourceReads };
+
     fn read(&mut self, into: &mut [u8]) -> Got
         requires { 0 < length into.old }
         ensures bound { GotFits result (length into.new) None }
-        ensures faults { CountsOneFault (result ≡ Got.Failed) self.old.faults self.new.faults }
-        ensures reads { ReadsOn result self.old.remaining into.new self.new.remaining }
+        ensures step { SourceReads self.old result into.new self.new }
     {
         let got = read_some(&mut self.reader, into, &mut self.reason);
         self.faults = faults_after(self.faults, got == Got::Failed);
@@ -106,10 +107,11 @@ impl<W: Write + Drop> Sink for StdSink<W> {
 
     ghost faults = { λ sink. sink.faults };
 
+    ghost writes = { SinkWrites };
+
     fn write(&mut self, piece: &[u8]) -> Put
         requires { 0 < length piece.now }
-        ensures faults { CountsOneFault (result ≡ Put.Failed) self.old.faults self.new.faults }
-        ensures writes { WritesOn result self.old.contents piece.now self.new.contents }
+        ensures step { SinkWrites self.old piece.now result self.new }
     {
         let put = write_whole(&mut self.writer, piece, &mut self.reason);
         self.faults = faults_after(self.faults, put == Put::Failed);

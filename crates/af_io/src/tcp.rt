@@ -4,8 +4,8 @@ ghost use Rattle.std.specs.declared.option.Option.TheVariants.{None};
 ghost use Rattle.af_limits.specs.Limits.{longest_address};
 ghost use Rattle.af_io.specs.Observed.{Consumed, Appended, CountsOneFault, next_count};
 ghost use Rattle.af_io.specs.Flow.{given_of, GotFits, Written};
-ghost use Rattle.af_io.specs.Real.{ReadsOn, WritesOn};
-ghost use Rattle.af_io.specs.Dial.{CountsHurt, GivesNext, AppendedBack, IsUnhurt};
+ghost use Rattle.af_io.specs.Real.{LinkReads, LinkWrites};
+ghost use Rattle.af_io.specs.Dial.{CountsDial, CountsHurt, GivesNext, AppendedBack, IsUnhurt, hurt_after};
 
 use crate::dial::DialCounts;
 use crate::faults::faults_after;
@@ -48,11 +48,14 @@ impl<S: Read + Write + Drop> Link for TcpLink<S> {
 
     ghost faults = { λ link. link.faults };
 
+    ghost reads = { LinkReads };
+
+    ghost writes = { LinkWrites };
+
     fn read(&mut self, into: &mut [u8]) -> Got
         requires { 0 < length into.old }
         ensures bound { GotFits result (length into.new) None }
-        ensures reads { ReadsOn result self.old.remaining into.new self.new.remaining }
-        ensures faults { CountsOneFault (result ≡ Got.Failed) self.old.faults self.new.faults }
+        ensures step { LinkReads self.old result into.new self.new }
     {
         let got = read_some(&mut self.stream, into, &mut self.reason);
         self.faults = faults_after(self.faults, got == Got::Failed);
@@ -61,8 +64,7 @@ impl<S: Read + Write + Drop> Link for TcpLink<S> {
 
     fn write(&mut self, piece: &[u8]) -> Put
         requires { 0 < length piece.now }
-        ensures writes { WritesOn result self.old.contents piece.now self.new.contents }
-        ensures faults { CountsOneFault (result ≡ Put.Failed) self.old.faults self.new.faults }
+        ensures step { LinkWrites self.old piece.now result self.new }
     {
         let put = write_whole(&mut self.stream, piece, &mut self.reason);
         self.faults = faults_after(self.faults, put == Put::Failed);
@@ -118,11 +120,14 @@ impl<R: Net + Drop> Dial for TcpDial<R> {
 
     ghost links = { λ _. None };
 
+    ghost dials = { λ before _ answer after. CountsDial answer before after };
+
+    ghost hangs_up = { λ before far after. after ≡ record before { hurt = hurt_after far.faults before.hurt } };
+
     fn dial(&mut self, address: &str) -> Dialed<TcpLink<R::Stream>>
         requires { (1 ≤ length address.now) × (length address.now ≤ longest_address) }
-        ensures faults { CountsOneFault (result ≡ Dialed.Failed) self.old.faults self.new.faults }
+        ensures step { CountsDial result self.old self.new }
         ensures fresh { IsUnhurt (λ link. link.faults) result }
-        ensures hurt { self.new.hurt ≡ self.old.hurt }
     {
         match TcpStream::connect(&self.rt, address) {
             Ok(stream) => {
@@ -145,8 +150,8 @@ impl<R: Net + Drop> Dial for TcpDial<R> {
     }
 
     fn hang_up(&mut self, far: TcpLink<R::Stream>)
-        ensures count { self.new.faults ≡ self.old.faults }
         ensures hurt { CountsHurt far.faults self.old.hurt self.new.hurt }
+        ensures step { self.new ≡ record self.old { hurt = hurt_after far.faults self.old.hurt } }
     {
         self.counts.count_hurt(far.faults);
     }

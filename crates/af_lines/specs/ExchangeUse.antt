@@ -10,7 +10,8 @@ use Rattle.af_exchange.specs.Lines.{hook_text}
 use Rattle.af_exchange.specs.Ledger.{ledger_of, Notes}
 use Rattle.af_exchange.specs.Told.{IsTold, IsDrained}
 use Rattle.af_exchange.specs.Dialogue.{DialogueState, new_dialogue, is_open, is_over}
-use Rattle.af_exchange.specs.Exchange.{ExchangeState, lines_of, order_at, tried_after, hook_answer}
+use Rattle.af_exchange.specs.Exchange.{ExchangeState, lines_of, order_at, tried_after}
+use Rattle.af_exchange.specs.Hook.{CallsHook}
 
 -- the acts of its program, if they are observable; what stands between it and its line; and the command line of each start
 pub record ExchangeUse : Type 0 where
@@ -72,9 +73,10 @@ pub record AsksExchange (at : ℕ) (change : Option LineChange) (before after : 
   pub told : IsToldUse after
   pub same : KeepsOrders before after
 
--- Its hook is taken off, or put on. It fails exactly if no program runs that takes lines, and no start is left.
+-- Its hook is taken off, or put on. A program that takes the call is offered its line, and goes on as it answers. It fails
+-- exactly if no program takes lines, and no start is left.
 pub record CallsExchange (off : Bool) (answer : Put) (before after : ExchangeUse) : Type 0 where
-  pub answers : answer ≡ hook_answer after.dialogue
+  pub calls : CallsHook off answer before.dialogue after.dialogue before.acts after.acts
   pub notes : Notes [] (hook_text off ∷ []) [] before.acts after.acts
   pub hook : after.dialogue.off ≡ off
   pub starts : after.dialogue.starts ≡ before.dialogue.starts

@@ -12,6 +12,7 @@ use Rattle.af_backend.specs.declared.source.Source.TheVariants as source
 use Rattle.af_backend.specs.Rounds.{RoundState, source_at, source_in, due_of, some_source_after, SourcesRead, RoundTicks, next_round}
 use Rattle.af_backend.specs.Backends.{BackendState}
 use Rattle.af_live.specs.declared.link_table.LinkEntry.{LinkEntry}
+use Rattle.af_live.specs.Readings.{ClockState}
 use Rattle.af_live.specs.RealWorld.{GivesKept, PassesAll, LeadsRound, LosesNoFrame, frames_ticked_by}
 
 -- what a pace gives at one reading, and what stays due at another
@@ -57,9 +58,9 @@ quiet_keeps nanos from to old new asked d t none =
     (cases_lt d to))
     (cases_lt d from)
 
-passes_keeps : (old past : RoundState) (backends backends' : List (Option BackendState)) → PassesAll old backends past backends' →
+passes_keeps : (clock clock' : ClockState) (old past : RoundState) (backends backends' : List (Option BackendState)) → PassesAll clock old backends clock' past backends' →
     (d t : ℕ) → due_of t (source_at old d) ≤ due_of t (source_at past d)
-passes_keeps old past backends backends' h d t =
+passes_keeps clock clock' old past backends backends' h d t =
     quiet_keeps h.0 old.next past.next old.sources past.sources h.2.0.read d t (h.2.0.none d)
 
 frames_of : (d n e : ℕ) → e ≡ d → frames_ticked_by (Some (wake.Ticked d n)) e ≡ n
@@ -74,18 +75,18 @@ tick_keeps nanos d n old new r e t =
     (cases_eq e d)
 
 -- a wait that does not tick loses no frame
-begins_keeps : (w : Wake) (links links' : List (Option LinkEntry)) (old new : RoundState) (backends backends' : List (Option BackendState)) →
-    (GivesKept (Some w) links old links' new × (backends' ≡ backends)) ⊎ ((past : RoundState) × PassesAll old backends past backends' × (new ≡ next_round past)) →
+begins_keeps : (w : Wake) (links links' : List (Option LinkEntry)) (clock clock' : ClockState) (old new : RoundState) (backends backends' : List (Option BackendState)) →
+    (GivesKept (Some w) links old links' new × (backends' ≡ backends) × (clock' ≡ clock)) ⊎ ((past : RoundState) × PassesAll clock old backends clock' past backends' × (new ≡ next_round past)) →
     (d t : ℕ) → due_of t (source_at old d) ≤ due_of t (source_at new d)
-begins_keeps w links links' old new backends backends' h d t =
+begins_keeps w links links' clock clock' old new backends backends' h d t =
     ⊎_elim (λ still. omega (arith, ap (λ (r : RoundState). due_of t (source_at r d)) still.0.1))
-    (λ on. omega (arith, passes_keeps old on.0 backends backends' on.1 d t, ap (λ (r : RoundState). due_of t (source_at r d)) on.2))
+    (λ on. omega (arith, passes_keeps clock clock' old on.0 backends backends' on.1 d t, ap (λ (r : RoundState). due_of t (source_at r d)) on.2))
     h
 
-pub waits_lose_none : (w : Option Wake) (links links' : List (Option LinkEntry)) (old new : RoundState) (backends backends' : List (Option BackendState)) →
-    LeadsRound w links old backends links' new backends' → LosesNoFrame w old new
-waits_lose_none None links links' old new backends backends' h = λ d t.
-    ⊎_elim (λ still. omega (arith, ap (λ (r : RoundState). due_of t (source_at r d)) still.0)) (λ passed. omega (arith, passes_keeps old new backends backends' passed d t)) h
-waits_lose_none (Some (wake.Ticked d n)) links links' old new backends backends' h = λ e t. tick_keeps h.0 d n old new h.2 e t
-waits_lose_none (Some (wake.Line d change)) links links' old new backends backends' h = λ e t. omega (arith, passes_keeps old new backends backends' h e t)
-waits_lose_none (Some w) links links' old new backends backends' h = λ d t. omega (arith, begins_keeps w links links' old new backends backends' h d t)
+pub waits_lose_none : (w : Option Wake) (links links' : List (Option LinkEntry)) (clock clock' : ClockState) (old new : RoundState) (backends backends' : List (Option BackendState)) →
+    LeadsRound w links clock old backends links' clock' new backends' → LosesNoFrame w old new
+waits_lose_none None links links' clock clock' old new backends backends' h = λ d t.
+    ⊎_elim (λ still. omega (arith, ap (λ (r : RoundState). due_of t (source_at r d)) still.0)) (λ passed. omega (arith, passes_keeps clock clock' old new backends backends' passed d t)) h
+waits_lose_none (Some (wake.Ticked d n)) links links' clock clock' old new backends backends' h = λ e t. tick_keeps h.0 d n old new h.2 e t
+waits_lose_none (Some (wake.Line d change)) links links' clock clock' old new backends backends' h = λ e t. omega (arith, passes_keeps clock clock' old new backends backends' h e t)
+waits_lose_none (Some w) links links' clock clock' old new backends backends' h = λ d t. omega (arith, begins_keeps w links links' clock clock' old new backends backends' h d t)

@@ -1,37 +1,39 @@
 -- What a wait gives: what was kept ready, or what a poll finds if nothing was.
-use Rattle.std.proofs.Common.{◌≡◌, inl, inr, ℕ, ◌<◌, true, List, length, refl, sym, subst, ◌∙◌, arith, IfSome, MatchOption}
+use Rattle.std.proofs.Common.{◌≡◌, inl, inr, ap, ℕ, ◌<◌, true, List, length, refl, sym, subst, ◌∙◌, arith, IfSome, MatchOption}
 use Rattle.std.proofs.lemmas.Bool.{false≢true}
 use Rattle.std.specs.declared.option.Option.{Option}
 use Rattle.std.specs.declared.option.Option.TheVariants.{None, Some}
 use Rattle.af_limits.specs.Limits.{most_links}
+use Rattle.mio.specs.declared.event.event.Event.{Event}
 use Rattle.af_world.specs.declared.happening.Wake.{Wake}
 use Rattle.af_world.specs.declared.happening.Wake.TheVariants as wake
-use Rattle.af_backend.specs.Rounds.{RoundState}
+use Rattle.af_backend.specs.Rounds.{RoundState, next_round}
 use Rattle.af_backend.specs.Backends.{BackendState}
 use Rattle.af_live.specs.declared.link_table.LinkEntry.{LinkEntry}
 use Rattle.af_live.specs.LinkTable.{link_at, something_ready, GivesFirst, LinkWakeFits}
 use Rattle.af_live.specs.Polls.{LeadsLinks, PolledGives}
 use Rattle.af_lines.specs.HeldLines.{LinesState, lines_at_round_start}
+use Rattle.af_live.specs.Readings.{ClockState}
 use Rattle.af_live.specs.RealWorld.{LeadsRound, LeadsLines, PassesLines}
 
-pub kept_links : (w : Wake) (old new : List (Option LinkEntry)) → LinkWakeFits old w → GivesFirst old (Some w) new → LeadsLinks (Some w) old new
-kept_links (wake.Opened k) old new fits h = inl h
-kept_links (wake.Readable k) old new fits h = inl h
-kept_links (wake.Writable k) old new fits h = inl h
-kept_links wake.Idle old new fits h = inl h
-kept_links (wake.Ticked d n) old new fits h = absurd fits
-kept_links (wake.Line d change) old new fits h = absurd fits
-kept_links wake.Stop old new fits h = absurd fits
+pub kept_links : (events : List Event) (w : Wake) (old new : List (Option LinkEntry)) → LinkWakeFits old w → GivesFirst old (Some w) new → LeadsLinks events (Some w) old new
+kept_links events (wake.Opened k) old new fits h = inl h
+kept_links events (wake.Readable k) old new fits h = inl h
+kept_links events (wake.Writable k) old new fits h = inl h
+kept_links events wake.Idle old new fits h = inl h
+kept_links events (wake.Ticked d n) old new fits h = absurd fits
+kept_links events (wake.Line d change) old new fits h = absurd fits
+kept_links events wake.Stop old new fits h = absurd fits
 
-pub kept_round : (w : Wake) (old new : List (Option LinkEntry)) (round : RoundState) (backends : List (Option BackendState)) →
-    LinkWakeFits old w → GivesFirst old (Some w) new → LeadsRound (Some w) old round backends new round backends
-kept_round (wake.Opened k) old new round backends fits h = inl ((h, refl), refl)
-kept_round (wake.Readable k) old new round backends fits h = inl ((h, refl), refl)
-kept_round (wake.Writable k) old new round backends fits h = inl ((h, refl), refl)
-kept_round wake.Idle old new round backends fits h = inl ((h, refl), refl)
-kept_round (wake.Ticked d n) old new round backends fits h = absurd fits
-kept_round (wake.Line d change) old new round backends fits h = absurd fits
-kept_round wake.Stop old new round backends fits h = absurd fits
+pub kept_round : (w : Wake) (old new : List (Option LinkEntry)) (clock : ClockState) (round : RoundState) (backends : List (Option BackendState)) →
+    LinkWakeFits old w → GivesFirst old (Some w) new → LeadsRound (Some w) old clock round backends new clock round backends
+kept_round (wake.Opened k) old new clock round backends fits h = inl ((h, refl), refl, refl)
+kept_round (wake.Readable k) old new clock round backends fits h = inl ((h, refl), refl, refl)
+kept_round (wake.Writable k) old new clock round backends fits h = inl ((h, refl), refl, refl)
+kept_round wake.Idle old new clock round backends fits h = inl ((h, refl), refl, refl)
+kept_round (wake.Ticked d n) old new clock round backends fits h = absurd fits
+kept_round (wake.Line d change) old new clock round backends fits h = absurd fits
+kept_round wake.Stop old new clock round backends fits h = absurd fits
 
 pub kept_lines : (w : Wake) (old new : List (Option LinkEntry)) (round : RoundState) (lines : LinesState) →
     LinkWakeFits old w → GivesFirst old (Some w) new → LeadsLines (Some w) old round lines new round lines
@@ -48,22 +50,22 @@ pub nothing_kept : (links new : List (Option LinkEntry)) → length links ≡ mo
     (k : ℕ) → k < most_links → something_ready (link_at links k) ≡ true → ⊥
 nothing_kept links new count h k below ready = false≢true (sym (h.0 k (omega (arith, count))) ∙ ready)
 
-pub polled_links : (o : Option Wake) (links now new : List (Option LinkEntry)) → GivesFirst links None now → IfSome o (λ w. LinkWakeFits now w) →
-    MatchOption o (new ≡ now) (λ w. PolledGives w now new) → LeadsLinks o links new
-polled_links None links now new h fits polled = polled ∙ h.1
-polled_links (Some (wake.Opened k)) links now new h fits polled = inr ((h.0, refl), subst (λ x. PolledGives (wake.Opened k) x new) h.1 polled)
-polled_links (Some (wake.Readable k)) links now new h fits polled = inr ((h.0, refl), subst (λ x. PolledGives (wake.Readable k) x new) h.1 polled)
-polled_links (Some (wake.Writable k)) links now new h fits polled = inr ((h.0, refl), subst (λ x. PolledGives (wake.Writable k) x new) h.1 polled)
-polled_links (Some wake.Idle) links now new h fits polled = inr ((h.0, refl), subst (λ x. PolledGives wake.Idle x new) h.1 polled)
-polled_links (Some (wake.Ticked d n)) links now new h fits polled = absurd fits
-polled_links (Some (wake.Line d change)) links now new h fits polled = absurd fits
-polled_links (Some wake.Stop) links now new h fits polled = absurd fits
+pub polled_links : (events : List Event) (o : Option Wake) (links now new : List (Option LinkEntry)) → GivesFirst links None now → IfSome o (λ w. LinkWakeFits now w) →
+    MatchOption o (new ≡ now) (λ w. PolledGives events w now new) → LeadsLinks events o links new
+polled_links events None links now new h fits polled = polled ∙ h.1
+polled_links events (Some (wake.Opened k)) links now new h fits polled = inr ((h.0, refl), subst (λ x. PolledGives events (wake.Opened k) x new) h.1 polled)
+polled_links events (Some (wake.Readable k)) links now new h fits polled = inr ((h.0, refl), subst (λ x. PolledGives events (wake.Readable k) x new) h.1 polled)
+polled_links events (Some (wake.Writable k)) links now new h fits polled = inr ((h.0, refl), subst (λ x. PolledGives events (wake.Writable k) x new) h.1 polled)
+polled_links events (Some wake.Idle) links now new h fits polled = inr ((h.0, refl), subst (λ x. PolledGives events wake.Idle x new) h.1 polled)
+polled_links events (Some (wake.Ticked d n)) links now new h fits polled = absurd fits
+polled_links events (Some (wake.Line d change)) links now new h fits polled = absurd fits
+polled_links events (Some wake.Stop) links now new h fits polled = absurd fits
 
 -- a poll comes after the last line, and a new round begins after it
 pub polled_lines : (o : Option Wake) (now links' : List (Option LinkEntry)) (links : List (Option LinkEntry)) (round round' : RoundState) (lines past lines' : LinesState) →
-    IfSome o (λ w. LinkWakeFits now w) → PassesLines round lines past → MatchOption o (lines' ≡ past) (λ w. lines' ≡ lines_at_round_start past) →
+    IfSome o (λ w. LinkWakeFits now w) → PassesLines round' lines past → MatchOption o (lines' ≡ past) (λ w. lines' ≡ lines_at_round_start past) →
     LeadsLines o links round lines links' round' lines'
-polled_lines None now links' links round round' lines past lines' fits passes is = inr (subst (λ l. PassesLines round lines l) (sym is) passes)
+polled_lines None now links' links round round' lines past lines' fits passes is = inr (subst (λ l. PassesLines round' lines l) (sym is) passes)
 polled_lines (Some (wake.Opened k)) now links' links round round' lines past lines' fits passes is = inr (past, passes, is)
 polled_lines (Some (wake.Readable k)) now links' links round round' lines past lines' fits passes is = inr (past, passes, is)
 polled_lines (Some (wake.Writable k)) now links' links round round' lines past lines' fits passes is = inr (past, passes, is)
@@ -71,3 +73,9 @@ polled_lines (Some wake.Idle) now links' links round round' lines past lines' fi
 polled_lines (Some (wake.Ticked d n)) now links' links round round' lines past lines' fits passes is = absurd fits
 polled_lines (Some (wake.Line d change)) now links' links round round' lines past lines' fits passes is = absurd fits
 polled_lines (Some wake.Stop) now links' links round round' lines past lines' fits passes is = absurd fits
+
+-- the last reading of a round stays as a new round begins
+pub last_stays : (o : Option Wake) (past new : RoundState) (nanos : ℕ) → MatchOption o (new ≡ past) (λ w. new ≡ next_round past) →
+    past.last ≡ Some nanos → new.last ≡ Some nanos
+last_stays None past new nanos is last = ap (λ (r : RoundState). r.last) is ∙ last
+last_stays (Some w) past new nanos is last = ap (λ (r : RoundState). r.last) is ∙ last

@@ -1,5 +1,7 @@
 pub mod LinkTable
 pub mod Polls
+pub mod Timer
 pub mod Readings
 pub mod RealWorld
+pub mod RealCalls
 pub mod Counting

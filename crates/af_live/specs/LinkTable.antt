@@ -95,10 +95,6 @@ GivesFirst old (Some w) new = GivesOf old (link_of_wake w) w new
 abbrev pub new_link : ℕ → LinkEntry
 new_link key = record { key = key; opened = true; readable = false; writable = false; drained = false; hides = false }
 
--- a new link is held under the least number that is free, or none is
-abbrev pub TakesIn : List (Option LinkEntry) → List (Option LinkEntry) → Type 0
-TakesIn old new = (new ≡ old) ⊎ ((n : ℕ) × (key : ℕ) × IsLeastFree old (Some n) × (new ≡ slice_set old n (Some (new_link key))))
-
 -- What an event says of a link is noted: it may be read or written from now on, or may hide more. If it may be read, it is no
 -- longer drained. Whether its opening was given stays.
 abbrev pub with_readiness : Readiness → Option LinkEntry → Option LinkEntry
@@ -137,7 +133,7 @@ Opens _ old new = KeepsOpen old new
 abbrev pub ClosesOne : ℕ → List (Option LinkEntry) → List (Option LinkEntry) → Type 0
 ClosesOne k old new = new ≡ slice_set old k free_entry
 
--- After a read that gave nothing so far, a link may be ready for another at once. Nothing else changes.
+-- a link is ready to be read at once; nothing else changes
 abbrev pub to_read : Option LinkEntry → Option LinkEntry
 to_read None = None
 to_read (Some link) = Some (record link { readable = true })
@@ -161,12 +157,18 @@ may_hide (Some link) = link.hides
 abbrev pub has_drained : ℕ → ℕ → Option LinkEntry → Bool
 has_drained n room link = nat_lt n room && not (may_hide link)
 
--- what a read into so much room does to the links
+-- a read of this link was interrupted and is to be made again: the link stays ready
+abbrev pub StaysReady : ℕ → List (Option LinkEntry) → List (Option LinkEntry) → Type 0
+StaysReady k old new = new ≡ slice_set old k (to_read (link_at old k))
+
+-- What a read into so much room does to the links. If it gave nothing so far, they stay as they are, unless it was interrupted.
+-- That never happens to a link that is drained, since the system is not asked then.
 abbrev pub AfterRead : ℕ → ℕ → LinkGot → List (Option LinkEntry) → List (Option LinkEntry) → Type 0
 AfterRead k room (got.Bytes n) old new =
     new ≡ (if has_drained n room (link_at old k) then slice_set old k (to_drain (link_at old k)) else old)
-AfterRead k room got.NotYet old new = (new ≡ old) ⊎ (new ≡ slice_set old k (to_read (link_at old k)))
-AfterRead k room _ old new = new ≡ old
+AfterRead k room got.NotYet old new = (new ≡ old) ⊎ ((is_drained (link_at old k) ≡ false) × StaysReady k old new)
+AfterRead k room got.Ended old new = new ≡ old
+AfterRead k room got.Failed old new = new ≡ old
 
 -- After a write that took nothing, a link may be ready for another at once. Nothing else changes.
 abbrev pub to_write : Option LinkEntry → Option LinkEntry

@@ -1,18 +1,60 @@
--- The times that a wait goes by: the reading of a round, and how long a poll waits.
-use Rattle.std.specs.Prelude.{◌≡◌, ℕ, ◌-◌, ◌%◌, ◌||◌, Bool, if◌then◌else◌, Option, Some, None}
-use Rattle.af_backend.specs.Rounds.{reading_after}
+-- The times that a wait goes by: what the clock shows, the reading of a round, and how long a poll waits.
+use Rattle.std.specs.Prelude.{◌≡◌, ◌⊎◌, ℕ, ◌-◌, ◌≤◌, ◌<◌, nat_le, ◌||◌, Bool, false, if◌then◌else◌, Option, Some, None}
+use Rattle.af_backend.specs.Rounds.{longest_step, reading_after}
+use Rattle.af_live.specs.declared.waking.Step.{Step}
+use Rattle.af_live.specs.Polls.{LatestPoll}
+use Rattle.af_live.specs.Timer.{TimerState, no_answers, whole_millis, AsksOnce}
 
--- what a clock shows, in nanoseconds, rounded down to whole milliseconds
-abbrev pub whole_millis : ℕ → ℕ
-whole_millis nanos = nanos - nanos % 1000000
+-- the clock of a world, and the last step of its readings
+pub record ClockState : Type 0 where
+  pub timer : TimerState
+  pub step : Step
 
--- A round has one reading: what the clock showed as it came to its first device, rounded down, but at most 20 milliseconds after
--- the reading of the round before. It keeps to that one.
-abbrev pub IsReadingBy : Option ℕ → Option ℕ → ℕ → Type 0
-IsReadingBy None last nanos = (shown : ℕ) × (nanos ≡ reading_after last (whole_millis shown))
-IsReadingBy (Some taken) last nanos = nanos ≡ taken
+abbrev pub new_clock : ClockState
+new_clock = record { timer = no_answers; step = record { shown = 0; is_late = false } }
+
+-- The clock is asked once, and no step is made.
+abbrev pub AsksClock : ClockState → ClockState → Type 0
+AsksClock old new = (answer : Option ℕ) × AsksOnce old.timer answer new.timer × (new.step ≡ old.step)
+
+-- a step from what the clock showed to this reading: the server is late if the clock is further ahead by as much
+abbrev pub step_to : ℕ → ℕ → Step
+step_to shown nanos = record { shown = shown; is_late = nat_le longest_step (shown - nanos) }
+
+-- A step of the readings, by what the clock shows: to that, in whole milliseconds; or, if the clock is further ahead, to 20
+-- milliseconds after the reading before.
+abbrev pub TakesStep : Option ℕ → ℕ → ℕ → Step → Type 0
+TakesStep last shown nanos new = (nanos ≡ reading_after last (whole_millis shown)) × (new ≡ step_to shown nanos)
+
+-- for how many nanoseconds a server that catches up stays at a reading
+abbrev pub catching_up_pause : ℕ
+catching_up_pause = 500000
+
+-- A server that catches up serves its clients for half a millisecond after each step. Rounds share the reading before.
+abbrev pub SharesReading : Option ℕ → ℕ → Step → ℕ → Step → Type 0
+SharesReading last shown old nanos new = (last ≡ Some nanos)
+    × (longest_step ≤ shown - reading_after last (whole_millis shown)) × (shown - old.shown < catching_up_pause) × (new ≡ old)
+
+-- A round has one reading. Its first call asks the clock for it. A later call keeps to that one, and asks nothing.
+abbrev pub IsReadingBy : Option ℕ → Option ℕ → ClockState → ℕ → ClockState → Type 0
+IsReadingBy None last old nanos new = (shown : ℕ) × AsksOnce old.timer (Some shown) new.timer
+    × (TakesStep last shown nanos new.step ⊎ SharesReading last shown old.step nanos new.step)
+IsReadingBy (Some taken) last old nanos new = (nanos ≡ taken) × (new ≡ old)
+
+-- a round has a reading, or the clock gave no answer
+abbrev pub ReadsBy : Option ℕ → Option ℕ → ClockState → Option ℕ → ClockState → Type 0
+ReadsBy taken last old None new = AsksOnce old.timer None new.timer × (new.step ≡ old.step)
+ReadsBy taken last old (Some nanos) new = IsReadingBy taken last old nanos new
+
+-- no reading was taken: the clock was not asked, or gave no answer
+abbrev pub TakesNoReading : ClockState → ClockState → Type 0
+TakesNoReading old new = (new ≡ old) ⊎ (AsksOnce old.timer None new.timer × (new.step ≡ old.step))
 
 -- How many nanoseconds a poll waits at most. It does not wait if there is more to do, if a device ticked or a line changed in the
 -- round, or if the server is a whole step late.
 abbrev pub pause_of : Bool → Bool → Bool → ℕ
 pause_of more went_on is_late = if more || went_on || is_late then 0 else 10000000
+
+-- The poll of a wait, if it polls, waits for such a pause at most: 10 milliseconds, or not at all.
+abbrev pub PausesBy : Bool → Bool → LatestPoll → LatestPoll → Type 0
+PausesBy more is_late old new = (new ≡ old) ⊎ ((went_on : Bool) × (new.pause ≡ pause_of more went_on is_late))

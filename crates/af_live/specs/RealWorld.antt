@@ -14,19 +14,22 @@ use Rattle.af_world.specs.declared.live.Waited.{Waited}
 use Rattle.af_world.specs.declared.live.Waited.TheVariants as answer
 use Rattle.af_live.specs.declared.link_table.LinkEntry.{LinkEntry}
 use Rattle.af_live.specs.LinkTable.{free_entry, LinkWakeFits, GivesFirst}
+use Rattle.af_live.specs.Polls.{LatestPoll, no_poll}
 use Rattle.af_backend.specs.Backends.{BackendState, none_attached, all_without_bytes}
 use Rattle.af_backend.specs.CodecUse.{CodecUse, begun_codec}
 use Rattle.af_phone.specs.Lines.{is_change}
 use Rattle.af_lines.specs.HeldLines.{LinesState, no_lines, line_at, has_exchange, lines_at_round_start, all_line_orders, GoesOverLines}
-use Rattle.af_live.specs.Readings.{IsReadingBy}
+use Rattle.af_live.specs.Readings.{ClockState, new_clock, IsReadingBy, TakesNoReading}
 use Rattle.af_backend.specs.Rounds.{RoundState, new_round, source_at, is_attached, next_round, due_of, GoesOn}
 use Rattle.af_backend.specs.Asked.{GoesOver}
 
--- Whether it listens; the links that it holds; the backend of each attached device; its codec; its round over the devices; their
--- telephone lines; and how often each kind of call has failed.
+-- Whether it listens; the links that it holds; its latest poll; its clock; the backend of each attached device; its codec; its
+-- round over the devices; their telephone lines; and how often each kind of call has failed.
 pub record RealState : Type 0 where
   pub listens : Bool
   pub links : List (Option LinkEntry)
+  pub poll : LatestPoll
+  pub clock : ClockState
   pub backends : List (Option BackendState)
   pub codec : CodecUse
   pub round : RoundState
@@ -42,6 +45,8 @@ begun_world acts =
     record {
       listens = false;
       links = replicate most_links free_entry;
+      poll = no_poll;
+      clock = new_clock;
       backends = none_attached;
       codec = begun_codec acts;
       round = new_round;
@@ -104,43 +109,45 @@ GivesKept None links round links' round' = ⊥
 GivesKept (Some w) links round links' round' = GivesFirst links (Some w) links' × (round' ≡ round)
 
 -- Each device that the round has left is asked at its one reading, and none has a frame due.
-abbrev pub PassesAll : RoundState → List (Option BackendState) → RoundState → List (Option BackendState) → Type 0
-PassesAll old backends past backends' =
-    (nanos : ℕ) × IsReadingBy old.reading old.last nanos × GoesOn nanos old None past
+abbrev pub PassesAll : ClockState → RoundState → List (Option BackendState) → ClockState → RoundState →
+    List (Option BackendState) → Type 0
+PassesAll clock old backends clock' past backends' =
+    (nanos : ℕ) × IsReadingBy old.reading old.last clock nanos clock' × GoesOn nanos old None past
     × GoesOver nanos old None past backends backends'
 
 -- A tick is that of the next device of the round with frames due, at the one reading of the round: by the system's clock, or by
 -- its program. A line changes once the round has left the last device. Any other wake was kept ready, and the round and the
 -- devices stay as they are; or it comes after the last device, when none has a frame due, and a new round begins. A wait that
 -- failed begins none.
-abbrev pub LeadsRound : Option Wake → List (Option LinkEntry) → RoundState → List (Option BackendState) →
-    List (Option LinkEntry) → RoundState → List (Option BackendState) → Type 0
-LeadsRound None links old backends links' new backends' = ((new ≡ old) × (backends' ≡ backends))
-    ⊎ PassesAll old backends new backends'
-LeadsRound (Some (wake.Ticked d n)) links old backends links' new backends' =
-    (nanos : ℕ) × IsReadingBy old.reading old.last nanos × GoesOn nanos old (Some (d, n)) new
+abbrev pub LeadsRound : Option Wake → List (Option LinkEntry) → ClockState → RoundState → List (Option BackendState) →
+    List (Option LinkEntry) → ClockState → RoundState → List (Option BackendState) → Type 0
+LeadsRound None links clock old backends links' clock' new backends' =
+    ((new ≡ old) × (backends' ≡ backends) × TakesNoReading clock clock') ⊎ PassesAll clock old backends clock' new backends'
+LeadsRound (Some (wake.Ticked d n)) links clock old backends links' clock' new backends' =
+    (nanos : ℕ) × IsReadingBy old.reading old.last clock nanos clock' × GoesOn nanos old (Some (d, n)) new
     × GoesOver nanos old (Some (d, n)) new backends backends'
-LeadsRound (Some (wake.Line d change)) links old backends links' new backends' = PassesAll old backends new backends'
-LeadsRound (Some w) links old backends links' new backends' =
-    (GivesKept (Some w) links old links' new × (backends' ≡ backends))
-    ⊎ ((past : RoundState) × PassesAll old backends past backends' × (new ≡ next_round past))
+LeadsRound (Some (wake.Line d change)) links clock old backends links' clock' new backends' =
+    PassesAll clock old backends clock' new backends'
+LeadsRound (Some w) links clock old backends links' clock' new backends' =
+    (GivesKept (Some w) links old links' new × (backends' ≡ backends) × (clock' ≡ clock))
+    ⊎ ((past : RoundState) × PassesAll clock old backends clock' past backends' × (new ≡ next_round past))
 
--- Each line that the round has left is asked at its one reading, and none changes.
+-- Each line that the round has left is asked at its one reading, by which it left the last device, and none changes.
 abbrev pub PassesLines : RoundState → LinesState → LinesState → Type 0
-PassesLines old lines lines' = (nanos : ℕ) × IsReadingBy old.reading old.last nanos × GoesOverLines nanos lines None lines'
+PassesLines round lines lines' = (nanos : ℕ) × (round.last ≡ Some nanos) × GoesOverLines nanos lines None lines'
 
 -- A change is that of the next line of the round whose program gave one, at the one reading of the round. A tick leaves the lines
 -- as they are. Any other wake was kept ready, and they stay as they are; or each line that the round has left is asked, none
 -- changes, and a new round begins. A wait that failed begins none.
 abbrev pub LeadsLines : Option Wake → List (Option LinkEntry) → RoundState → LinesState → List (Option LinkEntry) → RoundState →
     LinesState → Type 0
-LeadsLines None links old lines links' new lines' = (lines' ≡ lines) ⊎ PassesLines old lines lines'
+LeadsLines None links old lines links' new lines' = (lines' ≡ lines) ⊎ PassesLines new lines lines'
 LeadsLines (Some (wake.Ticked d n)) links old lines links' new lines' = lines' ≡ lines
 LeadsLines (Some (wake.Line d change)) links old lines links' new lines' =
-    (nanos : ℕ) × IsReadingBy old.reading old.last nanos × GoesOverLines nanos lines (Some (d, change)) lines'
+    (nanos : ℕ) × (new.last ≡ Some nanos) × GoesOverLines nanos lines (Some (d, change)) lines'
 LeadsLines (Some w) links old lines links' new lines' =
     (GivesKept (Some w) links old links' new × (lines' ≡ lines))
-    ⊎ ((past : LinesState) × PassesLines old lines past × (lines' ≡ lines_at_round_start past))
+    ⊎ ((past : LinesState) × PassesLines new lines past × (lines' ≡ lines_at_round_start past))
 
 -- how many frames a wait gave for a device
 abbrev pub frames_ticked_by : Option Wake → ℕ → ℕ

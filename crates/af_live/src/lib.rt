@@ -8,6 +8,7 @@ mod link_table;
 mod links;
 mod mio_world;
 mod sockets;
+mod timer;
 mod turned_away;
 mod waking;
 

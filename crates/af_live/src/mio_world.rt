@@ -5,27 +5,21 @@
 // and the backend of each of 8 devices, and the one codec, which may be the backend of one. `lines` has their telephone lines.
 // Faults of links, devices, listens and waits are counted apart. Contracts see these tables and counts. Of the sockets they see
 // only whether there are any.
-ghost use Rattle.std.specs.Prelude.{◌≡◌, ◌≤◌, ◌<◌, [], ℕ, length, not, true, false, is_some, IfSome, MatchOption};
+ghost use Rattle.std.specs.Prelude.{◌≡◌, ◌≤◌, ◌<◌, [], length, true, is_some};
 ghost use Rattle.std.specs.declared.option.Option.TheVariants.{None};
-ghost use Rattle.af_limits.specs.Limits.{most_links, most_devices, longest_read, output_room};
-ghost use Rattle.af_io.specs.Observed.{FaultCounted};
+ghost use Rattle.af_limits.specs.Limits.{longest_read, output_room};
 ghost use Rattle.af_world.specs.World.{LinkGotFits, TookFits};
-ghost use Rattle.af_live.specs.LinkTable.{is_drained, is_free, link_at, something_ready, AfterRead, AfterWrite, KeepsOpen, ClosesOne, LinkWakeFits, Opens};
-ghost use Rattle.af_live.specs.Counting.{CountsOne, CountsStand};
 ghost use Rattle.af_codec.specs.Codec.{TellsThese};
-ghost use Rattle.af_backend.specs.Backends.{may_be_refused, round_after, CapturesAt, EmitsAt, AttachesAt};
-ghost use Rattle.af_backend.specs.CodecUse.{codec_allows, codec_after};
-ghost use Rattle.af_backend.specs.Rounds.{is_attached};
-ghost use Rattle.af_process.specs.Acts.{words_of};
-ghost use Rattle.af_lines.specs.HeldLines.{is_quiet, line_at, lines_after, AttachesLine, HooksAt};
-ghost use Rattle.af_live.specs.Polls.{LeadsLinks, TakesLeast};
-ghost use Rattle.af_live.specs.RealWorld.{RealLeadsTo, begun_world, given_wake, listens_after, GivesKept, LeadsLines, LeadsRound, LosesNoFrame, WakeFits};
+ghost use Rattle.af_live.specs.Polls.{latest_poll};
+ghost use Rattle.af_live.specs.RealCalls.{RealAttaches, RealAttachesLine, RealCaptures, RealCloses, RealEmits, RealHooks, RealListens, RealReads, RealWaits, RealWrites};
+ghost use Rattle.af_live.specs.RealWorld.{RealLeadsTo, begun_world, listens_after};
 
 use crate::counting::{count_got, count_put, count_ready, count_took, count_waited};
 use crate::held_links::HeldLinks;
 use crate::links::{close_link, read_link, write_link};
 use crate::sockets::Sockets;
-use crate::waking::{Step, answer, next_wake, time_of};
+use crate::timer::Timer;
+use crate::waking::{Step, answer, next_wake};
 use af_backend::{Devices, NewDevice, refusal};
 use af_card::Card;
 use af_codec::Codec;
@@ -57,6 +51,7 @@ pub struct MioWorld<R: Net + Clock + Files + Drop, S: Spawner + Drop, G: Program
     sockets: Option<Sockets>,
     links: HeldLinks,
     lines: Lines<G::Made>,
+    timer: Timer,
     step: Step,
     link_faults: u64,
     device_faults: u64,
@@ -70,6 +65,7 @@ pub struct MioWorld<R: Net + Clock + Files + Drop, S: Spawner + Drop, G: Program
 impl<R: Net + Clock + Files + Drop, S: Spawner + Drop, G: Programs + Drop> Model
     for MioWorld<R, S, G> {
     ghost use Rattle.std.specs.Prelude.{is_some};
+    ghost use Rattle.af_live.specs.Polls.{latest_poll};
     ghost use Rattle.af_live.specs.RealWorld.{RealState};
 
     ghost Value = { RealState };
@@ -77,6 +73,8 @@ impl<R: Net + Clock + Files + Drop, S: Spawner + Drop, G: Programs + Drop> Model
     ghost view = { λ w. record {
       listens = is_some w.sockets;
       links = w.links;
+      poll = latest_poll w.sockets;
+      clock = record { timer = w.timer; step = w.step };
       backends = w.devices.attached;
       codec = w.devices.codec;
       round = w.devices.round;
@@ -110,7 +108,8 @@ impl<R: Net + Clock + Files + Drop, S: Spawner + Drop, G: Programs + Drop> MioWo
             sockets: None,
             links: HeldLinks::new(),
             lines: Lines::new(),
-            step: Step::default(),
+            timer: Timer::new(),
+            step: Step::new(),
             link_faults: 0,
             device_faults: 0,
             listen_faults: 0,
@@ -164,6 +163,20 @@ impl<R: Net + Clock + Files + Drop, S: Spawner + Drop, G: Programs + Drop> World
 
     ghost leads_to = { RealLeadsTo };
 
+    ghost wakes = { λ old _ new. new ≡ old };
+
+    ghost reads = { RealReads };
+
+    ghost writes = { RealWrites };
+
+    ghost closes = { λ old link _ new. RealCloses old link new };
+
+    ghost captures = { λ old device _ answer into new. RealCaptures old device answer into new };
+
+    ghost emits = { RealEmits };
+
+    ghost hooks = { RealHooks };
+
     ghost leads_to_itself = { RealLeadsTo-refl };
 
     ghost leads_on = { RealLeadsTo-trans };
@@ -172,18 +185,16 @@ impl<R: Net + Clock + Files + Drop, S: Spawner + Drop, G: Programs + Drop> World
 
     ghost device_faults_stay = { λ _ _ leads. leads.device_faults };
 
-    fn woke(&mut self, _wake: Wake) {}
+    fn woke(&mut self, _wake: Wake)
+        ensures leads { RealLeadsTo self.old self.new }
+        ensures step { self.new ≡ self.old }
+    {}
 
     fn read(&mut self, link: u8, into: &mut [u8]) -> LinkGot
         requires { length into.old ≡ longest_read }
         ensures bound { LinkGotFits result (length into.new) }
-        ensures faults { CountsOne (result ≡ LinkGot.Failed) self.old.link_faults self.new.link_faults }
         ensures leads { RealLeadsTo self.old self.new }
-        ensures open { KeepsOpen self.old.links self.new.links }
-        ensures unheld { is_free (link_at self.old.links link) ≡ true → result ≡ LinkGot.Failed }
-        ensures drained { self.old.listens ≡ true → is_drained (link_at self.old.links link) ≡ true → result ≡ LinkGot.NotYet }
-        ensures after { AfterRead link (length into.new) result self.old.links self.new.links }
-        ensures rest { self.new ≡ record self.old { links = self.new.links; link_faults = self.new.link_faults } }
+        ensures step { RealReads self.old link result into.new self.new }
     {
         let got = read_link(&mut self.sockets, &mut self.links, link, into);
         count_got(got, &mut self.link_faults);
@@ -194,12 +205,8 @@ impl<R: Net + Clock + Files + Drop, S: Spawner + Drop, G: Programs + Drop> World
         requires some { 0 < length piece.now }
         requires bound { length piece.now ≤ output_room }
         ensures bound { TookFits result (length piece.now) }
-        ensures faults { CountsOne (result ≡ LinkTook.Failed) self.old.link_faults self.new.link_faults }
         ensures leads { RealLeadsTo self.old self.new }
-        ensures open { KeepsOpen self.old.links self.new.links }
-        ensures unheld { is_free (link_at self.old.links link) ≡ true → result ≡ LinkTook.Failed }
-        ensures after { AfterWrite link result self.old.links self.new.links }
-        ensures rest { self.new ≡ record self.old { links = self.new.links; link_faults = self.new.link_faults } }
+        ensures step { RealWrites self.old link piece.now result self.new }
     {
         let took = write_link(&mut self.sockets, &mut self.links, link, piece);
         count_took(took, &mut self.link_faults);
@@ -208,18 +215,15 @@ impl<R: Net + Clock + Files + Drop, S: Spawner + Drop, G: Programs + Drop> World
 
     fn close(&mut self, link: u8, _why: Why)
         ensures leads { RealLeadsTo self.old self.new }
-        ensures closed { ClosesOne link self.old.links self.new.links }
-        ensures rest { self.new ≡ record self.old { links = self.new.links } }
+        ensures step { RealCloses self.old link self.new }
     {
         close_link(&mut self.sockets, &mut self.links, link);
     }
 
     fn capture(&mut self, device: u8, _frames: u32, into: &mut [u8]) -> Put
         requires { 0 < length into.old }
-        ensures faults { CountsOne (result ≡ Put.Failed) self.old.device_faults self.new.device_faults }
         ensures leads { RealLeadsTo self.old self.new }
-        ensures backends { CapturesAt device result into.new self.old.backends self.new.backends }
-        ensures rest { self.new ≡ record self.old { backends = self.new.backends; device_faults = self.new.device_faults } }
+        ensures step { RealCaptures self.old device result into.new self.new }
     {
         let put = self.devices.capture(device, into);
         count_put(put, &mut self.device_faults);
@@ -228,11 +232,8 @@ impl<R: Net + Clock + Files + Drop, S: Spawner + Drop, G: Programs + Drop> World
 
     fn emit(&mut self, device: u8, sound: &[u8]) -> Put
         requires { 0 < length sound.now }
-        ensures faults { CountsOne (result ≡ Put.Failed) self.old.device_faults self.new.device_faults }
         ensures leads { RealLeadsTo self.old self.new }
-        ensures backends { EmitsAt device result sound.now self.old.backends self.new.backends self.old.codec self.new.codec }
-        ensures rest { self.new
-            ≡ record self.old { backends = self.new.backends; codec = self.new.codec; device_faults = self.new.device_faults } }
+        ensures step { RealEmits self.old device sound.now result self.new }
     {
         let put = self.devices.emit(device, sound);
         count_put(put, &mut self.device_faults);
@@ -240,12 +241,11 @@ impl<R: Net + Clock + Files + Drop, S: Spawner + Drop, G: Programs + Drop> World
     }
 
     fn hook(&mut self, device: u8, off: bool) -> Put
-        ensures faults { CountsOne (result ≡ Put.Failed) self.old.device_faults self.new.device_faults }
         ensures leads { RealLeadsTo self.old self.new }
-        ensures hooks { HooksAt device off result self.old.lines self.new.lines }
-        ensures rest { self.new ≡ record self.old { lines = self.new.lines; device_faults = self.new.device_faults } }
+        ensures step { RealHooks self.old device off result self.new }
     {
-        let put = self.lines.hook(device, off, time_of(&self.rt));
+        let at = self.timer.moment(&self.rt);
+        let put = self.lines.hook(device, off, at);
         count_put(put, &mut self.device_faults);
         put
     }
@@ -254,6 +254,14 @@ impl<R: Net + Clock + Files + Drop, S: Spawner + Drop, G: Programs + Drop> World
 impl<R: Net + Clock + Files + Drop, S: Spawner + Drop, G: Programs + Drop> Live
     for MioWorld<R, S, G> {
     ghost listen_faults = { λ world. world.listen_faults };
+
+    ghost listens = { λ old _ answer new. RealListens old answer new };
+
+    ghost attaches = { RealAttaches };
+
+    ghost attaches_line = { RealAttachesLine };
+
+    ghost waits = { RealWaits };
 
     ghost wait_faults = { λ world. world.wait_faults };
 
@@ -268,11 +276,7 @@ impl<R: Net + Clock + Files + Drop, S: Spawner + Drop, G: Programs + Drop> Live
     ghost tells_both = { λ _ told. told };
 
     fn listen(&mut self, alloc: Global, address: &str) -> Ready
-        ensures faults { CountsOne (result ≡ Ready.Failed) self.old.listen_faults self.new.listen_faults }
-        ensures listens { self.new.listens ≡ listens_after result self.old.listens }
-        ensures again { self.old.listens ≡ true → result ≡ Ready.Failed }
-        ensures rest { self.new ≡ record self.old { listens = self.new.listens; listen_faults = self.new.listen_faults } }
-        ensures counts { CountsStand self.old self.new }
+        ensures step { RealListens self.old result self.new }
     {
         let listened = begin_to_listen(&self.rt, alloc, address, &mut self.sockets);
         count_ready(listened, &mut self.listen_faults);
@@ -280,30 +284,14 @@ impl<R: Net + Clock + Files + Drop, S: Spawner + Drop, G: Programs + Drop> Live
     }
 
     fn attach(&mut self, alloc: Global, device: u8, spec: &DeviceSpec, kind: Kind<'_>) -> Ready
-        ensures faults { CountsOne (result ≡ Ready.Failed) self.old.device_faults self.new.device_faults }
-        ensures attaches { result ≡ Ready.Done → (device < most_devices) × (is_attached self.old.round device ≡ false) }
-        ensures round { self.new.round ≡ round_after result kind.entry self.old.round device spec.now.rate }
-        ensures allowed { result ≡ Ready.Done → codec_allows self.old.codec kind.entry ≡ true }
-        ensures done { device < most_devices → is_attached self.old.round device ≡ false →
-            codec_allows self.old.codec kind.entry ≡ true → may_be_refused kind.entry ≡ false → result ≡ Ready.Done }
-        ensures backends { AttachesAt result kind.entry device spec.now self.old.backends self.new.backends }
-        ensures codec { self.new.codec ≡ codec_after result kind.entry self.old.codec }
-        ensures lines { self.new.lines ≡ lines_after result device spec.now.line self.old.lines }
-        ensures rest { self.new ≡ record self.old {
-          backends = self.new.backends;
-          codec = self.new.codec;
-          round = self.new.round;
-          lines = self.new.lines;
-          device_faults = self.new.device_faults;
-        } }
-        ensures counts { CountsStand self.old self.new }
+        ensures step { RealAttaches self.old device spec.now kind.entry result self.new }
     {
         let asked = NewDevice {
             alloc,
             number: device,
             spec,
             kind,
-            at: time_of(&self.rt),
+            at: self.timer.moment(&self.rt),
         };
         let attached = self.devices.attach(&self.rt, &mut self.programs, asked);
         self.lines.note_attach(attached, device, spec.line);
@@ -312,14 +300,9 @@ impl<R: Net + Clock + Files + Drop, S: Spawner + Drop, G: Programs + Drop> Live
     }
 
     fn attach_line(&mut self, alloc: Global, device: u8, program: LineProgram<'_>) -> Ready
-        ensures faults { CountsOne (result ≡ Ready.Failed) self.old.device_faults self.new.device_faults }
-        ensures quiet { result ≡ Ready.Done → is_quiet (line_at self.old.lines.lines device) ≡ true }
-        ensures attaches { AttachesLine result program.entry.restarts (words_of program.entry.words.now) device self.old.lines
-            self.new.lines }
-        ensures rest { self.new ≡ record self.old { lines = self.new.lines; device_faults = self.new.device_faults } }
-        ensures counts { CountsStand self.old self.new }
+        ensures step { RealAttachesLine self.old device program.entry result self.new }
     {
-        let at = time_of(&self.rt);
+        let at = self.timer.moment(&self.rt);
         let attached = self
             .lines
             .attach(alloc, &mut self.programs, device, program, at);
@@ -328,28 +311,7 @@ impl<R: Net + Clock + Files + Drop, S: Spawner + Drop, G: Programs + Drop> Live
     }
 
     fn wait(&mut self, more: bool) -> Waited
-        ensures faults { CountsOne (result ≡ Waited.Failed) self.old.wait_faults self.new.wait_faults }
-        ensures unlistened { self.old.listens ≡ false → result ≡ Waited.Failed }
-        ensures kept { (k : ℕ) → self.old.listens ≡ true → k < most_links → something_ready (link_at self.old.links k) ≡ true →
-            GivesKept (given_wake result) self.old.links self.old.round self.new.links self.new.round }
-        ensures fits { IfSome (given_wake result) (λ wake. WakeFits self.old.links self.old.round self.old.lines wake) }
-        ensures opens { MatchOption (given_wake result) (KeepsOpen self.old.links self.new.links)
-            (λ wake. Opens wake self.old.links self.new.links) }
-        ensures links { LeadsLinks (given_wake result) self.old.links self.new.links }
-        ensures least { TakesLeast self.old.links self.new.links }
-        ensures round { LeadsRound (given_wake result) self.old.links self.old.round self.old.backends self.new.links
-            self.new.round self.new.backends }
-        ensures frames { LosesNoFrame (given_wake result) self.old.round self.new.round }
-        ensures lines { LeadsLines (given_wake result) self.old.links self.old.round self.old.lines self.new.links self.new.round
-            self.new.lines }
-        ensures rest { self.new ≡ record self.old {
-          links = self.new.links;
-          backends = self.new.backends;
-          round = self.new.round;
-          lines = self.new.lines;
-          wait_faults = self.new.wait_faults;
-        } }
-        ensures counts { CountsStand self.old self.new }
+        ensures step { RealWaits self.old more result self.new }
     {
         let next = next_wake(
             &self.rt,
@@ -358,6 +320,7 @@ impl<R: Net + Clock + Files + Drop, S: Spawner + Drop, G: Programs + Drop> Live
             &mut self.links,
             &mut self.devices,
             &mut self.lines,
+            &mut self.timer,
             &mut self.step,
         );
         let waited = answer(next);
@@ -375,6 +338,7 @@ fn begin_to_listen<R: Net>(
 ) -> Ready
     ensures listens { is_some sockets.new ≡ listens_after result (is_some sockets.old) }
     ensures again { is_some sockets.old ≡ true → result ≡ Ready.Failed }
+    ensures poll { latest_poll sockets.new ≡ latest_poll sockets.old }
 {
     if sockets.is_some() {
         return Ready::Failed;

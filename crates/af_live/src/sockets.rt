@@ -1,8 +1,9 @@
 // A listener, and the links that came in by it. Nothing here blocks.
-ghost use Rattle.std.specs.Prelude.{◌≡◌, ◌≤◌, false};
+ghost use Rattle.std.specs.Prelude.{◌≡◌, ◌≤◌, [], false, IfOk, OnErr};
 ghost use Rattle.std.specs.Io.{ReadsAtMost, WritesAtMost};
-ghost use Rattle.af_live.specs.LinkTable.{TakesIn};
-ghost use Rattle.af_live.specs.Polls.{readiness_of, PollsTo};
+ghost use Rattle.mio.specs.Events.{items};
+ghost use Rattle.std.specs.declared.option.Option.TheVariants.{Some};
+ghost use Rattle.af_live.specs.Polls.{all_noted, latest_poll, no_poll, readiness_of, PollsTo, TakesAll, TakesIn};
 
 use crate::held_links::HeldLinks;
 use crate::link_table::Readiness;
@@ -36,7 +37,9 @@ const MOST_ACCEPTS: u32 = 64;
 #[derive(Drop)]
 pub struct Sockets {
     poll: Poll,
-    events: Events<Global>,
+    pub(crate) events: Events<Global>,
+    /// How long the latest poll was to wait at most.
+    pub(crate) pause: Duration,
     pub listener: TcpListener,
     /// How many connections came while all numbers were taken. The count stands still at 2^64 - 1.
     pub turned_away: u64,
@@ -50,7 +53,9 @@ pub struct Sockets {
 
 impl Sockets {
     /// Listens at the first address of a text that the system grants. All memory that the links will ever need is taken here.
-    pub fn listen<R: Net>(rt: &R, alloc: Global, address: &str) -> io::Result<Sockets> {
+    pub fn listen<R: Net>(rt: &R, alloc: Global, address: &str) -> io::Result<Sockets>
+        ensures { IfOk result (λ sockets. latest_poll (Some sockets) ≡ no_poll) }
+    {
         let poll = Poll::new(rt)?;
         let events = Events::with_capacity(alloc, EVENTS_A_POLL)?;
         let streams = Slab::with_capacity(alloc, MOST_LINKS)?;
@@ -60,6 +65,7 @@ impl Sockets {
         Ok(Sockets {
             poll,
             events,
+            pause: Duration::ZERO,
             listener,
             turned_away: 0,
             waiting: false,
@@ -92,13 +98,24 @@ impl Sockets {
         }
     }
 
+    /// Asks the system what is ready, and waits for that as long as this pause at most.
+    fn ask(&mut self, pause: Duration) -> io::Result<()>
+        ensures pause { self.new.pause ≡ pause }
+        ensures streams { self.new.streams ≡ self.old.streams }
+        ensures refused { OnErr result (items self.new.events ≡ []) }
+    {
+        self.pause = pause;
+        self.poll.poll(&mut self.events, Some(pause))
+    }
+
     /// Waits for at most so long until something is ready, and notes it. New links are accepted, at this reading of the clock.
     /// The answer is whether the system could be asked; a signal is no refusal.
     pub(crate) fn poll(&mut self, pause: Duration, now: u64, links: &mut HeldLinks) -> bool
-        ensures polls { PollsTo links.old links.new }
+        ensures pause { self.new.pause ≡ pause }
+        ensures polls { PollsTo (items self.new.events) self.old.streams links.old self.new.streams links.new }
         ensures refused { result ≡ false → links.new ≡ links.old }
     {
-        match self.poll.poll(&mut self.events, Some(pause)) {
+        match self.ask(pause) {
             Ok(()) => {}
             Err(e) if e.kind() == ErrorKind::Interrupted => {}
             Err(_) => return false,
@@ -116,7 +133,9 @@ impl Sockets {
     /// Accepts the connections that wait. Where the system refuses one for the time being, as with no descriptor left, those that
     /// wait are tried again after the next poll.
     fn accept_all(&mut self, now: u64, links: &mut HeldLinks)
-        ensures { PollsTo links.old links.new }
+        ensures takes { TakesAll self.old.streams links.old self.new.streams links.new }
+        ensures pause { self.new.pause ≡ self.old.pause }
+        ensures events { self.new.events ≡ self.old.events }
     {
         for _ in 0..MOST_ACCEPTS {
             match self.listener.accept() {
@@ -135,7 +154,9 @@ impl Sockets {
     /// Holds a new link under the least number that is free. If none is, it is turned away; if the system does not watch it, it
     /// is closed.
     fn take_in(&mut self, mut stream: TcpStream, now: u64, links: &mut HeldLinks)
-        ensures { TakesIn links.old links.new }
+        ensures takes { TakesIn self.old.streams links.old self.new.streams links.new }
+        ensures pause { self.new.pause ≡ self.old.pause }
+        ensures events { self.new.events ≡ self.old.events }
     {
         let Some(number) = links.least_free() else {
             self.turned_away = self.turned_away.saturating_add(1);
@@ -164,7 +185,8 @@ impl Sockets {
 
     /// Reads what has come by a link, at least one byte, or none at its end.
     pub fn read(&mut self, key: usize, into: &mut [u8]) -> io::Result<usize>
-        ensures { ReadsAtMost result into.new }
+        ensures count { ReadsAtMost result into.new }
+        ensures poll { latest_poll (Some self.new) ≡ latest_poll (Some self.old) }
     {
         match self.streams.get_mut(key) {
             Some(stream) => stream.read(into),
@@ -174,7 +196,8 @@ impl Sockets {
 
     /// Hands the first bytes of a piece to a link, as many as it takes.
     pub fn write(&mut self, key: usize, piece: &[u8]) -> io::Result<usize>
-        ensures { WritesAtMost result piece.now }
+        ensures count { WritesAtMost result piece.now }
+        ensures poll { latest_poll (Some self.new) ≡ latest_poll (Some self.old) }
     {
         match self.streams.get_mut(key) {
             Some(stream) => stream.write(piece),
@@ -183,7 +206,9 @@ impl Sockets {
     }
 
     /// Closes a link.
-    pub fn close(&mut self, key: usize) {
+    pub fn close(&mut self, key: usize)
+        ensures { latest_poll (Some self.new) ≡ latest_poll (Some self.old) }
+    {
         if let Some(mut stream) = self.streams.try_remove(key) {
             // closing it takes it out of the poll in any case
             let _ = self.poll.registry().deregister(&mut stream);
@@ -218,12 +243,12 @@ fn told_by(event: &Event) -> Readiness
 
 /// Notes what is ready of the links. The answer is whether connections wait.
 fn note_events(events: &Events<Global>, links: &mut HeldLinks) -> bool
-    ensures { PollsTo links.old links.new }
+    ensures { links.new ≡ all_noted (items events.now) links.old }
 {
     let mut waiting = false;
     for event in events {
         let Token(number) = event.token();
-        if event.token() == LISTENER {
+        if number == LISTENER.0 {
             waiting = true;
         } else {
             links.note(number, told_by(event));

@@ -1,18 +1,20 @@
 // How a wait finds its wake: it looks at what is kept ready of a link, then at the next device of the round, then at the next
 // telephone line, and then at what a poll finds.
-ghost use Rattle.std.specs.Prelude.{◌≡◌, ◌≤◌, ◌<◌, ◌^◌, ℕ, true, false, is_some, IfSome, MatchOption};
+ghost use Rattle.std.specs.Prelude.{◌≡◌, ◌≤◌, ◌<◌, ◌^◌, ◌||◌, ℕ, true, false, is_some, IfSome, MatchOption};
 ghost use Rattle.std.specs.declared.option.Option.TheVariants.{None};
 ghost use Rattle.std.specs.Duration.{as_nanos};
+ghost use Rattle.mio.specs.Events.{items};
 ghost use Rattle.af_limits.specs.Limits.{most_links};
 ghost use Rattle.af_backend.specs.Rounds.{next_round};
 ghost use Rattle.af_lines.specs.HeldLines.{lines_at_round_start};
 ghost use Rattle.af_live.specs.LinkTable.{link_at, something_ready, KeepsOpen, LinkWakeFits, Opens};
-ghost use Rattle.af_live.specs.Polls.{LeadsLinks, PolledGives};
-ghost use Rattle.af_live.specs.Readings.{whole_millis, pause_of, IsReadingBy};
+ghost use Rattle.af_live.specs.Polls.{latest_poll, LeadsLinks, PolledGives};
+ghost use Rattle.af_live.specs.Readings.{new_clock, pause_of, PausesBy, ReadsBy};
 ghost use Rattle.af_live.specs.RealWorld.{given_wake, GivesKept, LeadsLines, LeadsRound, WakeFits};
 
 use crate::held_links::HeldLinks;
 use crate::sockets::Sockets;
+use crate::timer::{Timer, whole_millis};
 use af_backend::{Devices, LONGEST_STEP_NANOS, Round};
 use af_limits::MOST_DEVICES;
 use af_lines::Lines;
@@ -29,74 +31,75 @@ const LONGEST_PAUSE_MILLIS: u64 = 10;
 /// they have sent.
 const CATCHING_UP_PAUSE_NANOS: u64 = 500_000;
 
-const NANOS_A_MILLISECOND: u64 = 1_000_000;
-
-/// The last step of the readings: what the clock showed then, the reading itself, and whether the clock was ahead of it by a
-/// whole step of a server that catches up, or more.
-#[derive(Clone, Copy, Default)]
+/// The last step of the readings: what the clock showed then, and whether that was ahead of the reading by a whole step of a
+/// server that catches up, or more.
+#[derive(Clone, Copy)]
 pub(crate) struct Step {
     shown: u64,
-    reading: u64,
     is_late: bool,
 }
 
-/// What a clock shows, rounded down to whole milliseconds: no frame ticks before its time, and a round that follows another
-/// within the millisecond finds nothing due, and sleeps.
-fn whole_millis(nanos: u64) -> u64
-    ensures { result ≡ whole_millis nanos }
-{
-    nanos - nanos % NANOS_A_MILLISECOND
-}
-
-/// What the clock shows, in nanoseconds. None if it cannot be read, or shows five centuries.
-fn shown_by<R: Clock>(rt: &R) -> Option<u64> {
-    u64::try_from(rt.monotonic().ok()?.as_nanos()).ok()
-}
-
-/// The time as a reading of the clock is, in nanoseconds, or zero if it cannot be read.
-pub(crate) fn time_of<R: Clock>(rt: &R) -> u64 {
-    shown_by(rt).map_or(0, whole_millis)
+impl Step {
+    /// No step was made so far.
+    pub fn new() -> Step
+        ensures { result ≡ new_clock.step }
+    {
+        Step {
+            shown: 0,
+            is_late: false,
+        }
+    }
 }
 
 /// The reading of the clock that a round goes by: its own, or one that is taken now. After the server stood still that lags what
 /// the clock shows, step by step at most 20 milliseconds further. Between two steps rounds go by the same reading for half a
 /// millisecond, in which all clients are served, if there are any.
-fn reading<R: Clock>(rt: &R, round: &Round, has_links: bool, step: &mut Step) -> Option<u64>
-    ensures { IfSome result (λ nanos. IsReadingBy round.now.reading round.now.last nanos) }
+fn reading<R: Clock>(
+    rt: &R,
+    round: &Round,
+    has_links: bool,
+    timer: &mut Timer,
+    step: &mut Step,
+) -> Option<u64>
+    ensures { ReadsBy round.now.reading round.now.last (record { timer = timer.old; step = step.old }) result
+        (record { timer = timer.new; step = step.new }) }
 {
     if let Some(taken) = round.reading() {
         return Some(taken);
     }
-    let shown = shown_by(rt)?;
+    let shown = timer.nanos(rt)?;
     let next = round.reading_after(whole_millis(shown));
     let is_late = shown.saturating_sub(next) >= LONGEST_STEP_NANOS;
     let is_served = shown.saturating_sub(step.shown) >= CATCHING_UP_PAUSE_NANOS;
     if is_late && has_links && !is_served {
-        return Some(round.reading_after(whole_millis(step.reading)));
+        if let Some(last) = round.last_reading() {
+            return Some(last);
+        }
     }
-    *step = Step {
-        shown,
-        reading: next,
-        is_late,
-    };
+    *step = Step { shown, is_late };
     Some(next)
 }
 
-/// What a poll finds first, at this reading of the clock. A new round over the devices and their lines begins after it.
+/// What a poll finds first, at this reading of the clock. A new round over the devices and their lines begins after it. The poll
+/// waits only if there is nothing more to do, no device ticked and no line changed in the round, and the server is not late.
 fn poll_once<P: Program + Drop>(
     sockets: &mut Sockets,
-    pause: Duration,
+    more: bool,
+    is_late: bool,
     nanos: u64,
     links: &mut HeldLinks,
     round: &mut Round,
     lines: &mut Lines<P>,
 ) -> Option<Wake>
+    ensures pause { as_nanos sockets.new.pause ≡ pause_of more (round.old.ticked || lines.old.changed) is_late }
     ensures fits { IfSome result (λ wake. LinkWakeFits links.old wake) }
     ensures opens { MatchOption result (KeepsOpen links.old links.new) (λ wake. Opens wake links.old links.new) }
-    ensures links { MatchOption result (links.new ≡ links.old) (λ wake. PolledGives wake links.old links.new) }
+    ensures links { MatchOption result (links.new ≡ links.old)
+        (λ wake. PolledGives (items sockets.new.events) wake links.old links.new) }
     ensures round { MatchOption result (round.new ≡ round.old) (λ wake. round.new ≡ next_round round.old) }
     ensures lines { MatchOption result (lines.new ≡ lines.old) (λ wake. lines.new ≡ lines_at_round_start lines.old) }
 {
+    let pause = pause(more, round.has_ticked() || lines.has_changed(), is_late);
     if !sockets.poll(pause, nanos, links) {
         return None;
     }
@@ -117,6 +120,7 @@ pub(crate) fn next_wake<R: Clock, F: Read + Write + Drop, S: Spawner + Drop, P: 
     links: &mut HeldLinks,
     devices: &mut Devices<F, S, P>,
     lines: &mut Lines<P>,
+    timer: &mut Timer,
     step: &mut Step,
 ) -> Option<Wake>
     ensures listens { is_some sockets.new ≡ is_some sockets.old }
@@ -125,9 +129,10 @@ pub(crate) fn next_wake<R: Clock, F: Read + Write + Drop, S: Spawner + Drop, P: 
         GivesKept result links.old devices.old.round links.new devices.new.round }
     ensures fits { IfSome result (λ wake. WakeFits links.old devices.old.round lines.old wake) }
     ensures opens { MatchOption result (KeepsOpen links.old links.new) (λ wake. Opens wake links.old links.new) }
-    ensures links { LeadsLinks result links.old links.new }
-    ensures round { LeadsRound result links.old devices.old.round devices.old.attached links.new devices.new.round
-        devices.new.attached }
+    ensures pauses { PausesBy more step.new.is_late (latest_poll sockets.old) (latest_poll sockets.new) }
+    ensures links { LeadsLinks (latest_poll sockets.new).events result links.old links.new }
+    ensures round { LeadsRound result links.old (record { timer = timer.old; step = step.old }) devices.old.round
+        devices.old.attached links.new (record { timer = timer.new; step = step.new }) devices.new.round devices.new.attached }
     ensures lines { LeadsLines result links.old devices.old.round lines.old links.new devices.new.round lines.new }
     ensures rest { devices.new ≡ record devices.old { round = devices.new.round; attached = devices.new.attached } }
 {
@@ -137,7 +142,7 @@ pub(crate) fn next_wake<R: Clock, F: Read + Write + Drop, S: Spawner + Drop, P: 
     if let Some(wake) = links.take_ready() {
         return Some(wake);
     }
-    let nanos = reading(rt, &devices.round, sockets.has_links(), step)?;
+    let nanos = reading(rt, &devices.round, sockets.has_links(), timer, step)?;
     if let Some((device, frames)) = devices.next_tick(nanos) {
         return Some(Wake::Ticked(device, frames));
     }
@@ -145,9 +150,8 @@ pub(crate) fn next_wake<R: Clock, F: Read + Write + Drop, S: Spawner + Drop, P: 
         return Some(Wake::Line(device, change));
     }
     watch_programs(sockets, devices);
-    let went_on = devices.round.has_ticked() || lines.has_changed();
-    let pause = pause(more, went_on, step.is_late);
-    poll_once(sockets, pause, nanos, links, &mut devices.round, lines)
+    let round = &mut devices.round;
+    poll_once(sockets, more, step.is_late, nanos, links, round, lines)
 }
 
 /// Has the poll look at the programs that devices go by.

@@ -1,4 +1,5 @@
 pub mod TapeState
 pub mod Tape
 pub mod LifecycleState
+pub mod TapeCalls
 pub mod TapeLaws

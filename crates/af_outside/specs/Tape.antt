@@ -1,6 +1,6 @@
 -- What a tape keeps in memory: the scripted links, each with room for all that the steps have still to send, and the scripted
 -- devices, whose last ticks are found among its steps.
-use Rattle.std.specs.Prelude.{◌≡◌, ℕ, ◌≤◌, Bool, true, false, List, [], ◌∷◌, length, map, not, sum_by, if◌then◌else◌, ◌==◌, slice_get}
+use Rattle.std.specs.Prelude.{◌≡◌, ℕ, ◌≤◌, Bool, true, false, List, [], length, map, not, sum_by, if◌then◌else◌, ◌==◌, slice_get}
 use Rattle.std.specs.declared.option.Option.{Option}
 use Rattle.std.specs.declared.option.Option.TheVariants.{None, Some}
 use Rattle.af_sample.specs.declared.sample_type.SampleType.{SampleType}

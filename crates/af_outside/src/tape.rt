@@ -11,7 +11,7 @@ ghost use Rattle.af_world.specs.Outside.{outside_after_happening, spec_has_line,
 ghost use Rattle.af_world.specs.Kinds.{told_kind};
 ghost use Rattle.af_world.specs.Lifecycle.{attached, line_attached, listened, waited};
 ghost use Rattle.af_outside.specs.TapeState.{new_tape, ChangedByAttach, ChangedByDevice, ChangedByLink, TakesStep, TapeLeadsTo, left_after, lifecycle_told, NoCountFalls, wait_answer, wait_fails, waited_outside};
-ghost use Rattle.af_outside.specs.LifecycleState.{is_stated, was_refused};
+ghost use Rattle.af_outside.specs.TapeCalls.{CloseAnswers, DeviceAnswers, LinkAnswers, TapeAttaches, TapeAttachesLine, TapeListens, TapeWaits};
 ghost use Rattle.af_outside.specs.Tape.{HasRoomForSteps, outside_of, devices_of, read_failed, write_failed};
 
 use crate::happenings::{capture_of, emit_of, hook_of, read_of, write_of};
@@ -218,6 +218,25 @@ impl World for Tape {
 
     ghost leads_to = { TapeLeadsTo };
 
+    ghost wakes = { λ before _ after. after ≡ record before { log = after.log } };
+
+    ghost reads = { λ before link answer into after.
+        LinkAnswers (Read link (got_of answer into)) (read_failed answer) before after };
+
+    ghost writes = { λ before link piece answer after.
+        LinkAnswers (Wrote link (length piece) (took_of answer piece)) (write_failed answer) before after };
+
+    ghost closes = { λ before link why after. CloseAnswers (Closed link why) before after };
+
+    ghost captures = { λ before device frames answer into after.
+        DeviceAnswers (Captured device frames (captured_of answer into)) (not (is_done answer)) before after };
+
+    ghost emits = { λ before device sound answer after.
+        DeviceAnswers (Emitted device sound (is_done answer)) (not (is_done answer)) before after };
+
+    ghost hooks = { λ before device off answer after.
+        DeviceAnswers (Hooked device off (is_done answer)) (not (is_done answer)) before after };
+
     ghost leads_to_itself = { TapeLeadsTo-refl };
 
     ghost leads_on = { TapeLeadsTo-trans };
@@ -344,6 +363,14 @@ fn is_same(one: &DeviceSpec, other: &DeviceSpec) -> bool
 impl Live for Tape {
     ghost use Rattle.af_outside.specs.TapeLaws.{TapeLeadsTo-listen_faults, TapeLeadsTo-wait_faults, TapeLeadsTo-lifecycle, Tape-tells_both};
 
+    ghost listens = { λ before _ answer after. TapeListens before answer after };
+
+    ghost attaches = { λ before device spec _ answer after. TapeAttaches before device spec answer after };
+
+    ghost attaches_line = { λ before device _ answer after. TapeAttachesLine before device answer after };
+
+    ghost waits = { λ before _ answer after. TapeWaits before answer after };
+
     ghost listen_faults = { λ tape. tape.lifecycle.listen_faults };
 
     ghost wait_faults = { λ tape. tape.lifecycle.wait_faults };
@@ -363,14 +390,7 @@ impl Live for Tape {
         ensures lifecycle { Appended (lifecycle_told self.old) (listened result address.now) (lifecycle_told self.new) }
         ensures cause { result ≡ Ready.Failed → FaultCounted self.old.lifecycle.listen_faults self.new.lifecycle.listen_faults }
         ensures counts { NoCountFalls self.old self.new }
-        ensures answer { result ≡ (if self.old.lifecycle.faults.listen then Ready.Failed else Ready.Done) }
-        ensures rest { self.new ≡ record self.old {
-          log = self.new.log;
-          lifecycle = record self.old.lifecycle {
-            entries = self.new.lifecycle.entries;
-            listen_faults = faults_after self.old.lifecycle.listen_faults self.old.lifecycle.faults.listen;
-          };
-        } }
+        ensures step { TapeListens self.old result self.new }
     {
         if self.lifecycle.listen_fails() {
             return Ready::Failed;
@@ -386,10 +406,7 @@ impl Live for Tape {
             (lifecycle_told self.new) }
         ensures cause { result ≡ Ready.Failed → FaultCounted self.old.device_faults self.new.device_faults }
         ensures counts { NoCountFalls self.old self.new }
-        ensures answer { (result ≡ Ready.Done)
-            ↔ ((slice_get self.old.config device ≡ Some spec.now) × (is_stated self.old.lifecycle.faults.attach device ≡ false)) }
-        ensures memory { result ≢ Ready.OutOfMemory }
-        ensures rest { ChangedByAttach (was_refused result) self.old self.new }
+        ensures step { TapeAttaches self.old device spec.now result self.new }
     {
         if !is_device(&self.config, device, spec) || self.lifecycle.attach_fails(device) {
             self.device_faults = faults_after(self.device_faults, true);
@@ -407,9 +424,7 @@ impl Live for Tape {
             (lifecycle_told self.new) }
         ensures cause { result ≡ Ready.Failed → FaultCounted self.old.device_faults self.new.device_faults }
         ensures counts { NoCountFalls self.old self.new }
-        ensures answer { (result ≡ Ready.Done) ↔ (spec_has_line self.old.config device ≡ true) }
-        ensures memory { result ≢ Ready.OutOfMemory }
-        ensures rest { ChangedByAttach (was_refused result) self.old self.new }
+        ensures step { TapeAttachesLine self.old device result self.new }
     {
         if !has_line(self.config.as_slice(), device) {
             self.device_faults = faults_after(self.device_faults, true);
@@ -425,17 +440,7 @@ impl Live for Tape {
         ensures lifecycle { Appended (lifecycle_told self.old) (waited more result) (lifecycle_told self.new) }
         ensures cause { result ≡ Waited.Failed → FaultCounted self.old.lifecycle.wait_faults self.new.lifecycle.wait_faults }
         ensures counts { NoCountFalls self.old self.new }
-        ensures answer { result ≡ wait_answer self.old }
-        ensures rest { self.new ≡ record self.old {
-          left = left_after self.old;
-          log = self.new.log;
-          outside = waited_outside self.old;
-          lifecycle = record self.old.lifecycle {
-            entries = self.new.lifecycle.entries;
-            waits = next_count self.old.lifecycle.waits;
-            wait_faults = faults_after self.old.lifecycle.wait_faults (wait_fails self.old);
-          };
-        } }
+        ensures step { TapeWaits self.old result self.new }
     {
         if self.lifecycle.wait_fails() {
             return Waited::Failed;

@@ -4,7 +4,7 @@ ghost use Rattle.std.specs.declared.option.Option.TheVariants.{None, Some};
 ghost use Rattle.arrayvec.specs.ArrayVec.{array_vec_len};
 ghost use Rattle.af_io.specs.Observed.{Appended, CountsOneFault, next_count};
 ghost use Rattle.af_process.specs.Acts.{told_of, noted, began, given, finished, began_got, status_of, is_given, words_of, started_after, IsNextChild, RunsWhereTold};
-ghost use Rattle.af_process.specs.Memory.{status_at, ended_after};
+ghost use Rattle.af_process.specs.Memory.{MemStarts, MemGives, MemFinishes};
 
 use crate::{Act, BeganGot, Finished, Spawner, Started, Words, acts};
 use af_io::{Calls, Notes, Put, Stated};
@@ -93,9 +93,17 @@ impl Spawner for MemSpawner {
 
     ghost faults = { λ spawner. spawner.faults };
 
+    ghost notes = { λ before _ after. after ≡ record before { acts = after.acts } };
+
+    ghost starts = { λ before _ answer after. MemStarts before answer after };
+
+    ghost gives = { λ before _ _ answer after. MemGives before answer after };
+
+    ghost finishes = { λ before _ answer after. MemFinishes before answer after };
+
     fn note(&mut self, sound: &[u8])
         ensures acts { Appended self.old.acts (noted sound.now ∷ []) self.new.acts }
-        ensures rest { self.new ≡ record self.old { acts = self.new.acts } }
+        ensures step { self.new ≡ record self.old { acts = self.new.acts } }
     {
         let act = acts::noted(self.notes.allocator(), sound);
         self.notes.add(act);
@@ -105,17 +113,7 @@ impl Spawner for MemSpawner {
         requires { 1 ≤ array_vec_len words.now }
         ensures acts { Appended self.old.acts (began (words_of words.now) (began_got result) ∷ []) self.new.acts }
         ensures next { IsNextChild self.old.acts result }
-        ensures faults { CountsOneFault (result ≡ Started.Failed) self.old.faults self.new.faults }
-        ensures failed { (result ≡ Started.Failed) ↔ (Contains self.old.fails self.old.calls ⊎ (self.old.started ≡ 2 ^ 32 - 1)) }
-        ensures child { result ≢ Started.Failed → result ≡ Started.Child self.old.started }
-        ensures calls { self.new.calls ≡ next_count self.old.calls }
-        ensures rest { self.new
-            ≡ record self.old {
-              acts = self.new.acts;
-              calls = self.new.calls;
-              faults = self.new.faults;
-              started = started_after self.old.started result;
-            } }
+        ensures step { MemStarts self.old result self.new }
     {
         let number = self.started;
         let is_refused = number == u32::MAX;
@@ -132,10 +130,7 @@ impl Spawner for MemSpawner {
     fn give(&mut self, child: u32, bytes: &[u8]) -> Put
         requires { RunsWhereTold child self.old.acts }
         ensures acts { Appended self.old.acts (given child bytes.now (is_given result) ∷ []) self.new.acts }
-        ensures faults { CountsOneFault (result ≡ Put.Failed) self.old.faults self.new.faults }
-        ensures failed { (result ≡ Put.Failed) ↔ Contains self.old.fails self.old.calls }
-        ensures calls { self.new.calls ≡ next_count self.old.calls }
-        ensures rest { self.new ≡ record self.old { acts = self.new.acts; calls = self.new.calls; faults = self.new.faults } }
+        ensures step { MemGives self.old result self.new }
     {
         let fails = self.calls.next_fails(self.fails.as_slice());
         let act = acts::given(self.notes.allocator(), child, bytes, !fails);
@@ -146,17 +141,7 @@ impl Spawner for MemSpawner {
     fn finish(&mut self, child: u32) -> Finished
         requires { RunsWhereTold child self.old.acts }
         ensures acts { Appended self.old.acts (finished child (status_of result) ∷ []) self.new.acts }
-        ensures faults { CountsOneFault (result ≡ Finished.Failed) self.old.faults self.new.faults }
-        ensures failed { (result ≡ Finished.Failed) ↔ Contains self.old.fails self.old.calls }
-        ensures status { result ≢ Finished.Failed → result ≡ Finished.Ended (status_at self.old.statuses self.old.ended) }
-        ensures calls { self.new.calls ≡ next_count self.old.calls }
-        ensures rest { self.new
-            ≡ record self.old {
-              acts = self.new.acts;
-              calls = self.new.calls;
-              faults = self.new.faults;
-              ended = ended_after self.old.ended result;
-            } }
+        ensures step { MemFinishes self.old result self.new }
     {
         if self.calls.next_fails(self.fails.as_slice()) {
             self.notes.add(Ok(Act::Finished {

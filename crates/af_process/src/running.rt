@@ -1,6 +1,7 @@
 // Child programs that run, each under its number.
 ghost use Rattle.std.specs.Prelude.{◌≡◌, ◌≤◌, ◌<◌, ◌^◌, ◌-◌, ℕ, length, IfSome};
 ghost use Rattle.arrayvec.specs.ArrayVec.{array_vec_len};
+ghost use Rattle.af_process.specs.Memory.{shell_status, EndsAsTold};
 
 use crate::{Finished, Started, Words, command_of};
 use af_io::{Put, Sink, StdSink};
@@ -117,7 +118,9 @@ fn taken<P: OpenProcess + Drop>(
 pub(crate) fn finish<P: OpenProcess + Drop>(
     children: &mut Option<Vec<RunningChild<P>>>,
     number: u32,
-) -> Finished {
+) -> Finished
+    ensures { EndsAsTold result }
+{
     let Some(child) = taken(children, number) else {
         return Finished::Failed;
     };
@@ -134,7 +137,9 @@ pub(crate) fn finish<P: OpenProcess + Drop>(
 }
 
 /// The status of a program as a shell tells it: of one that a signal ended, 128 and the signal.
-pub fn shell_status(status: ExitStatus) -> i32 {
+pub fn shell_status(status: ExitStatus) -> i32
+    ensures { result ≡ shell_status status }
+{
     match status.code() {
         Some(code) => code,
         None => 128 + status.signal().unwrap_or(0),

@@ -2,6 +2,9 @@
 ghost use Rattle.std.specs.Prelude.{◌≡◌, ◌≤◌, ◌^◌, ◌-◌, ℕ, List, [], ◌∷◌};
 ghost use Rattle.std.specs.declared.option.Option.{Option};
 ghost use Rattle.arrayvec.specs.ArrayVec.{array_vec_len};
+ghost use Rattle.af_io.specs.declared.flow.Put.{Put};
+ghost use Rattle.af_process.specs.declared.spawner.Started.{Started};
+ghost use Rattle.af_process.specs.declared.spawner.Finished.{Finished};
 ghost use Rattle.af_process.specs.Acts.{Told};
 
 use crate::Words;
@@ -38,11 +41,25 @@ pub trait Spawner {
     /// How often a call has failed.
     ghost faults: { Self → ℕ };
 
+    /// Noting this sound leads from the first spawner to the second. What that says is for each spawner to state. One that stands
+    /// over another has just the calls of that one.
+    ghost notes: { Self → List ℕ → Self → Type 0 };
+
+    /// A start by this command line, with this answer, leads from the first spawner to the second.
+    ghost starts: { Self → List (List ℕ) → Started → Self → Type 0 };
+
+    /// Giving a child this piece, with this answer, leads from the first spawner to the second.
+    ghost gives: { Self → ℕ → List ℕ → Put → Self → Type 0 };
+
+    /// Waiting for the end of a child, with this answer, leads from the first spawner to the second.
+    ghost finishes: { Self → ℕ → Finished → Self → Type 0 };
+
     /// Notes a sound that is to be given to a child.
     fn note(&mut self, sound: &[u8])
         ensures acts { Appended (acts self.old) (noted sound.now ∷ []) (acts self.new) }
         ensures started { started self.new ≡ started self.old }
-        ensures count { faults self.old ≤ faults self.new };
+        ensures count { faults self.old ≤ faults self.new }
+        ensures step { notes self.old sound.now self.new };
 
     /// Starts a child. Children are numbered 0, 1, .. in the order of their starts, at most 2^32 - 1 of them. A start beyond
     /// these fails.
@@ -54,7 +71,8 @@ pub trait Spawner {
         ensures most { started self.old ≡ 2 ^ 32 - 1 → result ≡ Started.Failed }
         ensures started { started self.new ≡ started_after (started self.old) result }
         ensures count { faults self.old ≤ faults self.new }
-        ensures cause { result ≡ Started.Failed → FaultCounted (faults self.old) (faults self.new) };
+        ensures cause { result ≡ Started.Failed → FaultCounted (faults self.old) (faults self.new) }
+        ensures step { starts self.old (words_of words.now) result self.new };
 
     /// Gives a child the whole piece where it answers Done, and a prefix of it where it answers Failed.
     fn give(&mut self, child: u32, bytes: &[u8]) -> Put
@@ -62,7 +80,8 @@ pub trait Spawner {
         ensures acts { Appended (acts self.old) (given child bytes.now (is_given result) ∷ []) (acts self.new) }
         ensures started { started self.new ≡ started self.old }
         ensures count { faults self.old ≤ faults self.new }
-        ensures cause { result ≡ Put.Failed → FaultCounted (faults self.old) (faults self.new) };
+        ensures cause { result ≡ Put.Failed → FaultCounted (faults self.old) (faults self.new) }
+        ensures step { gives self.old child bytes.now result self.new };
 
     /// Closes a child's input and waits for its end.
     fn finish(&mut self, child: u32) -> Finished
@@ -70,5 +89,6 @@ pub trait Spawner {
         ensures acts { Appended (acts self.old) (finished child (status_of result) ∷ []) (acts self.new) }
         ensures started { started self.new ≡ started self.old }
         ensures count { faults self.old ≤ faults self.new }
-        ensures cause { result ≡ Finished.Failed → FaultCounted (faults self.old) (faults self.new) };
+        ensures cause { result ≡ Finished.Failed → FaultCounted (faults self.old) (faults self.new) }
+        ensures step { finishes self.old child result self.new };
 }

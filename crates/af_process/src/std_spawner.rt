@@ -2,8 +2,7 @@
 ghost use Rattle.std.specs.Prelude.{◌≡◌, ◌≤◌, ◌^◌, ◌-◌, ℕ};
 ghost use Rattle.std.specs.declared.option.Option.TheVariants.{None};
 ghost use Rattle.arrayvec.specs.ArrayVec.{array_vec_len};
-ghost use Rattle.af_io.specs.Observed.{CountsOneFault};
-ghost use Rattle.af_process.specs.Acts.{started_after};
+ghost use Rattle.af_process.specs.Memory.{StdStarts, StdGives, StdFinishes};
 
 use crate::running::{RunningChild, finish, give, start};
 use crate::{Finished, Spawner, Started, Words};
@@ -58,16 +57,21 @@ impl<R: Processes + Drop> Spawner for StdSpawner<R> {
 
     ghost faults = { λ spawner. spawner.faults };
 
+    ghost notes = { λ before _ after. after ≡ before };
+
+    ghost starts = { λ before _ answer after. StdStarts before answer after };
+
+    ghost gives = { λ before _ _ answer after. StdGives before answer after };
+
+    ghost finishes = { λ before _ answer after. StdFinishes before answer after };
+
     fn note(&mut self, _sound: &[u8])
-        ensures same { self.new ≡ self.old }
+        ensures step { self.new ≡ self.old }
     {}
 
     fn start(&mut self, alloc: Global, words: &Words) -> Started
         requires { 1 ≤ array_vec_len words.now }
-        ensures faults { CountsOneFault (result ≡ Started.Failed) self.old.faults self.new.faults }
-        ensures number { (child : ℕ) → result ≡ Started.Child child → child ≡ self.old.started }
-        ensures most { self.old.started ≡ 2 ^ 32 - 1 → result ≡ Started.Failed }
-        ensures started { self.new.started ≡ started_after self.old.started result }
+        ensures step { StdStarts self.old result self.new }
     {
         let number = self.started;
         let started = start(&self.rt, alloc, words, number, &mut self.children);
@@ -79,8 +83,7 @@ impl<R: Processes + Drop> Spawner for StdSpawner<R> {
     }
 
     fn give(&mut self, child: u32, bytes: &[u8]) -> Put
-        ensures faults { CountsOneFault (result ≡ Put.Failed) self.old.faults self.new.faults }
-        ensures started { self.new.started ≡ self.old.started }
+        ensures step { StdGives self.old result self.new }
     {
         let put = give(&mut self.children, child, bytes);
         self.faults = faults_after(self.faults, put == Put::Failed);
@@ -88,8 +91,7 @@ impl<R: Processes + Drop> Spawner for StdSpawner<R> {
     }
 
     fn finish(&mut self, child: u32) -> Finished
-        ensures faults { CountsOneFault (result ≡ Finished.Failed) self.old.faults self.new.faults }
-        ensures started { self.new.started ≡ self.old.started }
+        ensures step { StdFinishes self.old result self.new }
     {
         let finished = finish(&mut self.children, child);
         self.faults = faults_after(self.faults, finished == Finished::Failed);

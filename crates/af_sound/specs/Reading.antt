@@ -163,15 +163,19 @@ place_after_byte (Bad fault) byte = Bad fault
 
 -- what a reader says at a place
 abbrev pub step_at : Place → HeadStep
+step_at (Field of part) = step.More
+step_at (Annotation left head) = step.More
+step_at (Chunk left format) = step.More
 step_at (Head head) = step.Head head
 step_at (Bad fault) = step.Bad fault
-step_at _ = step.More
 
 -- whether a place is within a header
 abbrev pub is_inside : Place → Bool
+is_inside (Field of part) = true
+is_inside (Annotation left head) = true
+is_inside (Chunk left format) = true
 is_inside (Head head) = false
 is_inside (Bad fault) = false
-is_inside _ = true
 
 abbrev pub start : SoundForm → Place
 start form.Au = field_start (field.Au au.Name)

@@ -4,7 +4,7 @@ use Rattle.std.specs.Int.{w16, w32, to_be_bytes, to_le_bytes}
 use Rattle.af_sound.specs.declared.head.SoundForm.{SoundForm}
 use Rattle.af_sound.specs.declared.head.SoundForm.TheVariants.{Au, Wave}
 use Rattle.af_sound.specs.declared.head.Coding.{Coding}
-use Rattle.af_sound.specs.declared.head.Coding.TheVariants.{Mu255, Alaw, Lin16Big, Lin16Little}
+use Rattle.af_sound.specs.declared.head.Coding.TheVariants.{Mu255, Alaw, Lin16Big, Lin16Little, U8}
 use Rattle.af_sound.specs.declared.head.SoundHead.{SoundHead}
 use Rattle.af_sound.specs.Fields.{has_shape, unknown_length}
 
@@ -13,8 +13,10 @@ abbrev pub is_written : SoundForm → Coding → Bool
 is_written form Mu255 = true
 is_written form Alaw = true
 is_written Au Lin16Big = true
+is_written Wave Lin16Big = false
+is_written Au Lin16Little = false
 is_written Wave Lin16Little = true
-is_written _ _ = false
+is_written form U8 = false
 
 -- a length that differs from the number for one that is not known
 abbrev pub IsStatable : Option ℕ → Type 0
@@ -37,23 +39,29 @@ abbrev pub size_of : Option ℕ → ℕ
 size_of (Some length) = length
 size_of None = unknown_length
 
--- the number of a coding in an .au file
+-- the number of a coding in an .au file, if it is written in one
 abbrev pub encoding_of : Coding → ℕ
 encoding_of Mu255 = 1
 encoding_of Alaw = 27
-encoding_of _ = 3
+encoding_of Lin16Big = 3
+encoding_of Lin16Little = 3
+encoding_of U8 = 3
 
--- the tag of a coding in a WAVE file
+-- the tag of a coding in a WAVE file, if it is written in one
 abbrev pub tag_of : Coding → ℕ
 tag_of Mu255 = 7
 tag_of Alaw = 6
-tag_of _ = 1
+tag_of Lin16Big = 1
+tag_of Lin16Little = 1
+tag_of U8 = 1
 
 -- the bytes of a sample in a file
 abbrev pub sample_size : Coding → ℕ
+sample_size Mu255 = 1
+sample_size Alaw = 1
 sample_size Lin16Big = 2
 sample_size Lin16Little = 2
-sample_size _ = 1
+sample_size U8 = 1
 
 -- a length made even
 abbrev pub even_length : ℕ → ℕ

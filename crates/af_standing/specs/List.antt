@@ -1,5 +1,5 @@
 -- What list does: for each device of the server, in the order of numbers, it asks for its state and its time, and writes a line.
-use Rattle.std.specs.Prelude.{◌≡◌, ⊤, ℕ, ◌+◌, Bool, true, List, [], ◌∷◌, ◌++◌, codes, decimal, is_some}
+use Rattle.std.specs.Prelude.{◌≡◌, ◌⊎◌, ⊤, ℕ, length, Ok, ◌+◌, Bool, true, List, [], ◌∷◌, ◌++◌, codes, decimal, is_some}
 use Rattle.std.specs.declared.option.Option.{Option}
 use Rattle.std.specs.declared.option.Option.TheVariants.{None, Some}
 use Rattle.af_sample.specs.declared.sample_type.SampleType.{SampleType}
@@ -13,6 +13,7 @@ use Rattle.af_toolkit.specs.declared.end.ToolEnd.TheVariants as end
 use Rattle.af_dialogue.specs.Parts.{goes_on, has_value}
 use Rattle.af_toolkit.specs.Trace.{Trace, ClientState, done, ends, refused}
 use Rattle.af_toolkit.specs.ToolParts.{ToolPart, asks, doing, trace_of, writes}
+use Rattle.af_toolkit.specs.Steps.{WroteThrough}
 use Rattle.af_toolkit.specs.Ends.{client_of, is_of_link_or_sink, ToolRan}
 use Rattle.af_standing.specs.declared.controls_report.ControlsReport.{ControlsReport}
 use Rattle.af_standing.specs.ControlsReport.{asks_controls_report, control_text, phone_text}
@@ -86,3 +87,28 @@ abbrev pub RunsList : {L K : Type 0} → (left sent : L → Option (List ℕ)) �
     ToolEnd → (conn conn' : ConnState L) → (sink sink' : K) → Type 0
 RunsList left sent held how conn conn' sink sink' = (input : List ℕ) → left conn.link ≡ Some input →
     ListRan conn.devices (client_of conn input) how (sent conn.link) (sent conn'.link) (held sink) (held sink')
+
+-- these bytes are what is sent for the next device, which has this number, or the first of that; none, if no device is left
+abbrev pub AsksNext : (number : ℕ) → List DeviceInfo → ClientState → List ℕ → Type 0
+AsksNext number [] v asked = asked ≡ []
+AsksNext number (device ∷ more) v asked = (rest : List ℕ) × ((tells_device number device v).did.sends ≡ asked ++ rest)
+
+-- The line of each of some devices was written, and at most the next device was asked for since. Nothing more was written but by
+-- a sink that failed.
+pub record ListsInStep (devices : List DeviceInfo) (w : ClientState) (failed : Type 0)
+    (sent sent' held held' : Option (List ℕ)) : Type 0 where
+  pub told : List DeviceInfo
+  pub others : List DeviceInfo
+  pub all : devices ≡ told ++ others
+  pub asked : List ℕ
+  pub written : List ℕ
+  pub past : WroteThrough (tells_from 0 told) w asked written sent sent' held held'
+  pub next : (v : ClientState) × ((tells_from 0 told w).end ≡ Ok (tt, v)) × AsksNext (length told) others v asked
+  pub kept : failed ⊎ (written ≡ [])
+
+-- the same of list over a connection whose link is observable
+abbrev pub RunsInStep : {L K : Type 0} → (left sent : L → Option (List ℕ)) → (held : K → Option (List ℕ)) →
+    ToolEnd → (conn conn' : ConnState L) → (sink sink' : K) → Type 0
+RunsInStep left sent held how conn conn' sink sink' = (input : List ℕ) → left conn.link ≡ Some input →
+    ListsInStep conn.devices (client_of conn input) (how ≡ end.SinkFault) (sent conn.link) (sent conn'.link)
+    (held sink) (held sink')

@@ -1,2 +1,3 @@
 pub mod ToolPartLemmas
 pub mod ToolEndLemmas
+pub mod StepLemmas

@@ -3,3 +3,4 @@ pub mod Ends
 pub mod ToolParts
 pub mod Device
 pub mod Talk
+pub mod Steps

@@ -21,6 +21,7 @@ use Rattle.af_toolkit.specs.declared.end.ToolEnd.TheVariants as end
 use Rattle.af_toolkit.specs.Trace.{bad_sound, sound_cut, too_long}
 use Rattle.af_tools.specs.declared.sound.FileHead.{FileHead}
 use Rattle.af_tools.specs.Sounds.{most_bytes, header_or_end, reads_front}
+use Rattle.af_tools.specs.Steps.{GaveHead}
 use Rattle.af_tools.specs.Reading.{ConsumedCut, ConsumedFault, ConsumedHead, EndShows, HeadCame}
 
 -- a reader has taken what a source gave
@@ -162,3 +163,48 @@ module _ {form : SoundForm} {reader : HeadReader} {size : ℕ} {a b : Option (Li
 
   pub takes_failed : EndShows (Some form) (IsErrOf {T = FileHead} (Err end.ReadFault)) a c
   takes_failed = record { bad = λ fault is. cc is; cut = λ is. cc is; long = λ is. cc is; within = λ _. read_within (read_none h none) few }
+
+-- at most the header was read
+module _ {form : SoundForm} {reader : HeadReader} {size : ℕ} {a b : Option (List ℕ)} (h : HasRead form reader size a b) (opens : IsOpen reader) (bytes : List ℕ) (told : a ≡ Some bytes) where
+  front_opens : (rest : List ℕ) → length h.bytes ≤ (front_of form (h.bytes ++ rest)).size
+  front_opens [] = (let all = ap (λ (f : Front). f.size) (ap (front_of form) (append-nil h.bytes) ∙ front_open form reader h.bytes h.taken opens) in omega arith)
+  front_opens (byte ∷ rest) = (let beyond = front_beyond form reader h.bytes byte rest h.taken opens in omega arith)
+
+  pub gave_open : {c : Option (List ℕ)} → Consumed b [] c → IsSome c → GaveHead (Some form) bytes c
+  gave_open {c} none tells =
+      let all = subst (λ (l : List ℕ). Consumed a l c) (append-nil h.bytes) (consumed_on a b c h.bytes [] h.consumed none) in
+      let k = consumed_known a c bytes h.bytes told all tells in
+      record {
+        read = h.bytes;
+        gave = subst (λ (o : Option (List ℕ)). Consumed o h.bytes c) told all;
+        within = subst (λ (l : List ℕ). length h.bytes ≤ (front_of form l).size) (sym k.2) (front_opens k.0);
+      }
+
+  module _ {byte : ℕ} {c : Option (List ℕ)} (more : IsByteRead byte b c) (tells : IsSome c) where
+    gave_byte : (k : List ℕ) → bytes ≡ (h.bytes ++ (byte ∷ [])) ++ k → length (h.bytes ++ (byte ∷ [])) ≤ (front_of form ((h.bytes ++ (byte ∷ [])) ++ k)).size → GaveHead (Some form) bytes c
+    gave_byte k is within = record {
+      read = h.bytes ++ (byte ∷ []);
+      gave = subst (λ (o : Option (List ℕ)). Consumed o (h.bytes ++ (byte ∷ [])) c) told (consumed_on a b c h.bytes (byte ∷ []) h.consumed more.consumed);
+      within = subst (λ (l : List ℕ). length (h.bytes ++ (byte ∷ [])) ≤ (front_of form l).size) (sym is) within;
+    }
+
+    pub gave_long : GaveHead (Some form) bytes c
+    gave_long =
+        let k = consumed_known a c bytes (h.bytes ++ (byte ∷ [])) told (consumed_on a b c h.bytes (byte ∷ []) h.consumed more.consumed) tells in
+        let beyond = front_beyond form reader h.bytes byte k.0 h.taken opens in
+        let long = length-append h.bytes (byte ∷ []) in
+        gave_byte k.0 k.2 (subst (λ (l : List ℕ). length (h.bytes ++ (byte ∷ [])) ≤ (front_of form l).size) (sym (append_assoc h.bytes (byte ∷ []) k.0)) (omega arith))
+
+    pub gave_bad : (fault : SoundFault) → HasFault form (h.bytes ++ (byte ∷ [])) fault → GaveHead (Some form) bytes c
+    gave_bad fault has =
+        let k = consumed_known a c bytes (h.bytes ++ (byte ∷ [])) told (consumed_on a b c h.bytes (byte ∷ []) h.consumed more.consumed) tells in
+        let size = ap (λ (f : Front). f.size) (front_fault form (h.bytes ++ (byte ∷ [])) k.0 fault has) in
+        gave_byte k.0 k.2 (omega arith)
+
+-- a whole header was read
+pub gave_head : {form : SoundForm} {bytes : List ℕ} {file : FileHead} {len : Option ℕ} {a b : Option (List ℕ)} → a ≡ Some bytes → ConsumedHead (Some form) file.size len a b → HeadCame form bytes (Ok file) b → GaveHead (Some form) bytes b
+gave_head {b = b} told head came = record {
+  read = head.bytes;
+  gave = subst (λ (o : Option (List ℕ)). Consumed o head.bytes b) told head.consumed;
+  within = (let all = head.all in let size = ap (λ (f : Front). f.size) came.0 in omega arith);
+}

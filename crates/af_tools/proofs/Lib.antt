@@ -1,8 +1,11 @@
 pub mod EndLemmas
 pub mod PlayBlockLemmas
 pub mod PlayStepLemmas
+pub mod InStepLemmas
+pub mod BegunLemmas
 pub mod PlayTailLemmas
 pub mod RecordBlockLemmas
+pub mod WriteStepLemmas
 pub mod TraceEndLemmas
 pub mod DeviceChoiceLemmas
 pub mod FiledLemmas
@@ -17,3 +20,4 @@ pub mod HeadReadLemmas
 pub mod SoundFitLemmas
 pub mod SourceCountLemmas
 pub mod UnreadLemmas
+pub mod RunStepLemmas

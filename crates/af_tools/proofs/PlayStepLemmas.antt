@@ -157,6 +157,9 @@ module _ {part : PlayPart ℕ} {coding : Option Coding} {width start size frames
       play_refused same goes = reached_goes is_play _ f.reached (rw asked_next (goes_stop is_play (λ _. later) same (play_goes goes)))
 
       module _ {now : DevTime} (goes : Goes (tooling refused) played (Ok now) p q) where
+        pub play_reached : {given' : ℕ} → given + n ≡ given' → Reached (tooling play_finish) part (plays coding width start (frames + n / width) given' (blocks size (stated_part (stated_after of n) f.after))) o q
+        play_reached count = rw (← count) (reached_on is_play (λ _. later) (rw asked_next at f.reached) (play_goes goes))
+
         play_on : {given' : ℕ} {of' : Option ℕ} → given + n ≡ given' → of' ≡ stated_after of n → IsPlaying part coding width start size (frames + n / width) given' of' left o q
         play_on count same = record { rest = f.after; is_left = f.is_left; reached = rw (same, ← count) (reached_on is_play (λ _. later) (rw asked_next at f.reached) (play_goes goes)) }
 

@@ -29,7 +29,7 @@ read_before block None = tt
 read_before block (Some rest) = refl
 
 -- what a source gave, with a block that was read first
-consumed_first : (a b c : Option (List ℕ)) (block all : List ℕ) → Consumed a block b → Consumed (left_before block b) all c → Consumed a all c
+pub consumed_first : (a b c : Option (List ℕ)) (block all : List ℕ) → Consumed a block b → Consumed (left_before block b) all c → Consumed a all c
 consumed_first a b None block all h k = tt
 consumed_first a None (Some z) block all h k = absurd k
 consumed_first None (Some y) (Some z) block all h k = absurd h
@@ -127,7 +127,7 @@ rest_on of left after given n is then = then ∙ ap (λ (l : Option ℕ). stated
   twice (Some m) = ap (λ (k : ℕ). Some k) (let same : m - given - n ≡ m - (given + n) = omega arith in same)
 
 -- all that was stated was given
-stated_all : (of left : Option ℕ) (given : ℕ) {n : ℕ} (c : Option (List ℕ)) → left ≡ stated_after of given → FitsStated of given → IsSpent c ⊎ (left ≡ Some n) → IsSpent c ⊎ (of ≡ Some (given + n))
+pub stated_all : (of left : Option ℕ) (given : ℕ) {n : ℕ} (c : Option (List ℕ)) → left ≡ stated_after of given → FitsStated of given → IsSpent c ⊎ (left ≡ Some n) → IsSpent c ⊎ (of ≡ Some (given + n))
 stated_all of left given c is fits (inl spent) = inl spent
 stated_all None left given {n} c is fits (inr all) = absurd (let bad : (let o : Option ℕ = None in o) ≡ Some n = sym is ∙ all in cc)
 stated_all (Some m) left given {n} c is fits (inr all) =

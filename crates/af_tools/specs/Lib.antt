@@ -1,6 +1,9 @@
 pub mod Sounds
 pub mod Play
 pub mod Reading
+pub mod Steps
 pub mod Record
+pub mod RecordSteps
 pub mod Set
 pub mod Run
+pub mod RunSteps

@@ -14,6 +14,7 @@ use Rattle.af_tools.specs.declared.fill.FillFault.TheVariants as fill
 use Rattle.af_tools.specs.Sounds.{most_bytes, stated_room, FitsStated, IsPlayable, reads_front, reads_sound}
 use Rattle.af_lib.specs.Calls.{ConnState, as_done}
 use Rattle.af_toolkit.specs.Trace.{Trace, ClientState, Finish, answer_on, bad_sound, channel_mismatch, client_after_setup}
+use Rattle.af_toolkit.specs.Trace.{done, not_dialled, refused, too_long}
 use Rattle.af_toolkit.specs.Trace.{mismatch, no_device, setup_answer, sound_cut, tool_end}
 use Rattle.af_toolkit.specs.Ends.{client_of, is_of_link, is_of_link_or_sink, is_outer, EndsFor, ObservedTrace, ToolRan}
 use Rattle.af_toolkit.specs.ToolParts.{tool_sight, tooling}
@@ -73,6 +74,7 @@ pub record FillsBlock (room allowed : ℕ) (len : Option ℕ) (result : Result �
   pub had : IfOk result (λ count. IsFirstBlock room allowed len count bytes before after)
   pub long : IsErrOf result fill.TooLong → ConsumedAbove allowed (stated_room len room) before after
   pub cut : IsErrOf result fill.ReadFault → ConsumedWithin allowed before after
+  pub part : IsErrOf result fill.ReadFault → ConsumedWithin room before after
 
 -- bytes that are read before a sound: none, or a header that states this length
 abbrev pub HeadIs : Option SoundForm → List ℕ → Option ℕ → Type 0
@@ -232,7 +234,10 @@ is_unfit (mismatch from to) = true
 is_unfit (channel_mismatch from to) = true
 is_unfit (bad_sound fault) = true
 is_unfit sound_cut = true
-is_unfit _ = false
+is_unfit done = false
+is_unfit not_dialled = false
+is_unfit too_long = false
+is_unfit (refused fault) = false
 
 -- A tool ends for an unfit device or source exactly where its trace does, unless something from outside has ended it.
 pub record EndsIfUnfit (trace : Trace) (how : ToolEnd) : Type 0 where

@@ -32,15 +32,20 @@ use Rattle.af_toolkit.specs.Ends.{client_of}
 
 -- the type that is recorded: in a file, samples of 32 bits become samples of 16
 abbrev pub recorded_type : Option SoundForm → SampleType → SampleType
+recorded_type (Some form) ty.Mu255 = ty.Mu255
+recorded_type (Some form) ty.Alaw = ty.Alaw
+recorded_type (Some form) ty.Lin16 = ty.Lin16
 recorded_type (Some form) ty.Lin32 = ty.Lin16
-recorded_type form ty = ty
+recorded_type None ty = ty
 
 -- the coding of a sample type in a file: 16 bits have the most significant byte first in an .au file, and last in a WAVE file
 abbrev pub coding_in : SoundForm → SampleType → Coding
 coding_in form ty.Mu255 = coding.Mu255
 coding_in form ty.Alaw = coding.Alaw
-coding_in Au _ = coding.Lin16Big
-coding_in Wave _ = coding.Lin16Little
+coding_in Au ty.Lin16 = coding.Lin16Big
+coding_in Au ty.Lin32 = coding.Lin16Big
+coding_in Wave ty.Lin16 = coding.Lin16Little
+coding_in Wave ty.Lin32 = coding.Lin16Little
 
 -- samples as they are written: as a file codes them, or raw
 abbrev pub as_filed : Option Coding → List ℕ → List ℕ
@@ -79,7 +84,8 @@ front_of_recording job device = option_map_or (λ form. written_head form (file_
 -- and after its n bytes: a byte that makes the sound of a WAVE file even
 abbrev pub pad_after : Option SoundForm → ℕ → List ℕ
 pad_after (Some Wave) size = if size % 2 == 1 then 0 ∷ [] else []
-pad_after form size = []
+pad_after (Some Au) size = []
+pad_after None size = []
 
 -- the recording of some samples: a sound file of them, or raw
 abbrev pub recording_of : RecordJob → DeviceInfo → List ℕ → List ℕ

@@ -81,7 +81,9 @@ run_trace (relay from to order job) links bytes = relay_trace order job links
 -- whether a tool reads its source
 abbrev pub reads_source : Task → Bool
 reads_source (task.Play job) = true
-reads_source _ = false
+reads_source (task.Record job) = false
+reads_source (task.Set job) = false
+reads_source task.List = false
 
 abbrev pub job_reads : Job → Bool
 job_reads (one server order task) = reads_source task
@@ -90,7 +92,9 @@ job_reads (relay from to order job) = false
 -- the form of the sound file that a tool reads, if it reads one
 abbrev pub source_form : Task → Option SoundForm
 source_form (task.Play job) = job.form
-source_form _ = None
+source_form (task.Record job) = None
+source_form (task.Set job) = None
+source_form task.List = None
 
 abbrev pub job_form : Job → Option SoundForm
 job_form (one server order task) = source_form task

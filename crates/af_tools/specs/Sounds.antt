@@ -28,7 +28,9 @@ most_bytes = 2 ^ 40
 abbrev pub served_type : Coding → SampleType
 served_type coding.Mu255 = ty.Mu255
 served_type coding.Alaw = ty.Alaw
-served_type _ = ty.Lin16
+served_type coding.Lin16Big = ty.Lin16
+served_type coding.Lin16Little = ty.Lin16
+served_type coding.U8 = ty.Lin16
 
 -- the bytes of a sound, of those after its header: as many as are stated, or all
 abbrev pub stated_part : Option ℕ → List ℕ → List ℕ

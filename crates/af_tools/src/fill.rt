@@ -68,6 +68,8 @@ fn fill_block<S: Source>(source: &mut S, block: &mut [u8], allowed: u64) -> Resu
     ensures long { IsErrOf result FillFault.TooLong →
         ConsumedAbove allowed (length block.new) (S.left source.old) (S.left source.new) }
     ensures cut { IsErrOf result FillFault.ReadFault → ConsumedWithin allowed (S.left source.old) (S.left source.new) }
+    ensures part { IsErrOf result FillFault.ReadFault →
+        ConsumedWithin (length block.new) (S.left source.old) (S.left source.new) }
     ensures fault { CountsFault (IsErrOf result FillFault.ReadFault) (S.faults source.old) (S.faults source.new) }
 {
     let mut filled = 0;

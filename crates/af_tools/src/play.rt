@@ -1,17 +1,18 @@
 // What a source gives is played, block by block.
 ghost use Rattle.std.specs.Prelude.{ℕ, List, ◌≡◌, ◌<◌, ◌≤◌, ◌*◌, ◌+◌, ◌-◌, ◌++◌, true, false, length, take, IfErr, IfOk, IsErrOf, Ok};
 ghost use Rattle.std.specs.declared.option.Option.{Option};
-ghost use Rattle.std.specs.declared.option.Option.TheVariants.{None};
+ghost use Rattle.std.specs.declared.option.Option.TheVariants.{None, Some};
 ghost use Rattle.af_io.specs.Observed.{CountsFault};
 ghost use Rattle.af_io.specs.Flow.{ConsumedWithin};
 ghost use Rattle.af_request.specs.Asked.{play_run};
 ghost use Rattle.af_lib.specs.Calls.{as_time};
-ghost use Rattle.af_toolkit.specs.Ends.{is_of_link, KeepsConnection};
+ghost use Rattle.af_toolkit.specs.Ends.{client_of, is_of_link, KeepsConnection};
 ghost use Rattle.af_toolkit.specs.ToolParts.{asks, GoesOver};
 ghost use Rattle.af_sound.specs.Served.{served_length};
 ghost use Rattle.af_tools.specs.Sounds.{most_bytes, as_served, block_bytes, served_room, AreWhole, IsServedAs};
 ghost use Rattle.af_tools.specs.Play.{plays_sound, IsBlock};
 ghost use Rattle.af_tools.specs.Reading.{left_before, FillsBlock, IsEarlyBlock, IsNextBlock, GoesReading, TakesSound, is_of_blocks};
+ghost use Rattle.af_tools.specs.Steps.{ReadsInStep};
 ghost use Rattle.af_cli.specs.Sizes.{greatest_block};
 
 use crate::fill::{FillFault, fill_stated, still_left};
@@ -131,6 +132,8 @@ pub fn read_early<S: Source>(
     ensures only { IsErrOf result FillFault.TooLong → ⊥ }
     ensures cut { IsErrOf result FillFault.ReadFault →
         ConsumedWithin (most_bytes - sound.head) (S.left source.old) (S.left source.new) }
+    ensures part { IsErrOf result FillFault.ReadFault →
+        ConsumedWithin (block_bytes sound block) (S.left source.old) (S.left source.new) }
     ensures fault { CountsFault (IsErrOf result FillFault.ReadFault) (S.faults source.old) (S.faults source.new) }
 {
     if sound.head > MOST_BYTES - GREATEST_BLOCK as u64 {
@@ -157,6 +160,7 @@ pub fn read_first<S: Source>(
     ensures fills { (before : Option (List ℕ)) → IsEarlyBlock (block_bytes sound block) (most_bytes - sound.head)
         sound.length early room.old before (S.left source.old) →
         FillsBlock (block_bytes sound block) (most_bytes - sound.head) sound.length result room.new before (S.left source.new) }
+    ensures early { IfErr result (λ _. early ≡ None) }
     ensures fault { CountsFault (IsErrOf result FillFault.ReadFault) (S.faults source.old) (S.faults source.new) }
 {
     match early {
@@ -184,6 +188,10 @@ pub fn play_blocks<L: Link + Drop, S: Source>(
         (λ bytes. plays_sound playback.sound playback.block playback.start.0 (take first room.old ++ bytes)) result }
     ensures takes { TakesSound playback.sound.length (most_bytes - playback.sound.head) result
         (left_before (take first room.old) (S.left source.old)) (S.left source.new) }
+    ensures step { (input : List ℕ) → L.left conn.old.link ≡ Some input → (steps : ReadsInStep playback.sound playback.block
+        (plays_sound playback.sound playback.block playback.start.0) (client_of conn.old input)
+        (IsErrOf result ToolEnd.ReadFault) ⊥ (left_before (take first room.old) (S.left source.old)) (S.left source.new)
+        (L.sent conn.old.link) (L.sent conn.new.link)) × (IsErrOf result ToolEnd.ReadFault → 1 ≤ length steps.played) }
     ensures holds { KeepsConnection L.left L.faults conn.old conn.new result }
     ensures end { IfErr result (λ how. is_of_blocks how ≡ true) }
     ensures fault { CountsFault (IsErrOf result ToolEnd.ReadFault) (S.faults source.old) (S.faults source.new) }

@@ -12,6 +12,7 @@ ghost use Rattle.af_toolkit.specs.ToolParts.{asks, GoesOver};
 ghost use Rattle.af_tools.specs.Play.{play_context, played_frames, plays_on, start_at, IsBlock};
 ghost use Rattle.af_tools.specs.Reading.{GivesContext, GoesReading, TakesSound, UsesSource, is_of_blocks, is_of_tool, LacksDevice, RunsAplay};
 ghost use Rattle.af_tools.specs.Sounds.{most_bytes, IsServedAs};
+ghost use Rattle.af_tools.specs.Steps.{PlaysInStep, RunsInStep};
 ghost use Rattle.af_cli.specs.Sizes.{greatest_block};
 
 use crate::play::{Playback, play_blocks, read_early, read_first};
@@ -113,6 +114,9 @@ fn play_on<L: Link + Drop, S: Source>(
     ensures takes { TakesSound plan.sound.length (most_bytes - plan.sound.head) result (S.left source.old) (S.left source.new) }
     ensures unread { (source.new ≡ source.old) ⊎ ((input : List ℕ) → L.left conn.old.link ≡ Some input →
         answer_on (play_context plan.job plan.sound.ty plan.sound.channels) as_done (client_of conn.old input) ≡ Ok tt) }
+    ensures step { (input : List ℕ) → L.left conn.old.link ≡ Some input → PlaysInStep plan.job plan.sound plan.device
+        (client_of conn.old input) (IsErrOf result ToolEnd.ReadFault) (S.left source.old) (S.left source.new)
+        (L.sent conn.old.link) (L.sent conn.new.link) }
     ensures holds { KeepsConnection L.left L.faults conn.old conn.new result }
     ensures end { IfErr result (λ how. is_of_blocks how ≡ true) }
     ensures fault { CountsFault (IsErrOf result ToolEnd.ReadFault) (S.faults source.old) (S.faults source.new) }
@@ -151,6 +155,9 @@ pub fn aplay<L: Link + Drop, S: Source, K: Sink>(
 
     // what was sent, written and heard, and when it is done
     ensures ran { RunsAplay L.left L.sent S.left K.held job.now result conn.old conn.new source.old source.new sink.old sink.new }
+
+    // in what order it read and sent
+    ensures step { RunsInStep L.left L.sent S.left job.now result conn.old conn.new source.old source.new }
 
     // each end has its cause
     ensures end { is_of_tool true result ≡ true }

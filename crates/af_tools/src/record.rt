@@ -1,14 +1,15 @@
 // Blocks are recorded, one after another, and written to the sink.
-ghost use Rattle.std.specs.Prelude.{◌≡◌, ◌<◌, ◌≤◌, ◌+◌, ◌*◌, ◌^◌, length, nat_lt, if◌then◌else◌, true, Err, IfErr};
+ghost use Rattle.std.specs.Prelude.{◌≡◌, ◌<◌, ◌≤◌, ◌+◌, ◌*◌, ◌^◌, ℕ, List, [], length, nat_lt, IsOk, if◌then◌else◌, true, Err, IfErr};
 ghost use Rattle.std.specs.declared.option.Option.{Option};
-ghost use Rattle.std.specs.declared.option.Option.TheVariants.{None};
+ghost use Rattle.std.specs.declared.option.Option.TheVariants.{None, Some};
 ghost use Rattle.af_io.specs.Observed.{CountsFault};
 ghost use Rattle.af_sample.specs.Channels.{IsChannelCount};
-ghost use Rattle.af_toolkit.specs.Ends.{is_of_link_or_sink, KeepsConnection};
+ghost use Rattle.af_toolkit.specs.Ends.{client_of, is_of_link, is_of_link_or_sink, KeepsConnection};
 ghost use Rattle.af_toolkit.specs.ToolParts.{GoesWriting};
-ghost use Rattle.af_tools.specs.Record.{IsFiledAs, peak, recorded_frame, records_all, takes_block};
+ghost use Rattle.af_tools.specs.Record.{IsFiledAs, block_lengths, peak, recorded_frame, records, records_all, takes_block};
+ghost use Rattle.af_tools.specs.RecordSteps.{WritesInStep};
 ghost use Rattle.af_tools.specs.Sounds.{AreWhole};
-ghost use Rattle.af_cli.specs.Sizes.{greatest_block};
+ghost use Rattle.af_cli.specs.Sizes.{block_frames, greatest_block};
 
 use crate::file::file_samples;
 use af_cli::{RecordJob, block_frames};
@@ -75,6 +76,7 @@ fn record_block<L: Link + Drop, K: Sink>(
     ensures holds { KeepsConnection L.left L.faults conn.old conn.new result }
     ensures end { IfErr result (λ how. is_of_link_or_sink how ≡ true) }
     ensures fault { CountsFault (result ≡ Err ToolEnd.SinkFault) (K.faults sink.old) (K.faults sink.new) }
+    ensures kept { IfErr result (λ how. is_of_link how ≡ true → sink.new ≡ sink.old) }
 {
     conn.record_run(CONTEXT, at, true, block)?;
     let peak = peak(sound.ty, block);
@@ -103,6 +105,10 @@ pub fn record_blocks<L: Link + Drop, K: Sink>(
     requires room { greatest_block ≤ length room.old }
     ensures goes { GoesWriting L.left L.sent K.held conn.old conn.new sink.old sink.new
         (records_all job.now sound start.0) result }
+    ensures step { (input : List ℕ) → L.left conn.old.link ≡ Some input → (steps : WritesInStep
+        (block_lengths (block_frames job.now.block (recorded_frame sound)) job.now.frames) (records job.now sound start.0 0 [])
+        (client_of conn.old input) (result ≡ Err ToolEnd.SinkFault) (L.sent conn.old.link) (L.sent conn.new.link)
+        (K.held sink.old) (K.held sink.new)) × (IsOk result → (steps.asked ≡ []) × (steps.written ≡ [])) }
     ensures holds { KeepsConnection L.left L.faults conn.old conn.new result }
     ensures end { IfErr result (λ how. is_of_link_or_sink how ≡ true) }
     ensures fault { CountsFault (result ≡ Err ToolEnd.SinkFault) (K.faults sink.old) (K.faults sink.new) }

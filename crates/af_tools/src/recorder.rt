@@ -1,13 +1,14 @@
 // arecord: blocks are recorded and written to the sink.
-ghost use Rattle.std.specs.Prelude.{◌≡◌, ◌≤◌, true, false, length, unwrap_or, Err, IfErr};
-ghost use Rattle.std.specs.declared.option.Option.TheVariants.{None};
+ghost use Rattle.std.specs.Prelude.{◌≡◌, ◌≤◌, ◌⊎◌, ℕ, List, [], true, false, length, unwrap_or, Err, IfErr, IsOk};
+ghost use Rattle.std.specs.declared.option.Option.TheVariants.{None, Some};
 ghost use Rattle.af_io.specs.Observed.{CountsFault};
 ghost use Rattle.af_request.specs.Replies.{IsDeviceInfo};
 ghost use Rattle.af_lib.specs.Calls.{device_channels};
 ghost use Rattle.af_toolkit.specs.Talk.{creates};
-ghost use Rattle.af_toolkit.specs.Ends.{is_of_link_or_sink, KeepsConnection};
+ghost use Rattle.af_toolkit.specs.Ends.{client_of, is_of_link_or_sink, KeepsConnection};
 ghost use Rattle.af_toolkit.specs.ToolParts.{GoesWriting};
 ghost use Rattle.af_tools.specs.Record.{arecord_trace, record_context, records_on, writes_recording, LeavesRecording};
+ghost use Rattle.af_tools.specs.RecordSteps.{RecordsInStep, RunsWriting, WritesInStep, job_lengths, writes_blocks};
 ghost use Rattle.af_tools.specs.Reading.{is_of_tool, LacksDevice, RunsTool};
 ghost use Rattle.af_cli.specs.Sizes.{greatest_block};
 
@@ -61,6 +62,11 @@ fn write_recording<L: Link + Drop, K: Sink>(
     requires room { greatest_block ≤ length room.old }
     ensures goes { GoesWriting L.left L.sent K.held conn.old conn.new sink.old sink.new
         (writes_recording job.now device start.0) result }
+    ensures step { (input : List ℕ) → L.left conn.old.link ≡ Some input →
+        ((IsOk result → ⊥) × (L.sent conn.new.link ≡ L.sent conn.old.link))
+        ⊎ ((steps : WritesInStep (job_lengths job.now device) (writes_blocks job.now device start.0) (client_of conn.old input)
+        (result ≡ Err ToolEnd.SinkFault) (L.sent conn.old.link) (L.sent conn.new.link) (K.held sink.old) (K.held sink.new))
+        × (IsOk result → steps.asked ≡ [])) }
     ensures holds { KeepsConnection L.left L.faults conn.old conn.new result }
     ensures end { IfErr result (λ how. is_of_link_or_sink how ≡ true) }
     ensures fault { CountsFault (result ≡ Err ToolEnd.SinkFault) (K.faults sink.old) (K.faults sink.new) }
@@ -88,6 +94,8 @@ fn record_on<L: Link + Drop, K: Sink>(
     requires room { greatest_block ≤ length room.old }
     ensures goes { GoesWriting L.left L.sent K.held conn.old conn.new sink.old sink.new
         (records_on job.now device) result }
+    ensures step { (input : List ℕ) → L.left conn.old.link ≡ Some input → RecordsInStep job.now device (client_of conn.old input)
+        (result ≡ Err ToolEnd.SinkFault) (L.sent conn.old.link) (L.sent conn.new.link) (K.held sink.old) (K.held sink.new) }
     ensures holds { KeepsConnection L.left L.faults conn.old conn.new result }
     ensures end { IfErr result (λ how. is_of_link_or_sink how ≡ true) }
     ensures fault { CountsFault (result ≡ Err ToolEnd.SinkFault) (K.faults sink.old) (K.faults sink.new) }
@@ -116,6 +124,9 @@ pub fn arecord<L: Link + Drop, K: Sink>(
     ensures ran { RunsTool L.left L.sent K.held (λ w. arecord_trace job.now conn.old.devices w)
         job.now.device result conn.old conn.new sink.old sink.new }
     ensures recorded { LeavesRecording L.left L.sent K.held job.now result conn.old conn.new sink.old sink.new }
+
+    // in what order it asked and wrote
+    ensures step { RunsWriting L.left L.sent K.held job.now result conn.old conn.new sink.old sink.new }
 
     // each end has its cause
     ensures end { is_of_tool false result ≡ true }

@@ -11,6 +11,7 @@ ghost use Rattle.af_cli.specs.Call.{job_of_call, IsCall};
 ghost use Rattle.af_cli.specs.Ranges.{IsAddress, IsRanged};
 ghost use Rattle.af_tools.specs.Reading.{FollowsTrace, TellsIfRead, UsesSource, DialGivesContext, GivesContext, JobReadsLate, ReadsLate, is_of_tool};
 ghost use Rattle.af_tools.specs.Run.{is_of_af, is_of_dial, is_of_far, is_of_job, job_form, job_reads, reads_source, servers_of, source_form, task_trace, AskedFor, DoesJob, EndsForCause, JobRan};
+ghost use Rattle.af_tools.specs.RunSteps.{JobInStep, SetUpThen, TaskSteps};
 ghost use Rattle.af_cli.specs.Sizes.{greatest_block};
 
 use crate::memory::Memory;
@@ -40,6 +41,10 @@ fn perform<L: Link + Drop, S: Source, K: Sink>(
     ensures followed { FollowsTrace L.left L.sent S.left K.held (reads_source task.now) result conn.old.link conn.new.link
         source.old source.new sink.old sink.new
         (λ input bytes. task_trace task.now conn.old.devices bytes (client_of conn.old input)) }
+    ensures step { (input bytes : List ℕ) → L.left conn.old.link ≡ Some input →
+        TellsIfRead S.left (reads_source task.now) bytes source.old source.new →
+        TaskSteps task.now conn.old.devices bytes (client_of conn.old input) result (S.left source.new)
+        (L.sent conn.old.link) (L.sent conn.new.link) (K.held sink.old) (K.held sink.new) }
     ensures end { is_of_tool (reads_source task.now) result ≡ true }
     ensures source { UsesSource S.left S.faults (reads_source task.now) (source_form task.now) result source.old source.new }
     ensures unread { ReadsLate task.now (λ play. (input : List ℕ) → L.left conn.old.link ≡ Some input →
@@ -69,6 +74,11 @@ fn perform_over<L: Link + Drop, S: Source, K: Sink>(
     ensures followed { FollowsTrace L.left L.sent S.left K.held (reads_source task.now) result.0 far result.1
         source.old source.new sink.old sink.new
         (λ input bytes. connects order input (λ devices w. task_trace task.now devices bytes w)) }
+    ensures step { (input bytes : List ℕ) → L.left far ≡ Some input →
+        TellsIfRead S.left (reads_source task.now) bytes source.old source.new →
+        SetUpThen order input ((source.new ≡ source.old) × (sink.new ≡ sink.old)) (λ devices w sent sent'.
+        TaskSteps task.now devices bytes w result.0 (S.left source.new) sent sent' (K.held sink.old) (K.held sink.new))
+        (L.sent far) (L.sent result.1) }
     ensures memory { result.0 ≡ ToolEnd.OutOfMemory → (L.sent result.1 ≡ L.sent far) × (sink.new ≡ sink.old) }
     ensures end { is_of_far (is_of_tool (reads_source task.now)) result.0 ≡ true }
     ensures source { UsesSource S.left S.faults (reads_source task.now) (source_form task.now) result.0 source.old source.new }
@@ -101,6 +111,8 @@ fn run_one<S: Source, K: Sink, D: Dial>(
         TellsIfRead S.left (reads_source call.now.task) bytes source.old source.new →
         JobRan (one call.now.server.now call.now.order call.now.task) bytes result links (D.links dial.new)
         (K.held sink.old) (K.held sink.new) (D.back dial.old) (D.back dial.new) }
+    ensures step { JobInStep D.links D.back S.left K.held (one call.now.server.now call.now.order call.now.task) result
+        dial.old dial.new source.old source.new sink.old sink.new }
     ensures asked { Appended (D.asked dial.old) (call.now.server.now ∷ []) (D.asked dial.new) }
     ensures end { is_of_dial (is_of_tool (reads_source call.now.task)) result ≡ true }
     ensures causes { EndsForCause S.left S.faults K.faults D.faults D.hurt
@@ -133,6 +145,8 @@ fn run_call<S: Source, K: Sink, D: Dial>(
         TellsIfRead S.left (job_reads (job_of_call call.now)) bytes source.old source.new →
         JobRan (job_of_call call.now) bytes result links (D.links dial.new)
         (K.held sink.old) (K.held sink.new) (D.back dial.old) (D.back dial.new) }
+    ensures step { JobInStep D.links D.back S.left K.held (job_of_call call.now) result
+        dial.old dial.new source.old source.new sink.old sink.new }
     ensures asked { AskedFor (servers_of (job_of_call call.now)) result (D.asked dial.old) (D.asked dial.new) }
     ensures end { is_of_job (job_of_call call.now) result ≡ true }
     ensures causes { EndsForCause S.left S.faults K.faults D.faults D.hurt
@@ -170,6 +184,10 @@ pub fn af_run<S: Source, K: Sink, D: Dial>(
         AskedFor (servers_of j) result (D.asked dial.old) (D.asked dial.new) }
     ensures told { (j : Job) → job words.now ≡ Some j → result ≢ ToolEnd.Usage →
         DoesJob D.links D.back S.left K.held j result dial.old dial.new source.old source.new sink.old sink.new }
+
+    // in what order it read, sent and wrote
+    ensures step { (j : Job) → job words.now ≡ Some j →
+        JobInStep D.links D.back S.left K.held j result dial.old dial.new source.old source.new sink.old sink.new }
 
     // each end has its cause
     ensures end { is_of_af (job words.now) result ≡ true }

@@ -6,6 +6,7 @@ ghost use Rattle.af_dialogue.specs.Parts.{end_among};
 ghost use Rattle.af_toolkit.specs.Trace.{tool_end};
 ghost use Rattle.af_tools.specs.Sounds.{file_sound, fits_device, raw_sound, served_type, source_width, IsServedAs};
 ghost use Rattle.af_tools.specs.Reading.{is_of_front, is_of_sound, ConsumedHead, EndShows, HeadCame, SoundCame};
+ghost use Rattle.af_tools.specs.Steps.{GaveHead};
 
 use crate::play::MOST_BYTES;
 use af_cli::PlayJob;
@@ -68,6 +69,8 @@ fn read_head<S: Source>(form: SoundForm, source: &mut S) -> Result<FileHead, Too
         HeadCame form bytes result (S.left source.new) }
     ensures read { IfOk result (λ file.
         ConsumedHead (Some form) file.size file.head.length (S.left source.old) (S.left source.new)) }
+    ensures front { (bytes : List ℕ) → S.left source.old ≡ Some bytes → IsSome (S.left source.new) →
+        IfErr result (λ _. GaveHead (Some form) bytes (S.left source.new)) }
     ensures end { IfErr result (λ how. is_of_front how ≡ true) }
     ensures takes { EndShows (Some form) (IsErrOf result) (S.left source.old) (S.left source.new) }
     ensures fault { CountsFault (IsErrOf result ToolEnd.ReadFault) (S.faults source.old) (S.faults source.new) }
@@ -119,6 +122,8 @@ pub fn sound_of<S: Source>(
         SoundCame job.now device bytes result (S.left source.new) }
     ensures read { IfOk result (λ sound.
         ConsumedHead job.now.form sound.head sound.length (S.left source.old) (S.left source.new)) }
+    ensures front { (bytes : List ℕ) → S.left source.old ≡ Some bytes → IsSome (S.left source.new) →
+        IfErr result (λ _. GaveHead job.now.form bytes (S.left source.new)) }
     ensures served { IfOk result (λ sound. IsServedAs sound.coding sound.ty) }
     ensures channels { IfOk result (λ sound. sound.channels ≡ device.channels) }
     ensures raw { job.now.form ≡ None →

@@ -1,6 +1,11 @@
 // The outside of a server on real time: it accepts connections, opens devices and reports wakes.
-ghost use Rattle.std.specs.Prelude.{◌≡◌, ◌≤◌, ℕ, List, [], IsSome};
+ghost use Rattle.std.specs.Prelude.{◌≡◌, ◌≤◌, ℕ, Bool, List, [], IsSome};
 ghost use Rattle.std.specs.declared.option.Option.{Option};
+ghost use Rattle.af_world.specs.declared.script.DeviceSpec.{DeviceSpec};
+ghost use Rattle.af_world.specs.declared.live.Kind.{Kind};
+ghost use Rattle.af_world.specs.declared.live.LineProgram.{LineProgram};
+ghost use Rattle.af_world.specs.declared.live.Ready.{Ready};
+ghost use Rattle.af_world.specs.declared.live.Waited.{Waited};
 ghost use Rattle.af_world.specs.declared.lifecycle.Lifecycle.{Lifecycle};
 ghost use Rattle.af_io.specs.Observed.{Appended, FaultCounted, Unchanged};
 ghost use Rattle.af_world.specs.Kinds.{told_kind};
@@ -69,10 +74,24 @@ pub trait Live: World {
     /// The listens, attaches and waits that were done so far, in order, if they are observable.
     ghost lifecycle: { Self → Option (List Lifecycle) };
 
+    /// A listen at this address, with this answer, leads from the first world to the second. What that says, of this call and of
+    /// those below, is for each world to state. A world that stands over another has just the calls of that one.
+    ghost listens: { Self → List ℕ → Ready → Self → Type 0 };
+
+    /// Attaching this device, so stated, with this answer, leads from the first world to the second.
+    ghost attaches: { Self → ℕ → DeviceSpec → Kind → Ready → Self → Type 0 };
+
+    /// Attaching this program to the line of a device, with this answer, leads from the first world to the second.
+    ghost attaches_line: { Self → ℕ → LineProgram → Ready → Self → Type 0 };
+
+    /// A wait, asked with whether there is more to do, with this answer, leads from the first world to the second.
+    ghost waits: { Self → Bool → Waited → Self → Type 0 };
+
     /// Begins to take links at an address.
     fn listen(&mut self, alloc: Global, address: &str) -> Ready
         ensures log { Unchanged (Self.World.log self.old) (Self.World.log self.new) }
         ensures lifecycle { Appended (lifecycle self.old) (listened result address.now) (lifecycle self.new) }
+        ensures step { listens self.old address.now result self.new }
         ensures cause { result ≡ Ready.Failed → FaultCounted (listen_faults self.old) (listen_faults self.new) }
         ensures link_count { Self.World.link_faults self.old ≤ Self.World.link_faults self.new }
         ensures device_count { Self.World.device_faults self.old ≤ Self.World.device_faults self.new }
@@ -84,6 +103,7 @@ pub trait Live: World {
         ensures log { Unchanged (Self.World.log self.old) (Self.World.log self.new) }
         ensures lifecycle { Appended (lifecycle self.old) (attached result device spec.now (told_kind kind.entry))
             (lifecycle self.new) }
+        ensures step { attaches self.old device spec.now kind.entry result self.new }
         ensures cause { result ≡ Ready.Failed →
             FaultCounted (Self.World.device_faults self.old) (Self.World.device_faults self.new) }
         ensures link_count { Self.World.link_faults self.old ≤ Self.World.link_faults self.new }
@@ -97,6 +117,7 @@ pub trait Live: World {
         ensures lifecycle { Appended (lifecycle self.old)
             (line_attached result device program.entry.restarts (words_of program.entry.words.now))
             (lifecycle self.new) }
+        ensures step { attaches_line self.old device program.entry result self.new }
         ensures cause { result ≡ Ready.Failed →
             FaultCounted (Self.World.device_faults self.old) (Self.World.device_faults self.new) }
         ensures link_count { Self.World.link_faults self.old ≤ Self.World.link_faults self.new }
@@ -110,6 +131,7 @@ pub trait Live: World {
     fn wait(&mut self, more: bool) -> Waited
         ensures log { Unchanged (Self.World.log self.old) (Self.World.log self.new) }
         ensures lifecycle { Appended (lifecycle self.old) (waited more result) (lifecycle self.new) }
+        ensures step { waits self.old more result self.new }
         ensures cause { result ≡ Waited.Failed → FaultCounted (wait_faults self.old) (wait_faults self.new) }
         ensures link_count { Self.World.link_faults self.old ≤ Self.World.link_faults self.new }
         ensures device_count { Self.World.device_faults self.old ≤ Self.World.device_faults self.new }

@@ -11,7 +11,7 @@ use af_io::{
     Args, StdSink, StdSource, WordsFault, open_standard_streams, program_words, wants_details,
 };
 use afd_details::{KeptSource, tell_not_text};
-use afd_log::{Log, LoggedWorld};
+use afd_log::{Log, logged_world};
 use afd_script::{ScriptEnd, afd_script};
 use afd_serve::{LiveEnd, afd_live};
 use std::io;
@@ -34,7 +34,7 @@ fn run_script(rt: &HostRuntime, words: &Args) -> ExitCode {
 fn run_server(rt: &HostRuntime, words: &Args) -> ExitCode {
     let details = wants_details(rt);
     let log = Log::new(rt, details);
-    let mut world = LoggedWorld::new(rt, &log);
+    let mut world = logged_world(rt, &log);
     let mut source = KeptSource::new(rt.alloc(), StdSource::new(rt.reader()), details);
     let end = afd_live(rt.alloc(), words, &mut source, &mut world);
     // if standard error takes nothing, the exit status still says how it ended

@@ -3,7 +3,7 @@ use af_io::{Got, Source};
 use af_limits::LONGEST_SCRIPT;
 use std::alloc::Global;
 
-/// A source that keeps what it gave, up to 1048576 bytes. It gives what the source below it gives.
+/// A source that keeps what it gave, up to 1048576 bytes. Each of its reads is that read of the source below it.
 #[derive(Drop)]
 pub struct KeptSource<S: Source + Drop> {
     source: S,
@@ -41,6 +41,8 @@ impl<S: Source + Drop> Source for KeptSource<S> {
     ghost left = { λ kept. S.left kept.source };
 
     ghost faults = { λ kept. S.faults kept.source };
+
+    ghost reads = { λ before answer into after. S.reads before.source answer into after.source };
 
     fn read(&mut self, into: &mut [u8]) -> Got {
         let got = self.source.read(into);

@@ -4,7 +4,8 @@ use af_io::Put;
 use af_process::{Finished, Spawner, Started, Words};
 use std::alloc::Global;
 
-/// A spawner that tells in a log which program was started, which could not be, and which ended.
+/// A spawner that tells in a log which program was started, which could not be, and which ended. Each of its calls is that call
+/// of the spawner below it.
 #[derive(Drop)]
 pub struct LoggedSpawner<'a, S: Spawner + Drop> {
     spawner: S,
@@ -24,6 +25,14 @@ impl<S: Spawner + Drop> Spawner for LoggedSpawner<'_, S> {
     ghost started = { λ logged. S.started logged.spawner };
 
     ghost faults = { λ logged. S.faults logged.spawner };
+
+    ghost notes = { λ before sound after. S.notes before.spawner sound after.spawner };
+
+    ghost starts = { λ before words answer after. S.starts before.spawner words answer after.spawner };
+
+    ghost gives = { λ before child bytes answer after. S.gives before.spawner child bytes answer after.spawner };
+
+    ghost finishes = { λ before child answer after. S.finishes before.spawner child answer after.spawner };
 
     fn note(&mut self, sound: &[u8]) {
         self.spawner.note(sound);

@@ -36,7 +36,7 @@ struct Standing {
 
 /// What was told of the program of each device, and of that of each line.
 #[derive(Clone, Copy)]
-pub(crate) struct ProgramLines {
+pub struct ProgramLines {
     cards: [ToldProgram; MOST_DEVICES],
     lines: [ToldProgram; MOST_DEVICES],
     losses: [ToldLoss; MOST_DEVICES],

@@ -2,6 +2,7 @@
 // writes.
 use crate::tests::checks::{bytes_of, holds, same_bytes, words_of};
 use af_answer::{AnswerEnd, answer_run};
+use af_details::{WatchedDial, WatchedSpawner};
 use af_io::{MemDial, MemLink, MemSink};
 use af_process::{Act, BeganGot, MemSpawner};
 use std::alloc::Global;
@@ -232,19 +233,19 @@ fn comes_to(rt: &impl Abort, alloc: Global, row: &Row<'_>) -> Result<(), Fail> {
     let replies = gives(alloc, row.replies, row.events)?;
     let sent = bytes_of(alloc, row.sent)?;
     let link = MemLink::new(alloc, replies.as_slice(), 7, 1000, &[row.fails])?;
-    let mut dial = MemDial::new(Some(link), None);
-    let mut spawner = MemSpawner::new(alloc, row.starts, &[row.status])?;
+    let mut dial = WatchedDial::new(MemDial::new(Some(link), None));
+    let mut spawner = WatchedSpawner::new(MemSpawner::new(alloc, row.starts, &[row.status])?);
     let mut room = [0u8; 100];
     let mut sink = MemSink::new(&mut room, row.writes);
     let end = answer_run(alloc, &words, &mut sink, &mut dial, &mut spawner);
     holds(rt, "the end", end == row.end);
     same_bytes(rt, "the line", sink.held(), row.held);
-    let found = match dial.kept(0) {
+    let found = match dial.dial().kept(0) {
         Some(link) => link.sent(),
         None => &[],
     };
     same_bytes(rt, "what was sent", found, sent.as_slice());
-    had_run(rt, &spawner, row.acts);
+    had_run(rt, spawner.spawner(), row.acts);
     Ok(())
 }
 

@@ -1,6 +1,8 @@
-// The tools over sources, sinks and links in memory, which give their bytes in pieces. The worked runs in tests/tools show what
+// The tools over sources, sinks and links in memory, which give their bytes in pieces and are watched, as those of their program
+// are. The worked runs in tests/tools show what
 // the tools send for which arguments.
 use crate::tests::checks::{SETUP_REPLY, STEREO_REPLY, bytes_of, holds, same_bytes, words_of};
+use af_details::{WatchedDial, WatchedSource};
 use af_io::{MemDial, MemLink, MemSink, MemSource};
 use af_tools::{ToolEnd, af_run};
 use std::alloc::Global;
@@ -66,16 +68,16 @@ fn comes_to(
     let first = bytes_of(alloc, given.replies[0])?;
     let second = bytes_of(alloc, given.replies[1])?;
     let requests = bytes_of(alloc, wanted.sent)?;
-    let mut source = MemSource::new(given.source, 3, given.failing.source);
+    let mut source = WatchedSource::new(MemSource::new(given.source, 3, given.failing.source));
     let mut room = [0u8; 100];
     let mut sink = MemSink::new(&mut room, given.failing.sink);
     let one = MemLink::new(alloc, first.as_slice(), 7, 1000, given.failing.link)?;
     let other = MemLink::new(alloc, second.as_slice(), 7, 1000, &[])?;
-    let mut dial = MemDial::new(Some(one), Some(other));
+    let mut dial = WatchedDial::new(MemDial::new(Some(one), Some(other)));
     let end = af_run(alloc, &args, &mut source, &mut sink, &mut dial);
     holds(rt, what, end == wanted.end);
     same_bytes(rt, what, sink.held(), wanted.held);
-    was_sent(rt, what, &dial, requests.as_slice());
+    was_sent(rt, what, dial.dial(), requests.as_slice());
     Ok(())
 }
 

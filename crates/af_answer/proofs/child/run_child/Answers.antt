@@ -14,8 +14,8 @@ began_by how acts acts' same told = subst (λ (words : List (List ℕ)). Appende
 
 pub returns-in-Child-clause-ran : goal.returns-in-Child-clause-ran
 returns-in-Child-clause-ran g c =
-    child_went c.args.text.now.bytes (child_ran c.in-Child.child (status_of c.finish.result)) c.finished_end.ensures
-    (appended_on _ _ _ _ _ (began_by (got.Child c.in-Child.child) _ _ c.shell_words.ensures.words c.in-Child.ensures.acts) c.finish.ensures.acts)
+    child_went c.args.text.now.bytes (child_ran c.in-Child.child (status_of c.finish_command.result)) c.finished_end.ensures
+    (appended_on _ _ _ _ _ (began_by (got.Child c.in-Child.child) _ _ c.shell_words.ensures.words c.in-Child.ensures.acts) c.finish_command.ensures.acts)
 
 pub returns-in-Failed-clause-ran : goal.returns-in-Failed-clause-ran
 returns-in-Failed-clause-ran g c = child_went c.args.text.now.bytes start_failed refl (began_by got.Failed _ _ c.shell_words.ensures.words c.in-Failed.ensures.acts)

@@ -12,8 +12,8 @@ returns-in-Far-clause-ran g c links told =
 
 pub returns-in-Failed-clause-ran : goal.returns-in-Failed-clause-ran
 returns-in-Failed-clause-ran g c links told =
-    (inl (inl refl, ap₂ (λ (l : Option (List ToldLink)) (b : Option (List (List ℕ))). seen_as (let d : DialSight = record { links = l; back = b } in d) (g.S.Spawner.acts c.args.spawner.now) (g.K.Sink.held c.args.sink.now)) c.in-Failed.ensures.gives c.in-Failed.ensures.back))
+    (inl (inl refl, ap₂ (λ (l : Option (List ToldLink)) (b : Option (List (List ℕ))). seen_as (let d : DialSight = record { links = l; back = b } in d) (g.S.Commands.acts c.args.spawner.now) (g.K.Sink.held c.args.sink.now)) c.in-Failed.ensures.gives c.in-Failed.ensures.back))
 
 pub returns-in-OutOfMemory-clause-ran : goal.returns-in-OutOfMemory-clause-ran
 returns-in-OutOfMemory-clause-ran g c links told =
-    (inl (inr refl, ap₂ (λ (l : Option (List ToldLink)) (b : Option (List (List ℕ))). seen_as (let d : DialSight = record { links = l; back = b } in d) (g.S.Spawner.acts c.args.spawner.now) (g.K.Sink.held c.args.sink.now)) c.in-OutOfMemory.ensures.gives c.in-OutOfMemory.ensures.back))
+    (inl (inr refl, ap₂ (λ (l : Option (List ToldLink)) (b : Option (List (List ℕ))). seen_as (let d : DialSight = record { links = l; back = b } in d) (g.S.Commands.acts c.args.spawner.now) (g.K.Sink.held c.args.sink.now)) c.in-OutOfMemory.ensures.gives c.in-OutOfMemory.ensures.back))

@@ -2,6 +2,7 @@ use Rattle.std.proofs.Common.{◌≡◌, ◌∙◌, ap, inl, inr}
 use Rattle.af_answer.specs.declared.end.AnswerEnd.TheVariants as end
 use Rattle.af_answer.specs.AnswerTrace.{connection_end}
 use Rattle.af_answer.specs.AnswerParts.{seen_as}
+use Rattle.af_answer.proofs.MachineLemmas.{fault_ends}
 use Rattle.af_answer.proofs.RunLemmas.{not_set_up_ran, set_up_ran}
 use Rattle.af_answer.proofs.run.answer_over.Goals as goal
 
@@ -16,8 +17,11 @@ returns-in-Err-clause-ran g c input told =
     elim (c.in-Err.ensures) [
       | inl none ↦
           let way : c.from.result ≡ end.OutOfMemory = c.from.ensures ∙ ap connection_end none.0 in
-          inl (way, ap (λ l. seen_as (g.L.Link.sent l) (g.S.Spawner.acts c.args.spawner.now) (g.K.Sink.held c.args.sink.now)) none.1)
+          inl (way, ap (λ l. seen_as (g.L.Link.sent l) (g.S.Commands.acts c.args.spawner.now) (g.K.Sink.held c.args.sink.now)) none.1)
       | inr setup ↦
           let way : c.from.result ≡ connection_end c.in-Err.fault = c.from.ensures in
           rw way (inr (not_set_up_ran c.args.job.now setup.1 told))
     ]
+
+pub returns-in-Err-clause-end : goal.returns-in-Err-clause-end
+returns-in-Err-clause-end g c = let way : c.from.result ≡ connection_end c.in-Err.fault = c.from.ensures in rw way (fault_ends c.in-Err.fault)

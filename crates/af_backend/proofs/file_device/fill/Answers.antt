@@ -6,7 +6,7 @@ use Rattle.af_backend.proofs.file_device.fill.Goals as goal
 pub loop-count-preserved : goal.loop-count-preserved
 loop-count-preserved g c =
     let i = c.loop-count.invariant in
-    let reads = c.in-Bytes.ensures.reads in
+    let reads = c.in-Bytes.ensures.step.reads in
     let count = c.loop-count.count in
     let past = post_of count (length c.loop-count.into - count) c.loop-count.into in
     record {

@@ -43,3 +43,16 @@ returns-in-Failed-clause-cut g c _ =
       consumed = consumed_on _ _ _ _ _ i.consumed c.in-Failed.ensures.consumed;
       within = simp append-nil (omega arith);
     }
+
+pub returns-in-Failed-clause-part : goal.returns-in-Failed-clause-part
+returns-in-Failed-clause-part g c _ =
+    let i = c.loop-filled.invariant in
+    let filled = c.loop-filled.filled in
+    let len = length-take-le filled c.loop-filled.block i.within in
+    let block = put_mid filled (length c.loop-filled.block - filled) c.loop-filled.block c.read.new.into in
+    let size : filled ≤ length block = search rules in
+    record {
+      text = take filled c.loop-filled.block ++ [];
+      consumed = consumed_on _ _ _ _ _ i.consumed c.in-Failed.ensures.consumed;
+      within = simp append-nil (omega arith);
+    }

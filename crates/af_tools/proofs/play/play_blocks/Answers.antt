@@ -1,4 +1,4 @@
-use Rattle.std.proofs.Common.{rules, arith, ◌≡◌, ◌≤◌, ◌<◌, ◌+◌, ◌*◌, ◌++◌, ℕ, List, length, length-take-le, take, sym, ap, ◌∙◌, refl, subst, Err}
+use Rattle.std.proofs.Common.{rules, arith, ◌≡◌, ◌≤◌, ◌<◌, ◌+◌, ◌*◌, ◌++◌, ℕ, List, length, length-take-le, take, sym, ap, ◌∙◌, refl, subst, ◌⊎◌, [], Some, None, Ok, Err}
 use Rattle.std.proofs.Math.Nat.{div-le_self}
 use Rattle.std.proofs.lemmas.List.{take-take}
 use Rattle.af_io.specs.Observed.{Consumed}
@@ -9,6 +9,10 @@ use Rattle.af_toolkit.proofs.ToolPartLemmas.{keeps_all, keeps_on}
 use Rattle.af_tools.proofs.PlayStepLemmas.{play_begin, play_filled, play_last, play_next, play_over, play_refused, play_unfilled, told_unfilled}
 use Rattle.af_tools.proofs.SourceFrameLemmas.{block_fits, block_short, size_fits}
 use Rattle.af_tools.proofs.SourceCountLemmas.{fits_begin, fits_on, given_on, given_within, read_before, rest_begin, rest_on, takes_ended, takes_fault, takes_link}
+use Rattle.af_io.proofs.AppendedLemmas.{appended_none}
+use Rattle.af_io.specs.Flow.{IsSpent}
+use Rattle.af_toolkit.specs.Trace.{refused}
+use Rattle.af_tools.proofs.InStepLemmas.{not_failed, shown, step_ends, step_first, step_later, stepped_begin, stepped_on, unfilled}
 use Rattle.af_tools.proofs.play.play_blocks.Goals as goal
 
 pub loop-block-init : goal.loop-block-init
@@ -43,6 +47,7 @@ loop-block-init g c =
       rest = rest_begin sound.length;
       given = record { bytes = read; consumed = read_before read gives; all = omega arith };
       block_fits = block_fits sound.coding 0 c.requires.block c.width-width.ensures low within (omega arith);
+      stepped = stepped_begin sound.coding width c.args.playback.start.0 size sound.head (subst (λ (b : List ℕ). Consumed (left_before read gives) b gives) (sym same) (read_before read gives));
       playing = λ bytes held is tells.
           play_filled (play_begin sound c.args.playback.block c.args.playback.start.0 width (read ++ bytes) (left_before read gives) (omega arith) c.width-width.ensures (ap (left_before read) is))
           (subst (λ (b : List ℕ). Consumed (left_before read gives) b gives) (sym same) (read_before read gives)) tells sized within next.stated (λ short. next.ended (subst (λ (n : ℕ). first < n) sizes short));
@@ -125,7 +130,58 @@ loop-block-preserved g c =
       rest = rest_on sound.length c.loop-block.left c.still_left-left.result c.loop-block.given n i.rest c.still_left-left.ensures;
       given = given_on i.given had next.within;
       block_fits = block_fits sound.coding (c.loop-block.given + n) c.requires.block c.width-width.ensures c.requires.sound.1 (omega arith) (omega arith);
+      stepped = stepped_on c.loop-block.block i.stepped (length-take-le n c.loop-block.block (omega (arith, i.block, i.within))) (omega (arith, c.if-filled-size.false, i.within)) i.block_fits c.time_after_frames-at.ensures (omega arith)
+          (c.in_ok-play_block.ensures.goes None) (take c.in_ok-filled.filled c.fill_stated.new.block) had.consumed;
       playing = λ bytes held is tells.
           let before = consumed_told (g.S.Source.left c.loop-block.source) (g.S.Source.left c.fill_stated.new.source) (take c.in_ok-filled.filled c.fill_stated.new.block) had.consumed tells in
           play_next (i.playing bytes held is before) i.block_fits c.time_after_frames-at.ensures (omega arith) (c.in_ok-play_block.ensures.goes held) (omega arith) c.still_left-left.ensures had tells filled;
     }
+
+pub returns-then-count-eq0-clause-step : goal.returns-then-count-eq0-clause-step
+returns-then-count-eq0-clause-step g c input told =
+    let i = c.loop-block.invariant in
+    let p = c.args.playback in
+    let within = i.within in
+    let full = length-take-le c.loop-block.filled c.loop-block.block (omega (arith, i.block, i.within)) in
+    let ended = subst (λ (k : ℕ). k < p.block * c.width-width.result → IsSpent (g.S.Source.left c.loop-block.source) ⊎ (c.loop-block.left ≡ Some k)) (sym full) i.ended in
+    let first = step_first p.sound p.block p.start.0 c.width-width.result c.width-width.ensures i.stepped i.fits (omega arith) c.loop-block.left i.rest ended in
+    step_ends p.sound p.block p.start.0 c.width-width.result c.width-width.ensures i.stepped i.fits (omega arith) _ first (input, told, refl) (λ bad. cc bad) (λ v at. ([], appended_none _)) (λ bad. cc bad)
+
+pub returns-in_err-play_block-clause-step : goal.returns-in_err-play_block-clause-step
+returns-in_err-play_block-clause-step g c input told =
+    let i = c.loop-block.invariant in
+    let p = c.args.playback in
+    let e = c.in_err-play_block.ensures in
+    let within = i.within in
+    let full = length-take-le c.loop-block.filled c.loop-block.block (omega (arith, i.block, i.within)) in
+    let ended = subst (λ (k : ℕ). k < p.block * c.width-width.result → IsSpent (g.S.Source.left c.loop-block.source) ⊎ (c.loop-block.left ≡ Some k)) (sym full) i.ended in
+    let first = step_first p.sound p.block p.start.0 c.width-width.result c.width-width.ensures i.stepped i.fits (omega arith) c.loop-block.left i.rest ended in
+    let same : c.from_residual.result ≡ Err c.in_err-play_block.field-0.0 = search rules in
+    let other = not_failed same e.end in
+    step_ends p.sound p.block p.start.0 c.width-width.result c.width-width.ensures i.stepped i.fits (omega arith) _ first (input, told, refl) (λ bad. absurd (other bad)) (λ v at. shown refused (Err _) (e.goes None) at) (λ bad. absurd (other bad))
+
+pub returns-then-filled-size-clause-step : goal.returns-then-filled-size-clause-step
+returns-then-filled-size-clause-step g c input told =
+    let i = c.loop-block.invariant in
+    let p = c.args.playback in
+    let within = i.within in
+    let full = length-take-le c.loop-block.filled c.loop-block.block (omega (arith, i.block, i.within)) in
+    let ended = subst (λ (k : ℕ). k < p.block * c.width-width.result → IsSpent (g.S.Source.left c.loop-block.source) ⊎ (c.loop-block.left ≡ Some k)) (sym full) i.ended in
+    let first = step_first p.sound p.block p.start.0 c.width-width.result c.width-width.ensures i.stepped i.fits (omega arith) c.loop-block.left i.rest ended in
+    step_ends p.sound p.block p.start.0 c.width-width.result c.width-width.ensures i.stepped i.fits (omega arith) _ first (input, told, refl) (λ bad. cc bad) (λ v at. shown refused (Ok _) (c.in_ok-play_block.ensures.goes None) at) (λ bad. cc bad)
+
+pub returns-in_err-filled-clause-step : goal.returns-in_err-filled-clause-step
+returns-in_err-filled-clause-step g c input told =
+    let i = c.loop-block.invariant in
+    let p = c.args.playback in
+    let n = c.loop-block.filled in
+    let e = c.in_err-filled.ensures in
+    let read = unfilled c.in_err-filled.field-0.0 e.fills in
+    let size : length c.fill_stated.new.block ≡ p.block * c.width-width.result = e.room ∙ i.block in
+    let most = read.2 in
+    let some = div-le_self n c.width-width.result in
+    let s = stepped_on c.loop-block.block i.stepped (length-take-le n c.loop-block.block (omega (arith, i.block, i.within))) (omega (arith, c.if-filled-size.false, i.within)) i.block_fits c.time_after_frames-at.ensures (omega arith)
+    (c.in_ok-play_block.ensures.goes None) read.0 read.1 in
+    let fits = fits_on p.sound.length c.loop-block.left c.loop-block.given n i.rest i.fits i.stated in
+    let first = step_later p.sound p.block p.start.0 c.width-width.result c.width-width.ensures s fits (omega arith) (omega arith) in
+    step_ends p.sound p.block p.start.0 c.width-width.result c.width-width.ensures s fits (omega arith) _ first (input, told, refl) (λ _. appended_none _) (λ v at. ([], appended_none _)) (λ _. omega arith)

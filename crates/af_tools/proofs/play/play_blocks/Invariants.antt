@@ -1,4 +1,4 @@
-use Rattle.std.proofs.Common.{Ok, ◌≡◌, ◌<◌, ◌≤◌, ◌⊎◌, ◌+◌, ◌-◌, ◌^◌, ◌++◌, ℕ, List, length, take, IsSome, Option, Some}
+use Rattle.std.proofs.Common.{Ok, ◌≡◌, ◌<◌, ◌≤◌, ◌⊎◌, ◌+◌, ◌-◌, ◌^◌, ◌++◌, ℕ, List, length, take, IsSome, Option, None, Some}
 use Rattle.af_io.specs.Flow.{IsSpent}
 use Rattle.af_toolkit.specs.Ends.{KeepsConnection}
 use Rattle.af_toolkit.specs.ToolParts.{tool_sight}
@@ -7,6 +7,7 @@ use Rattle.af_tools.specs.Play.{plays_sound}
 use Rattle.af_tools.specs.Sounds.{stated_after, FitsStated}
 use Rattle.af_tools.proofs.PlayBlockLemmas.{ConsumedAll}
 use Rattle.af_tools.proofs.PlayStepLemmas.{IsFilled}
+use Rattle.af_tools.proofs.InStepLemmas.{IsStepped}
 use Rattle.af_tools.proofs.SourceFrameLemmas.{BlockFits}
 use Rattle.af_tools.proofs.play.play_blocks.Given as goal
 
@@ -26,6 +27,8 @@ invariant-loop-block g l = record {
   rest : l.left ≡ stated_after l.sound.length l.given;
   given : ConsumedAll (l.given + l.filled) (left_before (take l.first l.fn.room) (g.S.Source.left l.initial.source)) (g.S.Source.left l.source);
   block_fits : BlockFits l.filled l.size l.width (l.sound.head + l.given);
+  stepped : IsStepped l.sound.coding l.width l.start.0 l.size l.sound.head l.frames l.given (take l.filled l.block) (left_before (take l.first l.fn.room) (g.S.Source.left l.initial.source)) (g.S.Source.left l.source)
+      (tool_sight g.L.Link.left g.L.Link.sent l.initial.conn None) (tool_sight g.L.Link.left g.L.Link.sent l.conn None);
   playing : (bytes : List ℕ) (held : Option (List ℕ)) → g.S.Source.left l.initial.source ≡ Some bytes → IsSome (g.S.Source.left l.source) →
       IsFilled (plays_sound l.sound l.fn.playback.block l.start.0 (take l.first l.fn.room ++ bytes)) l.sound.coding l.width l.start.0 l.size l.frames (l.sound.head + l.given) l.filled l.left l.block (g.S.Source.left l.source)
       (tool_sight g.L.Link.left g.L.Link.sent l.initial.conn held) (tool_sight g.L.Link.left g.L.Link.sent l.conn held);

@@ -1,5 +1,6 @@
-use Rattle.std.proofs.Common.{inl, ◌≡◌, ◌∙◌, ap, refl, sym, subst}
-use Rattle.af_io.proofs.ConsumedLemmas.{consumed_told}
+use Rattle.std.proofs.Common.{inl, inr, arith, [], List, ℕ, Option, ◌≡◌, ◌∙◌, ap, refl, sym, subst}
+use Rattle.af_io.specs.Observed.{Consumed}
+use Rattle.af_io.proofs.ConsumedLemmas.{consumed_none, consumed_told}
 use Rattle.af_toolkit.specs.declared.end.ToolEnd.TheVariants as end
 use Rattle.af_sample.specs.Channels.{IsChannelCount}
 use Rattle.af_lib.specs.Calls.{channels_or_one}
@@ -8,11 +9,13 @@ use Rattle.af_tools.specs.Play.{play_finish}
 use Rattle.af_tools.specs.Reading.{is_of_sound, is_of_blocks}
 use Rattle.af_tools.proofs.HavingRun.{aplay_missing_ran, aplay_there_ran}
 use Rattle.af_tools.proofs.DeviceChoiceLemmas.{is_missing, is_there, missing_iff, reported, there_iff}
-use Rattle.af_tools.proofs.EndLemmas.{never}
+use Rattle.af_tools.proofs.EndLemmas.{err_of, never}
 use Rattle.af_toolkit.proofs.ToolPartLemmas.{trace_goes_on, trace_stops}
 use Rattle.af_tools.proofs.SoundFitLemmas.{followed_unsound}
 use Rattle.af_tools.proofs.UnreadLemmas.{read_late}
 use Rattle.af_tools.proofs.SourceCountLemmas.{played_use, refused_use, unsound_use}
+use Rattle.af_io.proofs.AppendedLemmas.{appended_none}
+use Rattle.af_tools.proofs.BegunLemmas.{played_source}
 use Rattle.af_tools.proofs.player.aplay.Goals as goal
 
 pub returns-in-Err-clause-ran : goal.returns-in-Err-clause-ran
@@ -102,3 +105,24 @@ returns-in-Err-play_on-clause-unread g c raw =
     let s = c.in-Ok-sound_of.ensures in
     let t = is_there c.args.conn.now.devices c.args.job.now.device c.in-Ok.device c.in-Ok.ensures.value in
     read_late g.L.Link.left c.args.job.now c.in-Ok.device c.args.conn.now t.get c.in-Ok-sound_of.sound.ty c.in-Ok-sound_of.sound.channels (s.raw raw).1 s.channels (s.raw raw).0 c.in-Err-play_on.ensures.unread
+
+pub returns-in-Err-clause-step : goal.returns-in-Err-clause-step
+returns-in-Err-clause-step g c input bytes told is tells =
+    inl (record { read = []; gave = subst (λ (o : Option (List ℕ)). Consumed o [] (g.S.Source.left c.args.source.now)) is (consumed_none _); within = omega arith }, appended_none _)
+
+pub returns-in-Err-sound_of-clause-step : goal.returns-in-Err-sound_of-clause-step
+returns-in-Err-sound_of-clause-step g c input bytes told is tells = inl (c.in-Err-sound_of.ensures.front bytes is tells, appended_none _)
+
+pub returns-in-Ok-play_on-clause-step : goal.returns-in-Ok-play_on-clause-step
+returns-in-Ok-play_on-clause-step g c input bytes told is tells =
+    let e = c.in-Ok-play_on.ensures in
+    let before = consumed_told (g.S.Source.left c.sound_of.new.source) (g.S.Source.left c.play_on.new.source) e.takes.bytes e.takes.consumed tells in
+    let t = is_there c.args.conn.now.devices c.args.job.now.device c.in-Ok.device c.in-Ok.ensures.value in
+    inr (played_source t.get (c.in-Ok-sound_of.ensures.brings bytes is before) (λ bad. absurd (never is_of_report _ end.ReadFault c.report.ensures.end refl bad)) (e.step input told))
+
+pub returns-in-Err-play_on-clause-step : goal.returns-in-Err-play_on-clause-step
+returns-in-Err-play_on-clause-step g c input bytes told is tells =
+    let e = c.in-Err-play_on.ensures in
+    let before = consumed_told (g.S.Source.left c.sound_of.new.source) (g.S.Source.left c.play_on.new.source) e.takes.bytes e.takes.consumed tells in
+    let t = is_there c.args.conn.now.devices c.args.job.now.device c.in-Ok.device c.in-Ok.ensures.value in
+    inr (played_source t.get (c.in-Ok-sound_of.ensures.brings bytes is before) (err_of c.in-Err-play_on.end end.ReadFault) (e.step input told))

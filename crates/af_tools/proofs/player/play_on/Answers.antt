@@ -1,13 +1,18 @@
-use Rattle.std.proofs.Common.{rules, arith, ◌≡◌, ◌-◌, refl, Err}
+use Rattle.std.proofs.Common.{rules, arith, ◌≡◌, ◌-◌, ◌≤◌, ℕ, [], length, inl, inr, ap, subst, refl, Option, None, Result, Ok, Err}
 use Rattle.af_toolkit.specs.declared.end.ToolEnd.TheVariants as end
 use Rattle.af_dialogue.proofs.PartLemmas.{goes_stop, goes_through, goes_value}
 use Rattle.af_toolkit.proofs.ToolPartLemmas.{cut_goes}
 use Rattle.af_tools.proofs.PlayStepLemmas.{is_play, play_goes}
 use Rattle.af_tools.specs.Reading.{fill_end}
-use Rattle.af_tools.specs.Sounds.{most_bytes}
+use Rattle.af_tools.specs.Sounds.{most_bytes, block_bytes}
 use Rattle.af_tools.specs.Play.{play_finish}
 use Rattle.af_tools.proofs.PlayTailLemmas.{early_fault, early_within, first_known, first_unfilled}
 use Rattle.af_tools.proofs.SourceCountLemmas.{given_none, given_within, takes_end, takes_fault, takes_first, takes_link, takes_some, takes_value, takes_within}
+use Rattle.af_io.proofs.AppendedLemmas.{appended_none}
+use Rattle.af_toolkit.specs.Trace.{refused}
+use Rattle.af_tools.proofs.SourceFrameLemmas.{size_fits}
+use Rattle.af_tools.proofs.InStepLemmas.{not_failed, shown, unfilled}
+use Rattle.af_tools.proofs.BegunLemmas.{begun, early_read, played_step, same_failed, sent_request, told_some}
 use Rattle.af_tools.proofs.player.play_on.Goals as goal
 
 pub returns-in_err-make_play_context-clause-goes : goal.returns-in_err-make_play_context-clause-goes
@@ -97,3 +102,65 @@ returns-clause-takes g c =
 
 pub play_blocks-requires-clause-first : goal.play_blocks-requires-clause-first
 play_blocks-requires-clause-first g c = (c.in_ok-first.ensures.fills (g.S.Source.left c.args.source.now) c.in_ok-early.ensures.early).had.next
+
+pub returns-in_err-make_play_context-clause-step : goal.returns-in_err-make_play_context-clause-step
+returns-in_err-make_play_context-clause-step g c input told = inl (refl, sent_request _ _ _ (c.in_err-make_play_context.ensures.goes None) (input, told, refl))
+
+pub returns-in_err-early-clause-step : goal.returns-in_err-early-clause-step
+returns-in_err-early-clause-step g c input told =
+    let p = c.args.plan in
+    let made = c.in_ok-make_play_context.ensures.goes None in
+    let m = c.in_err-early.ensures.part (early_fault c.in_err-early.field-0.0 c.in_err-early.ensures.only).0 in
+    let few = subst (λ (n : ℕ). length m.text ≤ block_bytes p.sound n) c.block_of-block.ensures.value m.within in
+    inr (begun p.job p.sound p.device made (input, told, refl) m.text m.consumed few (λ _. appended_none _) (λ v at. ([], appended_none _)) (inr (inl (sent_request _ _ _ made (input, told, refl)))))
+
+pub returns-in_err-now-clause-step : goal.returns-in_err-now-clause-step
+returns-in_err-now-clause-step g c input told =
+    let p = c.args.plan in
+    let e = c.in_err-now.ensures in
+    let same : c.from_residual-in_err-now.result ≡ Err c.in_err-now.field-0.0 = search rules in
+    let block = c.block_of-block.ensures in
+    let large = size_fits p.sound.coding p.sound.ty p.sound.channels c.block_of-block.result _ c.requires.sound.0 block.block refl in
+    let most = c.requires.room in
+    let r = rw block.value at (early_read p.sound c.block_of-block.result _ c.in_ok-early.early _ _ _ (omega (arith, c.in_ok-early.ensures.room)) c.in_ok-early.ensures.early) in
+    inr (begun p.job p.sound p.device (c.in_ok-make_play_context.ensures.goes None) (input, told, refl) r.ahead r.read r.few (λ bad. absurd (not_failed same e.end bad.0)) (λ v at. shown refused (Err _) (e.goes None) at)
+    (elim r.first [ inl has ↦ inl has | inr none ↦ inr (inr (c.in_ok-early.ensures.late (ap (λ (o : Option ℕ). (let y : Result (Option ℕ) _ = Ok o in y)) none))) ]))
+
+pub returns-in_err-first-clause-step : goal.returns-in_err-first-clause-step
+returns-in_err-first-clause-step g c input told =
+    let p = c.args.plan in
+    let e = c.in_err-first.ensures in
+    let late = c.in_ok-early.ensures.late (ap (λ (o : Option ℕ). (let y : Result (Option ℕ) _ = Ok o in y)) e.early) in
+    let read = unfilled c.in_err-first.field-0.0 (e.fills (g.S.Source.left c.args.source.now) c.in_ok-early.ensures.early) in
+    let few = subst (λ (n : ℕ). length read.0 ≤ block_bytes p.sound n) c.block_of-block.ensures.value read.2 in
+    inr (begun p.job p.sound p.device (c.in_ok-make_play_context.ensures.goes None) (input, told, refl) read.0 read.1 few (λ bad. absurd (let leaves = bad.1 in omega arith)) (λ v at. shown refused (Ok _) (c.in_ok-now.ensures.goes None) at)
+    (inr (inr late)))
+
+pub returns-in_err-frames-clause-step : goal.returns-in_err-frames-clause-step
+returns-in_err-frames-clause-step g c input told =
+    let p = c.args.plan in
+    let first = (c.in_ok-first.ensures.fills (g.S.Source.left c.args.source.now) c.in_ok-early.ensures.early).had in
+    inr (played_step p.job p.sound p.device (c.in_ok-make_play_context.ensures.goes None) (input, told, refl) g.L.Link.left g.L.Link.sent c.device_time.new.conn (c.in_ok-now.ensures.goes None) c.block_of-block.ensures.value c.start_of-start.ensures first
+    (λ bad. same_failed (search rules) bad.0) c.in_err-frames.ensures.step (λ _. appended_none _) [] (appended_none _))
+
+pub returns-in_err-finish-clause-step : goal.returns-in_err-finish-clause-step
+returns-in_err-finish-clause-step g c input told =
+    let p = c.args.plan in
+    let e = c.in_err-finish.ensures in
+    let first = (c.in_ok-first.ensures.fills (g.S.Source.left c.args.source.now) c.in_ok-early.ensures.early).had in
+    let tells = told_some _ (c.in_ok-frames.ensures.holds.tells (c.in_ok-now.ensures.holds.tells (c.in_ok-make_play_context.ensures.holds.tells (rw told refl)))) in
+    let more = shown refused (Err _) (e.goes None) (tells.0, tells.1, refl) in
+    let same : c.from_residual-in_err-finish.result ≡ Err c.in_err-finish.field-0.0 = search rules in
+    let other = not_failed same e.end in
+    inr (played_step p.job p.sound p.device (c.in_ok-make_play_context.ensures.goes None) (input, told, refl) g.L.Link.left g.L.Link.sent c.device_time.new.conn (c.in_ok-now.ensures.goes None) c.block_of-block.ensures.value c.start_of-start.ensures first
+    (λ bad. absurd (other bad.0)) c.in_ok-frames.ensures.step (λ bad. absurd (other bad.0)) more.0 more.1)
+
+pub returns-clause-step : goal.returns-clause-step
+returns-clause-step g c input told =
+    let p = c.args.plan in
+    let e = c.in_ok-finish.ensures in
+    let first = (c.in_ok-first.ensures.fills (g.S.Source.left c.args.source.now) c.in_ok-early.ensures.early).had in
+    let tells = told_some _ (c.in_ok-frames.ensures.holds.tells (c.in_ok-now.ensures.holds.tells (c.in_ok-make_play_context.ensures.holds.tells (rw told refl)))) in
+    let more = shown refused (Ok _) (e.goes None) (tells.0, tells.1, refl) in
+    inr (played_step p.job p.sound p.device (c.in_ok-make_play_context.ensures.goes None) (input, told, refl) g.L.Link.left g.L.Link.sent c.device_time.new.conn (c.in_ok-now.ensures.goes None) c.block_of-block.ensures.value c.start_of-start.ensures first
+    (λ bad. absurd (let no = bad.0 in cc no)) c.in_ok-frames.ensures.step (λ bad. absurd (let no = bad.0 in cc no)) more.0 more.1)

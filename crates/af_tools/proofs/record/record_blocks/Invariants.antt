@@ -3,6 +3,7 @@ use Rattle.af_toolkit.specs.Ends.{KeepsConnection}
 use Rattle.af_toolkit.specs.ToolParts.{tool_sight}
 use Rattle.af_tools.specs.Record.{records_all}
 use Rattle.af_tools.proofs.RecordBlockLemmas.{IsRecording}
+use Rattle.af_tools.proofs.WriteStepLemmas.{IsTaken}
 use Rattle.af_tools.proofs.record.record_blocks.Given as goal
 
 abbrev pub invariant-loop-left : goal.invariant-loop-left
@@ -13,6 +14,8 @@ invariant-loop-left g l = record {
   going : l.row < l.job.stop_blocks;
   left : l.left ≤ l.job.frames;
   recording : IsRecording (records_all l.job l.sound l.fn.start.0) l.job l.sound l.block l.at.0 l.left l.row
+      (tool_sight g.L.Link.left g.L.Link.sent l.initial.conn (g.K.Sink.held l.initial.sink)) (tool_sight g.L.Link.left g.L.Link.sent l.conn (g.K.Sink.held l.sink));
+  taken : IsTaken l.job l.sound l.fn.start.0 l.block l.at.0 l.left l.row
       (tool_sight g.L.Link.left g.L.Link.sent l.initial.conn (g.K.Sink.held l.initial.sink)) (tool_sight g.L.Link.left g.L.Link.sent l.conn (g.K.Sink.held l.sink));
 }
 

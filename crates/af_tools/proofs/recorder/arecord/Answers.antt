@@ -1,4 +1,4 @@
-use Rattle.std.proofs.Common.{◌≡◌, ◌∙◌, true, false, length, ap, refl, sym}
+use Rattle.std.proofs.Common.{◌≡◌, ◌∙◌, [], inl, true, false, length, ap, refl, sym}
 use Rattle.af_toolkit.specs.declared.end.ToolEnd.TheVariants as end
 use Rattle.af_lib.specs.Calls.{channels_or_one}
 use Rattle.af_toolkit.specs.Trace.{done, ends, refused}
@@ -8,6 +8,8 @@ use Rattle.af_toolkit.proofs.ToolPartLemmas.{followed_end, trace_goes_on, trace_
 use Rattle.af_tools.proofs.HavingRun.{arecord_on, missing_ran, there_ran}
 use Rattle.af_tools.proofs.DeviceChoiceLemmas.{is_missing, is_there, missing_iff, there_iff}
 use Rattle.af_tools.proofs.EndLemmas.{never}
+use Rattle.af_io.proofs.AppendedLemmas.{appended_none}
+use Rattle.af_tools.proofs.WriteStepLemmas.{records_for}
 use Rattle.af_tools.proofs.recorder.arecord.Goals as goal
 
 pub returns-in-Err-clause-ran : goal.returns-in-Err-clause-ran
@@ -54,3 +56,16 @@ pub record_on-requires-clause-channels : goal.record_on-requires-clause-channels
 record_on-requires-clause-channels g c =
     let there = is_there c.args.conn.now.devices c.args.job.now.device c.in-Ok.device c.in-Ok.ensures.value in
     ap channels_or_one there.get
+
+pub returns-in-Err-clause-step : goal.returns-in-Err-clause-step
+returns-in-Err-clause-step g c input told device there = inl (record { front = []; rest = _; whole = refl; appended = appended_none _ })
+
+pub returns-in-Ok-record_on-clause-step : goal.returns-in-Ok-record_on-clause-step
+returns-in-Ok-record_on-clause-step g c input told device there =
+    let t = is_there c.args.conn.now.devices c.args.job.now.device c.in-Ok.device c.in-Ok.ensures.value in
+    records_for c.args.job.now (sym t.get ∙ there) (λ bad. cc bad) (c.in-Ok-record_on.ensures.step input told)
+
+pub returns-in-Err-record_on-clause-step : goal.returns-in-Err-record_on-clause-step
+returns-in-Err-record_on-clause-step g c input told device there =
+    let t = is_there c.args.conn.now.devices c.args.job.now.device c.in-Ok.device c.in-Ok.ensures.value in
+    records_for c.args.job.now (sym t.get ∙ there) (λ bad. cc bad) (c.in-Err-record_on.ensures.step input told)

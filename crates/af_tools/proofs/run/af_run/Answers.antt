@@ -7,6 +7,8 @@ use Rattle.af_cli.specs.Call.{job_of_call}
 use Rattle.af_tools.specs.Reading.{TellsIfRead}
 use Rattle.af_tools.specs.Run.{EndsForCause, JobDone, job_form, job_reads}
 use Rattle.af_tools.proofs.OutcomeLemmas.{did, ranged_call}
+use Rattle.af_tools.specs.RunSteps.{JobInStep}
+use Rattle.af_tools.proofs.RunStepLemmas.{idle_steps}
 use Rattle.af_tools.proofs.DialLemmas.{not_too_long, ran_none}
 use Rattle.af_tools.proofs.run.af_run.Goals as goal
 
@@ -30,3 +32,14 @@ returns-in-Ok-clause-causes g c =
 
 pub returns-in-Ok-clause-unread : goal.returns-in-Ok-clause-unread
 returns-in-Ok-clause-unread g c j called server order t is = c.run_call.ensures.unread server order t (same_Some (job_of_call c.in-Ok.call) j (sym c.in-Ok.ensures.ok ∙ called) ∙ is)
+
+pub returns-in-Err-Usage-clause-step : goal.returns-in-Err-Usage-clause-step
+returns-in-Err-Usage-clause-step g c j called links bytes told tells = idle_steps j bytes end.Usage links _ _ _ _ _ _ (refl, refl) refl
+
+pub returns-in-Err-OutOfMemory-clause-step : goal.returns-in-Err-OutOfMemory-clause-step
+returns-in-Err-OutOfMemory-clause-step g c j called links bytes told tells = idle_steps j bytes end.OutOfMemory links _ _ _ _ _ _ (refl, refl) refl
+
+pub returns-in-Ok-clause-step : goal.returns-in-Ok-clause-step
+returns-in-Ok-clause-step g c j called =
+    subst (λ (x : Job). JobInStep g.D.Dial.links g.D.Dial.back g.S.Source.left g.K.Sink.held x c.run_call.result c.args.dial.now c.run_call.new.dial c.args.source.now c.run_call.new.source c.args.sink.now c.run_call.new.sink)
+    (same_Some (job_of_call c.in-Ok.call) j (sym c.in-Ok.ensures.ok ∙ called)) c.run_call.ensures.step

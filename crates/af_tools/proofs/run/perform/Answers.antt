@@ -37,3 +37,24 @@ pub returns-in-List-clause-end : goal.returns-in-List-clause-end
 returns-in-List-clause-end g c =
     let listing : c.args.task.now ≡ task.List = search rules in
     rw listing (list_end c.list.result c.list.ensures.end)
+
+pub returns-in-Play-clause-step : goal.returns-in-Play-clause-step
+returns-in-Play-clause-step g c input bytes told tells =
+    let play : c.args.task.now ≡ task.Play c.in-Play.job = search rules in
+    let source = tells (ap reads_source play) in
+    rw play (c.aplay.ensures.step input bytes told source.0 source.1)
+
+pub returns-in-Record-clause-step : goal.returns-in-Record-clause-step
+returns-in-Record-clause-step g c input bytes told tells =
+    let record_job : c.args.task.now ≡ task.Record c.in-Record.job = search rules in
+    rw record_job (c.arecord.ensures.step input told)
+
+pub returns-in-Set-clause-step : goal.returns-in-Set-clause-step
+returns-in-Set-clause-step g c input bytes told tells =
+    let set : c.args.task.now ≡ task.Set c.in-Set.job = search rules in
+    rw set tt
+
+pub returns-in-List-clause-step : goal.returns-in-List-clause-step
+returns-in-List-clause-step g c input bytes told tells =
+    let listing : c.args.task.now ≡ task.List = search rules in
+    rw listing (c.list.ensures.step input told)

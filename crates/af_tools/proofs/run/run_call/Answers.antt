@@ -6,6 +6,7 @@ use Rattle.af_cli.specs.Call.{job_of_call}
 use Rattle.af_cli.specs.declared.call.Call.TheVariants as call
 use Rattle.af_tools.specs.Reading.{DialGivesContext}
 use Rattle.af_tools.proofs.DialLemmas.{ran_none}
+use Rattle.af_tools.proofs.RunStepLemmas.{idle_steps}
 use Rattle.af_tools.proofs.run.run_call.Goals as goal
 
 pub returns-in-One-clause-asked : goal.returns-in-One-clause-asked
@@ -36,3 +37,16 @@ returns-in-One-clause-unread g c server order t is job play raw =
       | inl untouched ↦ inl untouched
       | inr made ↦ inr (λ told known. subst (λ (o : Order). DialGivesContext o job told) same_order (made told known))
     ]
+
+pub returns-in_default-clause-step : goal.returns-in_default-clause-step
+returns-in_default-clause-step g c told bytes is tells = idle_steps (job_of_call c.args.call.now) bytes end.OutOfMemory told _ _ _ _ _ _ (refl, refl) refl
+
+pub returns-in-One-clause-step : goal.returns-in-One-clause-step
+returns-in-One-clause-step g c told bytes is tells =
+    let one : c.args.call.now ≡ call.One c.in-One.call = search rules in
+    rw one (c.run_one.ensures.step told bytes is (rw one at tells))
+
+pub returns-clause-step : goal.returns-clause-step
+returns-clause-step g c told bytes is tells =
+    let relayed : c.args.call.now ≡ call.Relay c.in-Relay.call = search rules in
+    rw relayed tt

@@ -1,5 +1,5 @@
 use Rattle.std.proofs.Common.{rules, arith, refl}
-use Rattle.af_tools.proofs.HeadReadLemmas.{byte_read, ended_read, read_bad, read_begin, read_head, read_more, read_too_long, read_whole, takes_bad, takes_cut, takes_failed, takes_head, takes_too_long}
+use Rattle.af_tools.proofs.HeadReadLemmas.{byte_read, ended_read, gave_bad, gave_long, gave_open, read_bad, read_begin, read_head, read_more, read_too_long, read_whole, takes_bad, takes_cut, takes_failed, takes_head, takes_too_long}
 use Rattle.af_tools.proofs.sound.read_head.Goals as goal
 
 pub returns-in-Bytes-clause-brings : goal.returns-in-Bytes-clause-brings
@@ -87,3 +87,26 @@ loop-size-init g c = record {
   count = omega arith;
   read = read_begin c.args.form c.new-reader.result _ c.new-reader.ensures.taken;
 }
+
+pub returns-in-Bytes-clause-front : goal.returns-in-Bytes-clause-front
+returns-in-Bytes-clause-front g c bytes told tells =
+    let i = c.loop-size.invariant in
+    let more = byte_read c.in-Bytes.field-0 c.read.new.into (g.S.Source.left c.loop-size.source) (g.S.Source.left c.read.new.self) (search rules) c.in-Bytes.ensures.bound.0 c.in-Bytes.ensures.consumed in
+    gave_long i.read i.opens bytes told more tells
+
+pub returns-in-Ended-clause-front : goal.returns-in-Ended-clause-front
+returns-in-Ended-clause-front g c bytes told tells =
+    let i = c.loop-size.invariant in
+    gave_open i.read i.opens bytes told c.in-Ended.ensures.consumed tells
+
+pub returns-in-Failed-clause-front : goal.returns-in-Failed-clause-front
+returns-in-Failed-clause-front g c bytes told tells =
+    let i = c.loop-size.invariant in
+    gave_open i.read i.opens bytes told c.in-Failed.ensures.consumed tells
+
+pub returns-in-Bad-clause-front : goal.returns-in-Bad-clause-front
+returns-in-Bad-clause-front g c bytes told tells =
+    let i = c.loop-size.invariant in
+    let r = i.read in
+    let more = byte_read c.in-Bytes.field-0 c.read.new.into (g.S.Source.left c.loop-size.source) (g.S.Source.left c.read.new.self) (search rules) c.in-Bytes.ensures.bound.0 c.in-Bytes.ensures.consumed in
+    gave_bad r i.opens bytes told more tells c.in-Bad.fault ((c.in-Bad.ensures.bad c.args.form r.bytes c.in-Bad.fault r.taken).0 refl)

@@ -4,7 +4,9 @@ use Rattle.af_card.specs.contracts.between.Between.{the_view}
 use Rattle.af_program.specs.declared.starts.Starts.{Starts}
 use Rattle.af_program.specs.Waits.{after_end}
 use Rattle.af_card.specs.Between.{BetweenState, Accounts, CanBegin}
+use Rattle.af_card.specs.Passing.{begun_between}
 use Rattle.af_card.proofs.BetweenLemmas.{Accounts-begun, Accounts-not-begun}
+use Rattle.af_card.proofs.PassingLemmas.{begun-runs, begun-not}
 use Rattle.af_card.proofs.between.Between.begin.Goals as goal
 
 pub returns-in-Runs-clause-fits : goal.returns-in-Runs-clause-fits
@@ -30,4 +32,12 @@ returns-in_default g c =
       tried = ap (λ (s : Starts). s.tried) (c.end.ensures.ended ∙ ap (λ s. after_end s c.args.at c.args.at) c.begin.ensures.begun)
           ∙ ap (λ (b : BetweenState). b.starts.tried + 1) c.self.view_is;
       runs = λ is. absurd (c.in_default.not-Runs is);
+      state = begun-not (the_view c.self.inside) c.start-launched.result c.args.at c.end.new.self c.in_default.not-Runs
+          (c.end.ensures.ended ∙ ap (λ s. after_end s c.args.at c.args.at) c.begin.ensures.begun) ∙ ap (begun_between c.start-launched.result c.args.at) c.self.view_is;
     }
+
+pub returns-in-Runs-clause-state : goal.returns-in-Runs-clause-state
+returns-in-Runs-clause-state g c =
+    ap (λ r. record (the_view c.self.inside) { running = Some r; starts = c.begin.new.self }) c.begun.ensures ∙
+    begun-runs (the_view c.self.inside) c.start-launched.result c.args.at c.begin.new.self c.in-Runs.is c.begin.ensures.begun ∙
+    ap (begun_between c.start-launched.result c.args.at) c.self.view_is

@@ -1,4 +1,4 @@
-use Rattle.std.proofs.Common.{◌≡◌, ◌≤◌, ap, subst, ◌∙◌}
+use Rattle.std.proofs.Common.{rules, ◌≡◌, ◌≤◌, ap, subst, ◌∙◌}
 use Rattle.std.proofs.Math.Nat.{le_refl}
 use Rattle.af_io.specs.declared.flow.Put.TheVariants.{Failed}
 use Rattle.af_backend.specs.declared.devices.Devices.{Devices}
@@ -8,9 +8,6 @@ use Rattle.af_lines.specs.HeldLines.{all_line_orders}
 use Rattle.af_live.specs.RealWorld.{RealState}
 use Rattle.af_backend.proofs.BackendLemmas.{captures_same}
 use Rattle.af_live.proofs.mio_world.MioWorldWorld.capture.Goals as goal
-
-pub returns-clause-faults : goal.returns-clause-faults
-returns-clause-faults g c = subst (λ (s : RealState). CountsOne (c.capture-put.result ≡ Failed) s.device_faults c.count_put.new.faults) c.self.view_is c.count_put.ensures
 
 pub returns-clause-leads : goal.returns-clause-leads
 returns-clause-leads g c = let v = c.self.view_is in record {
@@ -25,7 +22,10 @@ returns-clause-leads g c = let v = c.self.view_is in record {
   wait_faults = ap (λ (s : RealState). s.wait_faults) v;
 }
 
-pub returns-clause-backends : goal.returns-clause-backends
-returns-clause-backends g c =
-    subst (λ (s : RealState). CapturesAt c.args.device c.capture-put.result c.capture-put.new.into s.backends c.capture-put.new.self.attached) c.self.view_is
-    c.capture-put.ensures.captures
+pub returns-clause-step : goal.returns-clause-step
+returns-clause-step g c = record {
+  faults = subst (λ (s : RealState). CountsOne (c.capture-put.result ≡ Failed) s.device_faults c.count_put.new.faults) c.self.view_is c.count_put.ensures;
+  backends = subst (λ (s : RealState). CapturesAt c.args.device c.capture-put.result c.capture-put.new.into s.backends c.capture-put.new.self.attached) c.self.view_is
+      c.capture-put.ensures.captures;
+  rest = search rules;
+}

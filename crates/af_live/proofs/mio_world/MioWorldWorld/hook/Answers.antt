@@ -1,15 +1,13 @@
-use Rattle.std.proofs.Common.{◌≡◌, ◌≤◌, ap, subst, ◌∙◌}
+use Rattle.std.proofs.Common.{rules, ◌≡◌, ◌≤◌, ap, subst, ◌∙◌, refl}
 use Rattle.std.proofs.Math.Nat.{le_refl}
 use Rattle.af_io.specs.declared.flow.Put.TheVariants.{Failed}
 use Rattle.af_backend.specs.Backends.{all_without_bytes}
 use Rattle.af_lines.specs.HeldLines.{all_line_orders, HooksAt}
 use Rattle.af_lines.proofs.LinesLemmas.{hooks_same}
 use Rattle.af_live.specs.Counting.{CountsOne}
+use Rattle.af_live.specs.Readings.{AsksClock}
 use Rattle.af_live.specs.RealWorld.{RealState}
 use Rattle.af_live.proofs.mio_world.MioWorldWorld.hook.Goals as goal
-
-pub returns-clause-faults : goal.returns-clause-faults
-returns-clause-faults g c = subst (λ (s : RealState). CountsOne (c.hook-put.result ≡ Failed) s.device_faults c.count_put.new.faults) c.self.view_is c.count_put.ensures
 
 pub returns-clause-leads : goal.returns-clause-leads
 returns-clause-leads g c = let v = c.self.view_is in
@@ -25,5 +23,11 @@ returns-clause-leads g c = let v = c.self.view_is in
       wait_faults = ap (λ (s : RealState). s.wait_faults) v;
     }
 
-pub returns-clause-hooks : goal.returns-clause-hooks
-returns-clause-hooks g c = subst (λ (s : RealState). HooksAt c.args.device c.args.off c.hook-put.result s.lines c.hook-put.new.self) c.self.view_is c.hook-put.ensures
+pub returns-clause-step : goal.returns-clause-step
+returns-clause-step g c = record {
+  faults = subst (λ (s : RealState). CountsOne (c.hook-put.result ≡ Failed) s.device_faults c.count_put.new.faults) c.self.view_is c.count_put.ensures;
+  hooks = subst (λ (s : RealState). HooksAt c.args.device c.args.off c.hook-put.result s.lines c.hook-put.new.self) c.self.view_is c.hook-put.ensures;
+  clock = subst (λ (s : RealState). AsksClock s.clock (record { timer = c.moment-at.new.self; step = c.self.inside.step })) c.self.view_is
+      (c.moment-at.new.self.shown, c.moment-at.ensures.asks, refl);
+  rest = search rules;
+}

@@ -1,4 +1,4 @@
-use Rattle.std.proofs.Common.{◌≡◌, ◌≤◌, true, ap, subst, ◌∙◌}
+use Rattle.std.proofs.Common.{rules, ◌≡◌, ◌≤◌, true, ap, subst, ◌∙◌}
 use Rattle.std.proofs.Math.Nat.{le_refl}
 use Rattle.af_world.specs.declared.world.LinkGot.TheVariants.{Failed, NotYet}
 use Rattle.af_live.specs.LinkTable.{is_drained, is_free, link_at, KeepsOpen}
@@ -7,9 +7,6 @@ use Rattle.af_live.specs.Counting.{CountsOne}
 use Rattle.af_lines.specs.HeldLines.{all_line_orders}
 use Rattle.af_live.specs.RealWorld.{RealState}
 use Rattle.af_live.proofs.mio_world.MioWorldWorld.read.Goals as goal
-
-pub returns-clause-faults : goal.returns-clause-faults
-returns-clause-faults g c = subst (λ (s : RealState). CountsOne (c.read_link-got.result ≡ Failed) s.link_faults c.count_got.new.faults) c.self.view_is c.count_got.ensures
 
 pub returns-clause-leads : goal.returns-clause-leads
 returns-clause-leads g c = let v = c.self.view_is in record {
@@ -24,11 +21,12 @@ returns-clause-leads g c = let v = c.self.view_is in record {
   wait_faults = ap (λ (s : RealState). s.wait_faults) v;
 }
 
-pub returns-clause-open : goal.returns-clause-open
-returns-clause-open g c = subst (λ (s : RealState). KeepsOpen s.links c.read_link-got.new.links) c.self.view_is c.read_link-got.ensures.open
-
-pub returns-clause-unheld : goal.returns-clause-unheld
-returns-clause-unheld g c = subst (λ (s : RealState). is_free (link_at s.links c.args.link) ≡ true → c.read_link-got.result ≡ Failed) c.self.view_is c.read_link-got.ensures.unheld
-
-pub returns-clause-drained : goal.returns-clause-drained
-returns-clause-drained g c = subst (λ (s : RealState). s.listens ≡ true → is_drained (link_at s.links c.args.link) ≡ true → c.read_link-got.result ≡ NotYet) c.self.view_is c.read_link-got.ensures.drained
+pub returns-clause-step : goal.returns-clause-step
+returns-clause-step g c = record {
+  faults = subst (λ (s : RealState). CountsOne (c.read_link-got.result ≡ Failed) s.link_faults c.count_got.new.faults) c.self.view_is c.count_got.ensures;
+  keeps_open = subst (λ (s : RealState). KeepsOpen s.links c.read_link-got.new.links) c.self.view_is c.read_link-got.ensures.open;
+  unheld = subst (λ (s : RealState). is_free (link_at s.links c.args.link) ≡ true → c.read_link-got.result ≡ Failed) c.self.view_is c.read_link-got.ensures.unheld;
+  drained = subst (λ (s : RealState). s.listens ≡ true → is_drained (link_at s.links c.args.link) ≡ true → c.read_link-got.result ≡ NotYet) c.self.view_is c.read_link-got.ensures.drained;
+  after = search rules;
+  rest = search rules;
+}

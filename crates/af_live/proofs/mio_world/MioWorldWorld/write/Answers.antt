@@ -1,4 +1,4 @@
-use Rattle.std.proofs.Common.{◌≡◌, ◌≤◌, true, ap, subst, ◌∙◌}
+use Rattle.std.proofs.Common.{rules, ◌≡◌, ◌≤◌, true, ap, subst, ◌∙◌}
 use Rattle.std.proofs.Math.Nat.{le_refl}
 use Rattle.af_world.specs.declared.world.LinkTook.TheVariants.{Failed}
 use Rattle.af_live.specs.LinkTable.{is_free, link_at, KeepsOpen}
@@ -7,9 +7,6 @@ use Rattle.af_live.specs.Counting.{CountsOne}
 use Rattle.af_lines.specs.HeldLines.{all_line_orders}
 use Rattle.af_live.specs.RealWorld.{RealState}
 use Rattle.af_live.proofs.mio_world.MioWorldWorld.write.Goals as goal
-
-pub returns-clause-faults : goal.returns-clause-faults
-returns-clause-faults g c = subst (λ (s : RealState). CountsOne (c.write_link-took.result ≡ Failed) s.link_faults c.count_took.new.faults) c.self.view_is c.count_took.ensures
 
 pub returns-clause-leads : goal.returns-clause-leads
 returns-clause-leads g c = let v = c.self.view_is in record {
@@ -24,8 +21,11 @@ returns-clause-leads g c = let v = c.self.view_is in record {
   wait_faults = ap (λ (s : RealState). s.wait_faults) v;
 }
 
-pub returns-clause-open : goal.returns-clause-open
-returns-clause-open g c = subst (λ (s : RealState). KeepsOpen s.links c.write_link-took.new.links) c.self.view_is c.write_link-took.ensures.open
-
-pub returns-clause-unheld : goal.returns-clause-unheld
-returns-clause-unheld g c = subst (λ (s : RealState). is_free (link_at s.links c.args.link) ≡ true → c.write_link-took.result ≡ Failed) c.self.view_is c.write_link-took.ensures.unheld
+pub returns-clause-step : goal.returns-clause-step
+returns-clause-step g c = record {
+  faults = subst (λ (s : RealState). CountsOne (c.write_link-took.result ≡ Failed) s.link_faults c.count_took.new.faults) c.self.view_is c.count_took.ensures;
+  keeps_open = subst (λ (s : RealState). KeepsOpen s.links c.write_link-took.new.links) c.self.view_is c.write_link-took.ensures.open;
+  unheld = subst (λ (s : RealState). is_free (link_at s.links c.args.link) ≡ true → c.write_link-took.result ≡ Failed) c.self.view_is c.write_link-took.ensures.unheld;
+  after = search rules;
+  rest = search rules;
+}

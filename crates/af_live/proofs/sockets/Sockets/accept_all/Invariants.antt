@@ -1,5 +1,8 @@
-use Rattle.af_live.specs.Polls.{PollsTo}
+use Rattle.std.proofs.Common.{◌≡◌}
+use Rattle.af_live.specs.Polls.{TakesAll}
 use Rattle.af_live.proofs.sockets.Sockets.accept_all.Given as goal
 
 abbrev pub invariant-loop : goal.invariant-loop
-invariant-loop l = PollsTo l.initial.links l.links
+invariant-loop l =
+    TakesAll l.initial.self.streams l.initial.links l.self.streams l.links
+    × (l.self.pause ≡ l.initial.self.pause) × (l.self.events ≡ l.initial.self.events)

@@ -53,8 +53,8 @@ abbrev pub last_acts : Option LineChange → Bool → ℕ → List ToldAct
 last_acts (Some change) runs at = captured (text_of change) ∷ []
 last_acts None runs at = if runs then [] else ended at ∷ []
 
--- A program is offered what it is owed. If no change is left of what it gave, it is asked for more. It is ended exactly if it gives
--- no change and does not go on. No other act is added.
+-- A program is offered what it is owed. If no change is left of what it gave, it is asked for more. It is ended exactly if it
+-- gives no change and does not go on. No other act is added.
 pub record AsksProgram (at : ℕ) (change : Option LineChange) (before after : DialogueState) (acts acts' : Option (List ToldAct)) :
     Type 0 where
   pub mid : DialogueState

@@ -62,9 +62,9 @@ pub record IsBegun (restarts : ℕ) (words : List (List ℕ)) (e : ExchangeUse) 
   pub starts_once : StartsOnce at words e.acts
   pub told : IsToldUse e
 
--- It is asked at a moment, and gives this change or none. A program that runs is offered what it is owed, and asked for more if no
--- change is left of what it gave. If it gives none, all that it said was given, and one that gives or takes nothing any more was
--- ended. If no program runs, a start is tried, if one may come.
+-- It is asked at a moment, and gives this change or none. A program that runs is offered what it is owed, and asked for more if
+-- no change is left of what it gave. If it gives none, all that it said was given, and one that gives or takes nothing any more
+-- was ended. If no program runs, a start is tried, if one may come.
 pub record AsksExchange (at : ℕ) (change : Option LineChange) (before after : ExchangeUse) : Type 0 where
   pub notes : Notes (lines_of change) [] (order_at before.dialogue before.words at) before.acts after.acts
   pub possible : IfSome change (λ c. is_change c ≡ true)

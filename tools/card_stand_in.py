@@ -2,9 +2,9 @@
 
     python3 card_stand_in.py SYSTEM plays|records RATE WIDTH AHEAD OPTION,..
 
-It plays or records by a clock of its own, and says what the real one says: how much sound it holds, and gaps. SYSTEM is alsa, pulse
-or pipewire. What plays begins to sound once it holds AHEAD milliseconds. aplay holds no more; the others take all that comes. An
-option may be
+It plays or records by a clock of its own, and says what the real one says: how much sound it holds, and gaps. SYSTEM is alsa,
+pulse or pipewire. What plays begins to sound once it holds AHEAD milliseconds. aplay holds no more; the others take all that
+comes. An option may be
 
     stands=AT:FOR     the sink stands still for so many seconds, and what comes then is held
     own=MS            the sink has a delay of its own. Where the player has nothing to play, it waits for AHEAD milliseconds again

@@ -17,12 +17,14 @@ from card_ends import is_gone
 from card_systems import SCRIPTS
 from cards import LOGGED, PLAYED, Card, emitted, left_out, playing, wait_for
 from runner import below
+from stuck import children
 
 # the systems with the words of their cards, what plays and records, and the milliseconds that are held
 RATE = 8000
 SYSTEMS = {
-    "alsa": ("card 8000 1 S16_BE", ("aplay", "arecord"), 80), "pulse": ("8000 1 s16be", ("pacat", "parec"), 60),
-    "pipewire": ("8000 1 s16", ("pw-cat",), 20)}
+    "alsa": ("card 8000 1 S16_BE 80", ("aplay", "arecord"), 80),
+    "pulse": ("8000 1 s16be source sink 60", ("pacat", "parec"), 60),
+    "pipewire": ("8000 1 s16 source sink", ("pw-cat",), 20)}
 LEAST_MARGIN = 100
 # when a sink stands still and for how long, how long is played, and how far the lateness that is told may be off, in seconds
 STANDS, STOOD, PLAYS, OFF = 4, 0.35, 8, 0.2
@@ -45,9 +47,9 @@ def is_missing(trial):
 
 
 class Late:
-    """A server with a card of each of some systems, whose programs have these options."""
+    """A server with a card of each of some systems, whose programs have these options, and maybe with a limit."""
 
-    def __init__(self, trial, systems, options="", limit=()):
+    def __init__(self, trial, systems, options="", limit=""):
         self.trial, self.systems = trial, list(systems)
         folder = tempfile.mkdtemp(dir=trial.folder)
         programs = os.path.join(folder, "programs")
@@ -59,7 +61,7 @@ class Late:
                 trial.file(programs, name, text.encode())
                 os.chmod(os.path.join(programs, name), 0o755)
         self.cards = {it: Card(it, "lin16", RATE) for it in systems}
-        lines = ["device lin16 %d 0 card 9 audiofile-%s-card %s" % (RATE, it, " ".join([SYSTEMS[it][0], *limit])) for it in systems]
+        lines = ["device lin16 %d 0 card 9 audiofile-%s-card %s %s" % (RATE, it, SYSTEMS[it][0], limit) for it in systems]
         path = "PATH=%s:%s:%s" % (programs, SCRIPTS, os.environ["PATH"])
         self.server = trial.serve(*lines, before=[*LOGGED, path], folder=folder)
 
@@ -119,11 +121,11 @@ def is_heard_but(trial, late, system, played):
     trial.holds("%s: %s frames are left out, and %d are told" % (system, lost, told), lost == told)
 
 
-def tried(trial, options, judges):
+def tried(trial, options, judges, limit=""):
     """Plays to a card of each system, whose programs have these options. What was told of each is judged."""
     if is_missing(trial):
         return
-    with Late(trial, SYSTEMS, options) as late:
+    with Late(trial, SYSTEMS, options, limit) as late:
         time.sleep(1)
         players = {it: playing(late.server, at, late.cards[it], PLAYS) for at, it in enumerate(SYSTEMS)}
         for system, player in players.items():
@@ -142,8 +144,9 @@ def late(trial):
             # before aplay there is less room than that
             most, least = ahead + 1000 * STOOD, ahead + (LEAST_MARGIN if system == "alsa" else 1000 * STOOD)
             is_so = least - 1000 * OFF * (system != "alsa") <= by <= most + 1000 * OFF
-            told = "%s: it is late by %d to %d ms: %d, and %d frames had no room" % (system, least, most, by, late.no_room(system))
-            trial.holds(told, is_so)
+            no_room = late.no_room(system)
+            told = "it is late by %d to %d ms: %d, and %d frames had no room" % (least, most, by, no_room)
+            trial.holds("%s: %s" % (system, told), is_so)
             dropped = 1000 * frames / RATE
             trial.holds("%s: the rest is dropped: %d ms" % (system, dropped), -20 <= by - ahead - dropped <= 20)
         held = late.held(system)
@@ -154,7 +157,16 @@ def late(trial):
 
 def in_time(trial):
     """A card that is not late: all is heard, and nothing is told."""
-    tried(trial, "", lambda late, system, *told: trial.holds("%s: nothing is told: %s" % (system, told), not any(told)))
+    tried(trial, "", lambda late, system, *told: is_untold(trial, system, told))
+
+
+def in_limit(trial):
+    """A sink that stands still, and a limit that is more than the card is late then: all is heard, and nothing is told."""
+    tried(trial, "stands=%s:%s" % (STANDS, STOOD), lambda late, system, *told: is_untold(trial, system, told), "1000")
+
+
+def is_untold(trial, system, told):
+    trial.holds("%s: nothing is told: %s" % (system, told), not any(told))
 
 
 def gaps(trial):
@@ -198,19 +210,14 @@ def all_end(trial):
 
 def began(trial, server):
     """The cards of a server, once each has both of its programs."""
-    cards = lambda: below(server.process.pid)[:0] + [it for it in children_of(server.process.pid)]
+    cards = lambda: children(server)
     all_run = lambda: len(cards()) == len(SYSTEMS) and all(len(list(filter(has_way, below(it)))) == 2 for it in cards())
     trial.holds("all cards run", wait_for(all_run, 12))
     return cards()
 
 
-def children_of(process):
-    with open("/proc/%d/task/%d/children" % (process, process)) as file:
-        return list(map(int, file.read().split()))
-
-
 def words_of(process):
-    """The command line of a process. None if it has ended."""
+    """The command line of a process, or nothing if it has ended."""
     with contextlib.suppress(OSError):
         with open("/proc/%d/cmdline" % process) as file:
             return file.read().replace("\0", " ")
@@ -224,15 +231,16 @@ def has_way(process):
 def wrong_words(trial):
     """Arguments that are wrong are refused in one line. A limit is more than what is held ahead."""
     usage = "usage: audiofile-%s-card "
+    limit = "audiofile-%s-card: a limit of "
     for name, words, told in (
-            ("pulse", "8000 1 s16be src sink 60 60", "audiofile-pulse-card: a limit of 60 ms is not more than the 60 ms that are held ahead\n"),
-            ("alsa", "null 8000 1 S16_BE 80 10", "audiofile-alsa-card: a limit of 10 ms is not more than the 80 ms that are held ahead\n"),
-            ("pipewire", "8000 1 s16 auto auto 20", "audiofile-pipewire-card: a limit of 20 ms is not more than the 20 ms that are held ahead\n"),
-            ("pulse", "8000 1 s16be src sink soon", usage), ("pulse", "8000 1 s16be src sink 60 -1", usage), ("pulse", "8000 1", usage),
-            ("alsa", "null 8000 1 S16_BE 80 x", usage), ("alsa", "null 8000 1", usage), ("pipewire", "8000 1 s16 auto auto 1s", usage)):
+            ("pulse", "8000 1 s16be src sink 60 60", limit + "60 ms is not more than the 60 ms that are held ahead\n"),
+            ("alsa", "null 8000 1 S16_BE 80 10", limit + "10 ms is not more than the 80 ms that are held ahead\n"),
+            ("pipewire", "8000 1 s16 auto auto 20", limit + "20 ms is not more than the 20 ms that are held ahead\n"),
+            ("pulse", "8000 1 s16be src sink soon", usage), ("pulse", "8000 1 s16be src sink 60 -1", usage),
+            ("pulse", "8000 1", usage), ("alsa", "null 8000 1 S16_BE 80 x", usage), ("alsa", "null 8000 1", usage),
+            ("pipewire", "8000 1 s16 auto auto 1s", usage)):
         script = os.path.join(SCRIPTS, "audiofile-%s-card" % name)
         done = subprocess.run([script, *words.split()], stdin=subprocess.DEVNULL, capture_output=True, timeout=20)
         said = done.stderr.decode()
-        wanted = told % name if "%" in told else told
-        is_so = done.returncode == 2 and not done.stdout and said.startswith(wanted) and said.count("\n") == 1
+        is_so = done.returncode == 2 and not done.stdout and said.startswith(told % name) and said.count("\n") == 1
         trial.holds("%s %s: %s" % (name, words, done), is_so)

@@ -68,7 +68,7 @@ ZSH_COMPLETIONS = $(call shell_word,$(DESTDIR)$(ZSH))
 PAGES = $(SHARE)/doc/audiofile
 DISSECTORS = $(call shell_word,$(DESTDIR)$(WIRESHARK))
 UNIT_EDIT = $(call shell_word,s|/usr/local/bin|$(call sed_text,$(call unit_word,$(PREFIX)/bin))|)
-ADAPTERS = $(wildcard contrib/audiofile-*-card contrib/audiofile-phone-*)
+ADAPTERS = $(wildcard contrib/audiofile-*-card contrib/audiofile-card-run contrib/audiofile-phone-*)
 EXAMPLES = $(wildcard contrib/*.conf) contrib/asoundrc $(wildcard examples/*.script examples/*.py) contrib/python/audiofile.py
 DISSECTOR = $(wildcard contrib/audiofile.lua)
 

@@ -33,8 +33,8 @@ way=records
 case "$0 $*" in *--help*) exit ;; */pacat\\ * | */aplay\\ * | *--playback*) way=plays ;; esac
 exec %s %s %s $way %d 2 %d %s
 """
-LATE = re.compile(rb"^audiofile-(\w+)-card: late by (\d+) ms, dropped (\d+) frames$", re.M)
-GAPS = re.compile(rb"^audiofile-(\w+)-card: ((?:\d+ (?:under|over)runs?(?: of at least \d+ ms)?(?:, )?)+)$", re.M)
+LATE = re.compile(rb"^# late by (\d+) ms, dropped (\d+) frames \(audiofile-(\w+)-card\)$", re.M)
+GAPS = re.compile(rb"^# ((?:\d+ (?:under|over)runs?(?: of at least \d+ ms)?(?:, )?)+) \(audiofile-(\w+)-card\)$", re.M)
 LOST = re.compile(rb"^afd: device (\d): its program had no room, and (\d+) frames were lost$", re.M)
 
 
@@ -78,8 +78,8 @@ class Late:
 
     def told(self, system):
         """The lines of a card: how late it was and how many frames were dropped, each time, and its gaps."""
-        late = [tuple(map(int, it[1:])) for it in LATE.findall(self.said()) if it[0].decode() == system]
-        return late, [it[1].decode() for it in GAPS.findall(self.said()) if it[0].decode() == system]
+        late = [tuple(map(int, it[:2])) for it in LATE.findall(self.said()) if it[2].decode() == system]
+        return late, [it[0].decode() for it in GAPS.findall(self.said()) if it[1].decode() == system]
 
     def no_room(self, system):
         """How many frames the server had no room for."""

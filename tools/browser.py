@@ -4,14 +4,20 @@ import base64
 import contextlib
 import http.client
 import json
+import os
 import re
 import select
 import shutil
+import signal
 import subprocess
+import tempfile
 import time
 
-# how long the driver may take to begin and to answer, in seconds
-BEGINS, ANSWERS = 10, 20
+from cards import waited
+from runner import below
+
+# how long the driver may take to begin, to answer, and to end the browser, in seconds
+BEGINS, ANSWERS, ENDS = 10, 20, 3
 OPTIONS = [
     "--headless=new", "--no-sandbox", "--disable-gpu", "--disable-dev-shm-usage", "--no-first-run", "--disable-extensions",
     "--disable-background-networking", "--disable-component-update", "--no-proxy-server"]
@@ -23,17 +29,16 @@ def lacks():
 
 
 class Browser:
-    """A window of so many pixels, or the screen of a telephone. Used with `with`, it is ended at the end."""
+    """A window of so many pixels. Used with `with`, it is ended at the end."""
 
-    def __init__(self, width, height, is_phone=False):
+    def __init__(self, width, height):
+        self.session, self.starved, self.home = None, 0, tempfile.mkdtemp()
         self.driver = subprocess.Popen(
-            ["chromedriver", "--port=0"], stdin=subprocess.DEVNULL, stdout=subprocess.PIPE, stderr=subprocess.STDOUT)
-        self.session = None
+            ["chromedriver", "--port=0"], stdin=subprocess.DEVNULL, stdout=subprocess.PIPE, stderr=subprocess.STDOUT,
+            env={**os.environ, "HOME": self.home, "XDG_CONFIG_HOME": self.home, "TMPDIR": self.home})
         try:
             self.port = self.begun()
             chosen = {"args": [*OPTIONS, "--window-size=%d,%d" % (width, height)]}
-            if is_phone:
-                chosen["mobileEmulation"] = {"deviceMetrics": {"width": width, "height": height, "pixelRatio": 2}}
             wanted = {"goog:chromeOptions": chosen, "goog:loggingPrefs": {"browser": "ALL"}}
             self.session = self.call("POST", "/session", {"capabilities": {"alwaysMatch": wanted}})["sessionId"]
         except BaseException:
@@ -60,15 +65,20 @@ class Browser:
         self.end()
 
     def end(self):
+        processes = below(self.driver.pid)
+        self.starved = waited(self.driver.pid, *processes)
         if self.session:
             with contextlib.suppress(OSError, http.client.HTTPException):
-                self.ask("DELETE", "")
-        self.driver.terminate()
+                self.call("DELETE", "/session/" + self.session, patience=ENDS)
+        for each in [self.driver.pid, *processes]:
+            with contextlib.suppress(ProcessLookupError):
+                os.kill(each, signal.SIGKILL)
         self.driver.communicate()
+        shutil.rmtree(self.home, ignore_errors=True)
 
-    def call(self, method, path, body=None):
+    def call(self, method, path, body=None, patience=ANSWERS):
         """What the driver gives. A fault that it tells is one here."""
-        link = http.client.HTTPConnection("127.0.0.1", self.port, timeout=ANSWERS)
+        link = http.client.HTTPConnection("127.0.0.1", self.port, timeout=patience)
         with contextlib.closing(link):
             link.request(method, path, None if body is None else json.dumps(body), {"Content-Type": "application/json"})
             value = json.loads(link.getresponse().read())["value"]
@@ -85,6 +95,11 @@ class Browser:
     def run(self, script, *words):
         """What a script of the page returns."""
         return self.ask("POST", "/execute/sync", {"script": script, "args": words})
+
+    def be_telephone(self, width, height):
+        """The screen of a telephone from now on."""
+        metrics = {"width": width, "height": height, "deviceScaleFactor": 2, "mobile": True}
+        self.ask("POST", "/goog/cdp/execute", {"cmd": "Emulation.setDeviceMetricsOverride", "params": metrics})
 
     def click(self, selector):
         """A person clicks on the first element that is chosen so."""

@@ -1,7 +1,6 @@
 """The page of contrib/audiofile-status in a browser: bars that move and stand, a server that goes and comes back, and what is
-heard. The picture of the manual is one of these trials, too."""
+heard."""
 
-import os
 import tempfile
 import threading
 import time
@@ -70,7 +69,8 @@ def seen(browser, script, seconds):
 def in_a_browser(trial):
     """The page, from silence over a tone to the end of its server, and back."""
     server = served(trial)
-    with Page(server.address) as page, Browser(1200, 800) as browser:
+    with server, Page(server.address, "no-such-host.invalid:1701") as page, Browser(1200, 800) as browser:
+        trial.others.append(browser)
         trial.holds("the server is there", page.is_up())
         browser.open(page.url)
         trial.holds("the server is shown", wait_for(lambda: browser.run(STATE) == "up"))
@@ -87,6 +87,7 @@ def in_a_browser(trial):
             trial.holds("it comes back", wait_for(lambda: browser.run(STATE) == "up"))
             shade = browser.run("return getComputedStyle(document.querySelector('.device')).filter")
             trial.holds("and is grey no more: %s" % shade, shade == "none")
+            on_a_telephone(trial, browser, page)
         complaints = browser.complaints()
         trial.holds("the console says nothing: %s" % complaints, complaints == [])
         trial.holds("the page ends, and says nothing", page.ended())
@@ -126,19 +127,14 @@ def is_heard(trial, browser, server):
     trial.holds("nothing is played then", browser.run("return window.played.length") == count)
 
 
-def on_a_telephone(trial):
+def on_a_telephone(trial, browser, page):
     """Nothing is wider than the screen of a telephone, and a thumb hits the button."""
-    server = served(trial)
-    with Page(server.address, "no-such-host.invalid:1701") as page, Browser(*SCREEN, is_phone=True) as browser:
-        trial.holds("the server is there", page.is_up())
-        browser.open(page.url)
-        trial.holds("the server is shown", wait_for(lambda: browser.run(STATE) == "up"))
-        width = browser.run("return [document.documentElement.scrollWidth, innerWidth]")
-        trial.holds("nothing is wider than the screen: %s" % width, width == [SCREEN[0], SCREEN[0]])
-        height = browser.run("return document.querySelector('button').getBoundingClientRect().height")
-        trial.holds("the button is as high as a thumb is wide: %s" % height, height >= 40)
-        names = browser.run("return [...document.querySelectorAll('[role=meter]')].map(it => it.getAttribute('aria-valuenow'))")
-        trial.holds("a reader of screens is told the levels: %s" % names, names == ["-60", "-60"])
-        complaints = browser.complaints()
-        trial.holds("the console says nothing: %s" % complaints, complaints == [])
-    trial.ends(server)
+    browser.be_telephone(*SCREEN)
+    browser.open(page.url)
+    trial.holds("the server is shown on a telephone", wait_for(lambda: browser.run(STATE) == "up"))
+    width = browser.run("return [document.documentElement.scrollWidth, innerWidth]")
+    trial.holds("nothing is wider than the screen: %s" % width, width == [SCREEN[0], SCREEN[0]])
+    height = browser.run("return document.querySelector('button').getBoundingClientRect().height")
+    trial.holds("the button is as high as a thumb is wide: %s" % height, height >= 40)
+    names = browser.run("return [...document.querySelectorAll('[role=meter]')].map(it => it.getAttribute('aria-valuenow'))")
+    trial.holds("a reader of screens is told the levels: %s" % names, names == ["-60", "-60"])

@@ -12,7 +12,7 @@ import sys
 import threading
 
 import cards
-from cards import Watched, wait_for
+from cards import Watched, wait_for, waited
 from serving import ROOT
 
 PROGRAM = os.path.join(ROOT, "contrib", "audiofile-status")
@@ -23,6 +23,11 @@ RATE = 8000
 
 class Trial(cards.Trial):
     tool = "try-status"
+    # the pages and the browsers, which note for how many seconds they had to wait for a processor
+    others = []
+
+    def starved(self):
+        return super().starved() + sum(each.starved for each in self.others)
 
 
 class Page:
@@ -34,18 +39,24 @@ class Page:
         self.process = subprocess.Popen(
             [sys.executable, PROGRAM, *words], stdin=subprocess.DEVNULL, stdout=subprocess.PIPE, stderr=subprocess.PIPE,
             env={**kept, **environment})
+        self.starved = 0
+        Trial.others.append(self)
         ready = select.select([self.process.stdout], [], [], BEGINS)[0]
         line = self.process.stdout.readline().decode() if ready else ""
         place = re.fullmatch(r"http://(127\.0\.0\.1):(\d+)/\n", line)
         if not place:
-            self.process.kill()
-            raise OSError("the page does not begin: %r %s" % (line, self.process.stderr.read()))
+            self.end()
+            raise OSError("the page does not begin: %r" % line)
         self.url, self.place = line.strip(), (place[1], int(place[2]))
 
     def __enter__(self):
         return self
 
     def __exit__(self, *_):
+        self.end()
+
+    def end(self):
+        self.starved = waited(self.process.pid) or self.starved
         self.process.kill()
         self.process.communicate()
 
@@ -79,6 +90,7 @@ class Page:
     def ended(self):
         """Whether it ran until now, and said nothing on standard error."""
         runs = self.process.poll() is None
+        self.starved = waited(self.process.pid)
         self.process.terminate()
         said = self.process.communicate(timeout=10)[1]
         return runs and said == b"" and self.process.returncode == 143

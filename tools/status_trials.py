@@ -46,7 +46,7 @@ def shown(trial):
     """Each field of a server whose devices are known, and no request but those that read."""
     server = trial.serve(*DEVICES, folder=folder_with(trial, "in", steady()))
     tap = Tap(server.address)
-    with Page(tap.address) as page, audiofile.connect(server.address, timeout=20) as client:
+    with server, Page(tap.address) as page, audiofile.connect(server.address, timeout=20) as client:
         client.set_controls(0, input_on=False, output_gain=-12)
         client.hook(0, True)
         is_off = page.becomes(lambda it: it["is_up"] and it["devices"][0]["line"]["given_off"])
@@ -68,9 +68,9 @@ def shown(trial):
         trial.holds("health", page.ask("/healthz")[::2] == (200, b"ok\n"))
         metrics(trial, page, tap.address)
         trial.holds("the page ends, and says nothing", page.ended())
+        trial.ends(server)
     asked = {item.name for item in ClientSide().feed(tap.noted)} - {"after"}
     trial.holds("it only reads: %s" % sorted(asked), asked <= READS)
-    trial.ends(server)
 
 
 def metrics(trial, page, address):
@@ -115,7 +115,7 @@ def told_by_a_log(trial):
         "<4>afd: device 0: its program had no room, and 800 frames were lost", "afd: 3 turned away: all 32 connections are in use",
         before + "afd: device 0: its program had no room, and 25 frames were lost", "afd: 12 lines left out",
         "device 0: 5 frames were lost", "afd: device 9: its program had no room, and 3 frames were lost", "\xff" * 9000]
-    with open(path, "w", encoding="latin-1") as file, Page(server.address, journal=[path]) as page:
+    with server, open(path, "w", encoding="latin-1") as file, Page(server.address, journal=[path]) as page:
         file.write("".join(line + "\n" for line in lines))
         file.flush()
         has_read = page.becomes(lambda it: it["is_up"] and it["journal"]["lines_left_out"] == 12)
@@ -130,13 +130,13 @@ def told_by_a_log(trial):
         file.flush()
         is_failed = page.becomes(lambda it: (it["devices"][0]["failed"] or "").startswith("nothing can be captured"))
         trial.holds("a device that failed", is_failed)
-    trial.ends(server, is_logged=True)
+        trial.ends(server, is_logged=True)
 
 
 def comes_back(trial):
     """A server that ends is gone, and is there again once another one has its address. Nothing of its devices is in metrics."""
     server = trial.serve(DEVICES[0])
-    with Page(server.address, "127.0.0.1:%d" % free_port()) as page:
+    with server, Page(server.address, "127.0.0.1:%d" % free_port()) as page:
         trial.holds("it is there", page.is_up())
         trial.holds("one that never was is gone", page.servers()[1]["reason"] == "connection refused")
         server.end()
@@ -199,7 +199,7 @@ def bad_requests(trial):
             b"/..", b"/../../etc/passwd", b"/%2e%2e/x", b"//", b"*", b"/listen/", b"/listen/9.wav", b"/listen/-1.wav", b"/listen/1/0.wav",
             b"/listen/0.wav/", b"/listen/00000000000000000000.wav", b"http://localhost/", b"/audiofile-status.html", b"/\xff")))
     server = trial.serve(DEVICES[0])
-    with Page(server.address) as page:
+    with server, Page(server.address) as page:
         trial.holds("it is there", page.is_up())
         for wanted, octets in rows:
             said = page.raw(octets)
@@ -214,13 +214,13 @@ def bad_requests(trial):
         policy = page.ask("/")[1]["Content-Security-Policy"]
         trial.holds("only the page's own script runs", "'none'" in policy and "sha256-" in policy and "unsafe" not in policy)
         trial.holds("the page ends, and says nothing", page.ended())
-    trial.ends(server)
+        trial.ends(server)
 
 
 def silent_connections(trial):
     """A hundred and more connections that say nothing, or half of something, keep nobody out, and are ended."""
     server = trial.serve(DEVICES[0])
-    with Page(server.address) as page, contextlib.ExitStack() as links:
+    with server, Page(server.address) as page, contextlib.ExitStack() as links:
         trial.holds("it is there", page.is_up())
         silent = [links.enter_context(socket.create_connection(page.place, ANSWERS)) for _ in range(SILENT_CONNECTIONS)]
         for link in silent[::3]:
@@ -243,7 +243,7 @@ def silent_connections(trial):
             ended += said is not None and (said == b"" or said.startswith(b"HTTP/1.1 408 "))
         trial.holds("each is ended: %d" % ended, ended == SILENT_CONNECTIONS)
         trial.holds("the page ends, and says nothing", page.ended())
-    trial.ends(server)
+        trial.ends(server)
 
 
 def streamed(page, path, size):
@@ -259,7 +259,7 @@ def streams(trial):
     """What is heard of a device is what it captures, sample by sample, from one moment on."""
     noise = random.Random(5).choices(range(-30000, 30000), k=2 * 20 * RATE)
     server = trial.serve(*DEVICES, folder=folder_with(trial, "in", struct.pack(">%dh" % len(noise), *noise)))
-    with Page("127.0.0.1:%d" % free_port(), server.address) as page:
+    with server, Page("127.0.0.1:%d" % free_port(), server.address) as page:
         trial.holds("it is there", page.is_up(1))
         status, kind, octets = streamed(page, "/listen/1/1.wav", 44 + 4 * 2 * RATE)
         wanted = b"RIFF\xff\xff\xff\xffWAVEfmt " + struct.pack("<IHHIIHH", 16, 1, 2, RATE, 4 * RATE, 4, 16) + b"data\xff\xff\xff\xff"
@@ -279,7 +279,7 @@ def streams(trial):
         trial.holds("who goes is not", page.becomes(lambda it: it["devices"][0]["listeners"] == 0, 1))
         trial.holds("one of the eight may again", page.ask("/listen/1/0.wav", "HEAD")[0] == 200)
         trial.holds("the page ends, and says nothing", page.ended())
-    trial.ends(server)
+        trial.ends(server)
 
 
 def words(trial):

@@ -41,13 +41,20 @@ class Page:
             env={**kept, **environment})
         self.starved = 0
         Trial.others.append(self)
+        try:
+            self.url, self.place = self.begun()
+        except BaseException:
+            self.end()
+            raise
+
+    def begun(self):
+        """Waits until it says where it is: its address as a browser has it, and as a socket has it."""
         ready = select.select([self.process.stdout], [], [], BEGINS)[0]
         line = self.process.stdout.readline().decode() if ready else ""
-        place = re.fullmatch(r"http://(127\.0\.0\.1):(\d+)/\n", line)
+        place = re.fullmatch(r"(http://(127\.0\.0\.1):(\d+)/)\n", line)
         if not place:
-            self.end()
             raise OSError("the page does not begin: %r" % line)
-        self.url, self.place = line.strip(), (place[1], int(place[2]))
+        return place[1], (place[2], int(place[3]))
 
     def __enter__(self):
         return self

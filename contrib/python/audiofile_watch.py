@@ -238,7 +238,8 @@ class Watch(threading.Thread):
                 with audiofile.connect(self.address, timeout=PATIENCE) as connection:
                     connection.patience = PATIENCE
                     self.watch(connection)
-            except (audiofile.Error, OSError, ValueError) as fault:
+            except Exception as fault:
+                # whatever a server does that it should not, it is looked for again
                 self.lose(reason_of(fault))
             time.sleep(AGAIN)
 

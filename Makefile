@@ -68,7 +68,9 @@ ZSH_COMPLETIONS = $(call shell_word,$(DESTDIR)$(ZSH))
 PAGES = $(SHARE)/doc/audiofile
 DISSECTORS = $(call shell_word,$(DESTDIR)$(WIRESHARK))
 UNIT_EDIT = $(call shell_word,s|/usr/local/bin|$(call sed_text,$(call unit_word,$(PREFIX)/bin))|)
-ADAPTERS = $(wildcard contrib/audiofile-*-card contrib/audiofile-phone-*)
+ADAPTERS = $(wildcard contrib/audiofile-*-card contrib/audiofile-card-run contrib/audiofile-phone-*) contrib/audiofile-status
+# what audiofile-status needs: the modules, and the page
+STATUS = $(wildcard contrib/python/audiofile*.py) contrib/audiofile-status.html
 EXAMPLES = $(wildcard contrib/*.conf) contrib/asoundrc $(wildcard examples/*.script examples/*.py) contrib/python/audiofile.py
 DISSECTOR = $(wildcard contrib/audiofile.lua)
 
@@ -91,11 +93,13 @@ install: ## puts programs, manual pages, units, completions, examples and dissec
 	@for program in $(call shell_word,$(AFD)) $(call shell_word,$(AF)); do [ -f "$$program" ] && [ -x "$$program" ] || \
 	  { printf '%s is not there: make build proves and makes it\n' "$$program" >&2; exit 1; }; done
 	install -d -- $(PROGRAMS) $(MANUALS)/man1 $(MANUALS)/man5 $(MANUALS)/man7 $(MANUALS)/man8 $(UNITS) $(USER_UNITS)
-	install -d -- $(PAGES)/examples $(DISSECTORS) $(BASH_COMPLETIONS) $(ZSH_COMPLETIONS)
+	install -d -- $(PAGES)/examples $(DISSECTORS) $(BASH_COMPLETIONS) $(ZSH_COMPLETIONS) $(SHARE)/audiofile
 	install -m 755 -- $(call shell_word,$(AFD)) $(PROGRAMS)/afd
 	install -m 755 -- $(call shell_word,$(AF)) $(PROGRAMS)/af
 	install -m 755 -- $(ADAPTERS) $(PROGRAMS)
+	install -m 644 -- $(STATUS) $(SHARE)/audiofile
 	install -m 644 -- man/af.1 $(MANUALS)/man1/af.1
+	install -m 644 -- man/audiofile-status.1 $(MANUALS)/man1/audiofile-status.1
 	install -m 644 -- man/afd-script.5 $(MANUALS)/man5/afd-script.5
 	install -m 644 -- man/audiofile-protocol.7 $(MANUALS)/man7/audiofile-protocol.7
 	install -m 644 -- man/afd.8 $(MANUALS)/man8/afd.8
@@ -113,6 +117,7 @@ uninstall: ## takes away what install put there, with the same PREFIX and DESTDI
 	rm -f -- $(PROGRAMS)/afd $(PROGRAMS)/af $(addprefix $(PROGRAMS)/,$(notdir $(ADAPTERS)))
 	rm -f -- $(UNITS)/afd.service $(USER_UNITS)/afd.service $(PAGES)/copyright
 	rm -f -- $(BASH_COMPLETIONS)/af $(BASH_COMPLETIONS)/afd $(ZSH_COMPLETIONS)/_audiofile
+	rm -f -- $(addprefix $(SHARE)/audiofile/,$(notdir $(STATUS))) $(MANUALS)/man1/audiofile-status.1
 	rm -f -- $(MANUALS)/man1/af.1 $(MANUALS)/man5/afd-script.5 $(MANUALS)/man7/audiofile-protocol.7 $(MANUALS)/man8/afd.8
 	rm -f -- $(addprefix $(PAGES)/examples/,$(notdir $(EXAMPLES))) $(addprefix $(DISSECTORS)/,$(notdir $(DISSECTOR)))
 	rm -f -- $(PAGES)/examples/__pycache__/audiofile.*.pyc

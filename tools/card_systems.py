@@ -156,16 +156,21 @@ def alsa_card(trial):
 
 
 def no_setpriv(trial):
-    """Without the setpriv of util-linux the script of a card starts nothing, and says so. Another one knows no --pdeathsig."""
-    other = os.path.join(trial.folder, "setpriv")
-    trial.file(trial.folder, "setpriv", b"#!/bin/sh\nexit 1\n")
-    os.chmod(other, 0o755)
-    for found, words in [("/nowhere", "a folder without it"), (trial.folder, "another setpriv")]:
+    """Without the setpriv of util-linux or python3 the script of a card starts nothing, and says so. Another setpriv knows no
+    --pdeathsig."""
+    for name, status in ("other", 1), ("alone", 0):
+        os.mkdir(os.path.join(trial.folder, name))
+        trial.file(trial.folder, os.path.join(name, "setpriv"), b"#!/bin/sh\nexit %d\n" % status)
+        os.chmod(os.path.join(trial.folder, name, "setpriv"), 0o755)
+    setpriv = b"setpriv of util-linux"
+    other, alone = (os.path.join(trial.folder, it) for it in ("other", "alone"))
+    for found, words, missing in [
+            ("/nowhere", "a folder without it", setpriv), (other, "another setpriv", setpriv), (alone, "no python3", b"python3")]:
         for name, card in [("alsa", "null 8000 1 MU_LAW"), ("pulse", "8000 1 ulaw"), ("pipewire", "8000 1 ulaw")]:
             script = os.path.join(SCRIPTS, "audiofile-%s-card" % name)
             done = subprocess.run(
                 [script, *card.split()], stdin=subprocess.DEVNULL, capture_output=True, timeout=10, env={"PATH": found})
-            wanted = (1, b"", b"audiofile-%s-card: setpriv of util-linux is missing\n" % name.encode())
+            wanted = (1, b"", b"audiofile-%s-card: %s is missing\n" % (name.encode(), missing))
             trial.holds("%s: %s" % (words, done), (done.returncode, done.stdout, done.stderr) == wanted)
 
 

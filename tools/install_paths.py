@@ -33,9 +33,9 @@ REFUSED = [
     *(("PREFIX", "ROOM" + text, UNIT) for text in ("/it's", '/say "it"', "/a\\b", "/a\tb", "/a\\")),
     ("DESTDIR", "~", "%s begins with a ~"), ("DESTDIR", "~/x y", "%s begins with a ~"),
 ]
-# the installed units, and where the completions of zsh and the dissector lie unless told otherwise
+# the installed units, and where the completions of zsh and the dissector lie unless told otherwise: a folder and a file
 UNITS = ("lib/systemd/system/afd.service", "lib/systemd/user/afd.service")
-ZSH, WIRESHARK = "share/zsh/site-functions", "share/audiofile"
+ZSH, DISSECTOR = "share/zsh/site-functions", "share/audiofile/audiofile.lua"
 
 
 def tree(folder, without=None):
@@ -156,7 +156,7 @@ class Paths:
             if path in UNITS:
                 value = value.replace(in_unit(self.prefix + "/bin").encode(), in_unit(prefix + "/bin").encode())
             folder, last = os.path.split(path)
-            folder = {ZSH: zsh, WIRESHARK: wireshark}.get(folder, os.path.join(prefix, folder))
+            folder = wireshark if path == DISSECTOR else zsh if folder == ZSH else os.path.join(prefix, folder)
             expected[os.path.relpath(os.path.join(folder, last), "/")] = (mode, value)
         target = os.path.join(self.room, name)
         self.works(target, expected, DESTDIR=target, PREFIX=prefix, ZSH=zsh, WIRESHARK=wireshark,

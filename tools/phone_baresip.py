@@ -2,8 +2,10 @@
 answering machine of a real server. Where baresip is not installed they are passed over. A script stands for baresip where it says
 what no baresip should."""
 
+import contextlib
 import json
 import os
+import re
 import shutil
 import socket
 import subprocess
@@ -42,6 +44,8 @@ TEXTS = [
     b"\xff\xfe", b"\x1b]0;mine\x07" * 300, b'{"type": ["CALL_DTMF_START"], "param": {}}', b'{"type": "CALL_DTMF_START", "param": ["5"]}',
     b'{"type": "CALL_DTMF_START", "param": "\\ud800"}', b'{"type": "CALL_DTMF_START", "param": %s}' % (b"9" * 5000)]
 CALLS = b'{"type": "CALL_INCOMING", "peerdisplayname": "\xff\x1b[2J\n\0"}'
+# how often a hook is moved at once, and how many commands may come of that
+HOOKS, MOST_COMMANDS = 6000, 20
 # what no baresip says, and what is printed of it
 OF_OTHERS = [
     (b"HTTP/1.1 400\r\n", b"HTTP/1.1 400\\x0d\\x0a"), (b"\x1b[2J:", b"\\x1b[2J:"), (b"1234567:", b"1234567:"), (b":", b":"),
@@ -170,6 +174,38 @@ def baresip_texts(trial):
                     wanted = (1, b"audiofile-phone-baresip: %s: this is no baresip: it says %s\n" % (address.encode(), shown))
                     ended = line.ended()
                     trial.holds("what is no baresip is told: %s" % (ended,), ended == wanted)
+
+
+def baresip_hooks(trial):
+    """A hook that is moved faster than baresip follows: it is told the last place of the hook, and next to none before that."""
+    with socket.create_server(("127.0.0.1", 0)) as server:
+        with Line(trial.folder, BARESIP, "127.0.0.1:%d" % server.getsockname()[1]) as line, server.accept()[0] as link:
+            line.hand("onhook")
+            trial.holds("it begins without a call", line.says("ring off", "loop off"))
+            link.sendall(netstring(CALLS))
+            trial.holds("a call rings", line.says("ring on"))
+            line.near.settimeout(20)
+            line.near.sendall(b"offhook\nonhook\n" * (HOOKS // 2) + b"offhook\n")
+            asked = Asked(link)
+            wait_for(lambda: asked.commands()[-1:] == ["accept"], 10)
+            # one more would be there by then
+            time.sleep(1)
+            told = "%d hooks are %d commands, the last is %s" % (HOOKS, len(asked.commands()), asked.commands()[-1:])
+            trial.holds(told, asked.commands()[-1:] == ["accept"] and len(asked.commands()) <= MOST_COMMANDS)
+
+
+class Asked:
+    """What a link of a stand-in for baresip was asked to do."""
+
+    def __init__(self, link):
+        self.link, self.octets = link, b""
+        link.setblocking(False)
+
+    def commands(self):
+        with contextlib.suppress(BlockingIOError):
+            while piece := self.link.recv(65536):
+                self.octets += piece
+        return re.findall(r'"command": "(\w+)"', self.octets.decode())
 
 
 def netstring(octets):

@@ -21,10 +21,10 @@ from serving import ROOT
 
 # what the folder has of the tree
 LINKS = ["Makefile", "contrib", "docs", "examples", "man", "tests", "tools"]
-CARDS = ["audiofile-alsa-card", "audiofile-pulse-card", "audiofile-pipewire-card"]
+CONTRIBUTED = ["audiofile-alsa-card", "audiofile-pulse-card", "audiofile-pipewire-card", "audiofile-status"]
 # programs that a machine may lack, and where a shell finds the name of one
 OPTIONAL = [
-    "aplay", "arecord", "espeak-ng", "ffmpeg", "make", "nc", "pacat", "parec", "pv", "pw-cat", "rt", "sox", "tshark"]
+    "aplay", "arecord", "curl", "espeak-ng", "ffmpeg", "make", "nc", "pacat", "parec", "pv", "pw-cat", "rt", "sox", "tshark"]
 CALLED = r"(?:^|[|;&(])\s*(?:[A-Z_]+=[^\s(]*\s+)*(?:exec\s+)?(%s)\b" % "|".join(map(re.escape, OPTIONAL))
 # an address of a page
 ADDRESS = re.compile(r"(127\.0\.0\.1[: ])(\d{4,5})\b")
@@ -81,7 +81,7 @@ def give_files(folder):
 def give_tree(folder, afd, af):
     """The programs, and links to what the pages name."""
     os.mkdir(os.path.join(folder, "bin"))
-    programs = {"afd": afd, "af": af, **{name: os.path.join(ROOT, "contrib", name) for name in CARDS}}
+    programs = {"afd": afd, "af": af, **{name: os.path.join(ROOT, "contrib", name) for name in CONTRIBUTED}}
     for name, path in programs.items():
         os.symlink(path, os.path.join(folder, "bin", name))
     for name in LINKS:

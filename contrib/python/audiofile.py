@@ -108,7 +108,8 @@ class Connection:
     """A link that is set up, made by `connect`. Used with `with`, it is closed at the end.
 
     `devices` are those of the server, by their numbers. `refused` has a `Refused` for each play without a reply that was refused,
-    as soon as a call has met it.
+    as soon as a call has met it. `patience` is how many seconds an answer may take; None, as it is at first, is for ever. An
+    answer that takes longer raises TimeoutError, and closes the connection.
     """
 
     def __init__(self, link, order="big", timeout=None):
@@ -120,7 +121,7 @@ class Connection:
         # a number of a context is never used again: one that was freed does not play by the next
         self._contexts = itertools.count(1)
         self._received, self._events = bytearray(), collections.deque()
-        self.devices, self.refused = [], []
+        self.devices, self.refused, self.patience = [], [], None
         self._call(link.sendall, None, magic + struct.pack(self._letter + "HH", 1, 0))
         body = self._answer(SETUP, None if timeout is None else monotonic() + timeout)
         major, minor, count = self._unpack("HHI", body[:8])
@@ -278,9 +279,12 @@ class Connection:
 
     def _answer(self, opcode, deadline=None):
         """The body of the reply to the last request."""
+        if deadline is None and self.patience is not None:
+            deadline = monotonic() + self.patience
         while True:
             message = self._message(deadline)
-            if message is None:
+            # a server that tells of events without an end does not answer either
+            if message is None or deadline is not None and monotonic() > deadline:
                 raise socket.timeout("the server does not answer")
             if self._is_kept(*message):
                 continue

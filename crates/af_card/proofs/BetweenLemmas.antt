@@ -1,9 +1,9 @@
 -- What each call on what stands between a device and its program keeps of the acts.
-use Rattle.std.proofs.Common.{◌≡◌, ℕ, ◌-◌, ◌≤◌, true, false, List, [], ◌∷◌, ◌++◌, length, min, take, drop, refl, sym, ap, ◌∙◌, subst, arith, is_some, ◌≢◌, ◌⊎◌, inl, inr, ◌==◌, ◌/◌, ◌%◌, eqb-true}
+use Rattle.std.proofs.Common.{◌≡◌, ℕ, ◌-◌, ◌≤◌, nat_lt, Bool, true, false, List, [], ◌∷◌, ◌++◌, length, min, take, drop, refl, sym, ap, ◌∙◌, subst, arith, is_some, ◌≢◌, ◌⊎◌, inl, inr, ◌==◌, ◌/◌, ◌%◌, eqb-true}
 use Rattle.std.proofs.Math.Nat.{div-add-mod}
 use Rattle.std.specs.declared.option.Option.{Option}
 use Rattle.std.specs.declared.option.Option.TheVariants.{None, Some}
-use Rattle.af_io.specs.Observed.{Appended, Unchanged}
+use Rattle.af_io.specs.Observed.{Appended}
 use Rattle.af_io.proofs.AppendedLemmas.{appended_none, appended_on}
 use Rattle.af_program.specs.declared.program.Gave.{Gave}
 use Rattle.af_program.specs.declared.program.Gave.TheVariants as gives
@@ -12,10 +12,9 @@ use Rattle.af_program.specs.declared.program.Took.TheVariants as takes
 use Rattle.af_program.specs.declared.program.Launched.{Launched}
 use Rattle.af_program.specs.declared.program.Launched.TheVariants as launch
 use Rattle.af_program.specs.declared.starts.Starts.{Starts}
-use Rattle.af_program.specs.Acts.{ToldAct, launched, gave, took, ended, captured, emitted}
-use Rattle.af_program.specs.Handing.{TakesInto, GivesFrom}
+use Rattle.af_program.specs.Acts.{ToldAct, launched, asked, gave, offered, ended, captured, emitted, took_acts}
+use Rattle.af_program.specs.Handing.{TakesInto, GivesFrom, acts_if, given_acts, left_with}
 use Rattle.af_program.specs.Waits.{may_come, begun_once_more, after_end}
-use Rattle.af_program.proofs.LedgerLemmas.{no-act}
 use Rattle.af_world.specs.declared.card_kind.CardKind.{CardKind}
 use Rattle.af_world.specs.declared.card_kind.CardKind.TheVariants as kind
 use Rattle.af_card.specs.declared.shape.Shape.{Shape}
@@ -26,31 +25,43 @@ use Rattle.af_card.specs.Between.{BetweenState, running_since, Accounts, PassesO
 use Rattle.af_card.proofs.AccountLemmas.{Accounts-on, Account-gave, Account-took, Account-knows, Account-untaken, Account-passed, Account-idle, Account-idles, Account-silent, Account-front, Account-begun, Account-failed, Account-ended, counts-none, counts-all}
 use Rattle.af_card.proofs.FedLemmas.{handed-nothing, handed-piece, handed-lost}
 
-pub Accounts-taken : (b : BetweenState) (r r' : Running) (result : Gave) (left : List ℕ) (acts acts' : Option (List ToldAct)) → b.running ≡ Some r → r'.began ≡ r.began →
-    gives_sound b.shape.kind ≡ true → TakesInto result b.left left acts acts' → Accounts b acts → Accounts (record b { running = Some r'; left = left }) acts'
-Accounts-taken b r r' (gives.Bytes n) left acts acts' is began sound into fits =
-    subst (λ x. Accounts (record b { running = Some r'; left = x }) acts') (sym into.1)
-    (Accounts-on b (record b { running = Some r'; left = b.left ++ into.0 }) acts acts' (gave into.0 ∷ []) fits into.2
-    (Account-gave b r r' into.0 is began sound) (ap is_some is))
-Accounts-taken b r r' gives.NotYet left acts acts' is began sound into fits =
-    subst (λ x. Accounts (record b { running = Some r'; left = x }) acts') (sym into.0)
-    (Accounts-on b (record b { running = Some r' }) acts acts' [] fits (no-act acts acts' into.1) (Account-knows b r r' is began) (ap is_some is))
-Accounts-taken b r r' gives.Ended left acts acts' is began sound into fits =
-    subst (λ x. Accounts (record b { running = Some r'; left = x }) acts') (sym into.0)
-    (Accounts-on b (record b { running = Some r' }) acts acts' [] fits (no-act acts acts' into.1) (Account-knows b r r' is began) (ap is_some is))
+-- the program was asked, or not
+asked-on : (b : BetweenState) (r r' : Running) (is_made : Bool) (room : ℕ) (result : Gave) (bytes left : List ℕ) (acts acts' : Option (List ToldAct)) → b.running ≡ Some r →
+    r'.began ≡ r.began → gives_sound b.shape.kind ≡ true → (is_made ≡ false → result ≡ gives.NotYet) → left ≡ left_with result b.left bytes →
+    Appended acts (acts_if is_made (given_acts room result bytes)) acts' → Accounts b acts → Accounts (record b { running = Some r'; left = left }) acts'
+asked-on b r r' true room (gives.Bytes n) bytes left acts acts' is began sound none goes told fits =
+    subst (λ x. Accounts (record b { running = Some r'; left = x }) acts') (sym goes)
+    (Accounts-on b (record b { running = Some r'; left = b.left ++ bytes }) acts acts' (asked room (gives.Bytes n) ∷ gave bytes ∷ []) fits told
+    (Account-gave b r r' bytes is began sound) (ap is_some is))
+asked-on b r r' true room gives.NotYet bytes left acts acts' is began sound none goes told fits =
+    subst (λ x. Accounts (record b { running = Some r'; left = x }) acts') (sym goes)
+    (Accounts-on b (record b { running = Some r' }) acts acts' (asked room gives.NotYet ∷ []) fits told (Account-knows b r r' is began) (ap is_some is))
+asked-on b r r' true room gives.Ended bytes left acts acts' is began sound none goes told fits =
+    subst (λ x. Accounts (record b { running = Some r'; left = x }) acts') (sym goes)
+    (Accounts-on b (record b { running = Some r' }) acts acts' (asked room gives.Ended ∷ []) fits told (Account-knows b r r' is began) (ap is_some is))
+asked-on b r r' false room (gives.Bytes n) bytes left acts acts' is began sound none goes told fits = let no = none refl in grind arith
+asked-on b r r' false room gives.NotYet bytes left acts acts' is began sound none goes told fits =
+    subst (λ x. Accounts (record b { running = Some r'; left = x }) acts') (sym goes)
+    (Accounts-on b (record b { running = Some r' }) acts acts' [] fits told (Account-knows b r r' is began) (ap is_some is))
+asked-on b r r' false room gives.Ended bytes left acts acts' is began sound none goes told fits = let no = none refl in grind arith
+
+pub Accounts-taken : (b : BetweenState) (r r' : Running) (most : ℕ) (result : Gave) (left : List ℕ) (acts acts' : Option (List ToldAct)) → b.running ≡ Some r → r'.began ≡ r.began →
+    gives_sound b.shape.kind ≡ true → TakesInto most result b.left left acts acts' → Accounts b acts → Accounts (record b { running = Some r'; left = left }) acts'
+Accounts-taken b r r' most result left acts acts' is began sound into fits =
+    asked-on b r r' (nat_lt (length b.left) most) (most - length b.left) result into.bytes left acts acts' is began sound into.full into.goes into.told fits
 
 pub Accounts-given : (b : BetweenState) (r r' : Running) (result : Took) (owed : List ℕ) (acts acts' : Option (List ToldAct)) → b.running ≡ Some r → r'.began ≡ r.began →
     GivesFrom result b.owed owed acts acts' → Accounts b acts → Accounts (record b { running = Some r'; owed = owed }) acts'
 Accounts-given b r r' (takes.Bytes n) owed acts acts' is began given fits =
     subst (λ x. Accounts (record b { running = Some r'; owed = x }) acts') (sym given.2)
-    (Accounts-on b (record b { running = Some r'; owed = drop n b.owed }) acts acts' (took (take n b.owed) ∷ []) fits given.3
+    (Accounts-on b (record b { running = Some r'; owed = drop n b.owed }) acts acts' (took_acts (takes.Bytes n) b.owed) fits given.3
     (Account-took b r r' n is began given.0 given.1) (ap is_some is))
 Accounts-given b r r' takes.NoRoom owed acts acts' is began given fits =
     subst (λ x. Accounts (record b { running = Some r'; owed = x }) acts') (sym given.0)
-    (Accounts-on b (record b { running = Some r' }) acts acts' [] fits (no-act acts acts' given.1) (Account-knows b r r' is began) (ap is_some is))
+    (Accounts-on b (record b { running = Some r' }) acts acts' (took_acts takes.NoRoom b.owed) fits given.1 (Account-knows b r r' is began) (ap is_some is))
 Accounts-given b r r' takes.Ended owed acts acts' is began given fits =
     subst (λ x. Accounts (record b { running = Some r'; owed = x }) acts') (sym given.0)
-    (Accounts-on b (record b { running = Some r' }) acts acts' [] fits (no-act acts acts' given.1) (Account-knows b r r' is began) (ap is_some is))
+    (Accounts-on b (record b { running = Some r' }) acts acts' (took_acts takes.Ended b.owed) fits given.1 (Account-knows b r r' is began) (ap is_some is))
 
 -- only what is known of the program that runs has changed
 pub Accounts-known : (b : BetweenState) (r r' : Running) (acts : Option (List ToldAct)) → b.running ≡ Some r → r'.began ≡ r.began → Accounts b acts → Accounts (record b { running = Some r' }) acts
@@ -106,15 +117,15 @@ Accounts-idles b sound acts acts' none told fits =
     Accounts-on b (record b { tick = None }) acts acts' (emitted sound ∷ []) fits told (Account-idles b sound none) refl
 
 -- nothing is taken of a sound
-unpassed : (b : BetweenState) (r r' : Running) (sound owed : List ℕ) (acts mid acts' : Option (List ToldAct)) → b.running ≡ Some r → r'.began ≡ r.began →
-    b.tick ≡ Some (length sound) → b.shape.kind ≡ kind.Card → b.owed ≡ [] → Appended acts (emitted sound ∷ []) mid → (owed ≡ []) × Unchanged mid acts' → Accounts b acts →
+unpassed : (b : BetweenState) (r r' : Running) (answer : Took) (sound owed : List ℕ) (acts mid acts' : Option (List ToldAct)) → b.running ≡ Some r → r'.began ≡ r.began →
+    b.tick ≡ Some (length sound) → b.shape.kind ≡ kind.Card → b.owed ≡ [] → Appended acts (emitted sound ∷ []) mid → (owed ≡ []) × Appended mid (offered sound answer ∷ []) acts' → Accounts b acts →
     Accounts (record b { running = Some r'; owed = owed; tick = None; lost = lost_after b.lost (length sound) b.shape.frame_bytes }) acts'
-unpassed b r r' sound owed acts mid acts' is began tick card none told same fits =
+unpassed b r r' answer sound owed acts mid acts' is began tick card none told same fits =
     let lost = Accounts-lost b r r' sound acts mid is began tick card told fits in
     let lost_now = lost_after b.lost (length sound) b.shape.frame_bytes in
     let after : BetweenState = record b { running = Some r'; tick = None; lost = lost_now } in
     subst (λ x. Accounts (record b { running = Some r'; owed = x; tick = None; lost = lost_now }) acts') (none ∙ sym same.0)
-    (Accounts-on after after mid acts' [] lost (no-act mid acts' same.1) (λ ledger account. account) refl)
+    (Accounts-on after after mid acts' (offered sound answer ∷ []) lost same.1 (λ ledger account. account) refl)
 
 pub Accounts-passed : (b : BetweenState) (r r' : Running) (sound : List ℕ) (result : Took) (owed : List ℕ) (acts mid acts' : Option (List ToldAct)) → b.running ≡ Some r →
     r'.began ≡ r.began → b.tick ≡ Some (length sound) → b.shape.kind ≡ kind.Card → b.owed ≡ [] → Appended acts (emitted sound ∷ []) mid →
@@ -124,10 +135,10 @@ Accounts-passed b r r' sound (takes.Bytes n) owed acts mid acts' is began tick c
     let rest = take (min passes.rest (length sound - n)) (drop n sound) in
     subst (λ x. Accounts (record b { running = Some r'; owed = x; tick = None; lost = lost_after b.lost (length sound - n - length x) b.shape.frame_bytes }) acts') (sym passes.owes)
     (Accounts-on b (record b { running = Some r'; owed = rest; tick = None; lost = lost_after b.lost (length sound - n - length rest) b.shape.frame_bytes }) acts acts'
-    (emitted sound ∷ (took (take n sound) ∷ [])) fits (appended_on acts mid acts' (emitted sound ∷ []) (took (take n sound) ∷ []) told passes.told)
+    (emitted sound ∷ took_acts (takes.Bytes n) sound) fits (appended_on acts mid acts' (emitted sound ∷ []) (took_acts (takes.Bytes n) sound) told passes.told)
     (Account-passed b r r' sound n passes.rest passes.whole.0 is began tick card none passes.most passes.less passes.whole.1) (ap is_some is))
-Accounts-passed b r r' sound takes.NoRoom owed acts mid acts' is began tick card none told passes fits = unpassed b r r' sound owed acts mid acts' is began tick card none told passes fits
-Accounts-passed b r r' sound takes.Ended owed acts mid acts' is began tick card none told passes fits = unpassed b r r' sound owed acts mid acts' is began tick card none told passes fits
+Accounts-passed b r r' sound takes.NoRoom owed acts mid acts' is began tick card none told passes fits = unpassed b r r' takes.NoRoom sound owed acts mid acts' is began tick card none told passes fits
+Accounts-passed b r r' sound takes.Ended owed acts mid acts' is began tick card none told passes fits = unpassed b r r' takes.Ended sound owed acts mid acts' is began tick card none told passes fits
 
 -- The same, if what runs is known only as a choice
 

@@ -1,21 +1,22 @@
 -- What goes between a device and its program in one call, step by step.
-use Rattle.std.proofs.Common.{◌≡◌, ◌≢◌, ℕ, true, false, not, ◌&&◌, ◌==◌, List, [], ◌∷◌, ◌++◌, length, take, refl, sym, ap, ◌∙◌, subst, arith, Bool, option_map, is_some}
+use Rattle.std.proofs.Common.{◌≡◌, ◌≢◌, ℕ, true, false, not, ◌&&◌, ◌==◌, List, [], ◌∷◌, ◌++◌, length, refl, sym, ap, ◌∙◌, subst, arith, Bool, option_map, is_some}
 use Rattle.std.specs.declared.option.Option.{Option}
 use Rattle.std.specs.declared.option.Option.TheVariants.{None, Some}
 use Rattle.af_io.specs.Observed.{Appended, Unchanged}
-use Rattle.af_io.proofs.AppendedLemmas.{appended_on, appended_stays, stays_appended}
+use Rattle.af_io.proofs.AppendedLemmas.{appended_on, stays_appended}
 use Rattle.af_program.specs.declared.program.Launched.{Launched}
 use Rattle.af_program.specs.declared.program.Launched.TheVariants as launch
 use Rattle.af_program.specs.declared.program.Took.{Took}
 use Rattle.af_program.specs.declared.program.Took.TheVariants as takes
 use Rattle.af_program.specs.declared.starts.Starts.{Starts}
-use Rattle.af_program.specs.Acts.{ToldAct, emitted, ended, took, took_acts}
+use Rattle.af_program.specs.Acts.{ToldAct, emitted, ended, took_acts}
+use Rattle.af_program.specs.Handing.{acts_if}
 use Rattle.af_program.specs.Waits.{begun_once_more, after_end}
 use Rattle.af_world.specs.declared.card_kind.CardKind.{CardKind}
 use Rattle.af_card.specs.declared.running.Running.{Running}
 use Rattle.af_card.specs.Lost.{lost_after, without_room}
 use Rattle.af_card.specs.Between.{BetweenState, PassesOn, after_give, running_since, takes_now}
-use Rattle.af_card.specs.Passing.{EndsIf, GivesOwed, HandsBy, HandsFrames, HandsOf, IsPart, Meets, PassesSound, begun_between, may_pass, owed_after, passed_between}
+use Rattle.af_card.specs.Passing.{EndsIf, GivesOwed, HandsBy, HandsFrames, HandsOf, IsPart, Meets, PassesSound, begun_between, given_between, may_pass, offer_acts, owed_after, pass_acts, passed_between}
 
 -- Starts and ends
 
@@ -44,6 +45,7 @@ meets-after at b after acts0 acts1 acts2 same meets = record {
   came = meets.came;
   bytes = meets.bytes;
   fits = meets.fits;
+  waits = meets.waits;
   silent = meets.silent;
   ends = ends-after _ at _ after _ acts0 acts1 acts2 same meets.ends;
 }
@@ -58,9 +60,11 @@ hands-frames b b1 after at sound acts acts1 acts' g p = record {
   part = p.part;
   fits = (g.fits, p.fits);
   parted = subst (λ (x : BetweenState). IsPart p.took x.shape.frame_bytes sound p.part) g.goes p.parted;
+  idles = g.waits;
   waits = subst (λ (x : BetweenState). may_pass x ≡ false → p.took ≡ takes.NoRoom) g.goes p.waits;
   goes = p.goes ∙ ap (passed_between p.took p.part sound at) g.goes;
-  told = appended_on acts acts1 acts' (took_acts g.took b.owed) (emitted sound ∷ took_acts p.took sound) g.told p.told;
+  told = appended_on acts acts1 acts' (offer_acts b g.took) (emitted sound ∷ pass_acts (given_between g.took at b) p.took sound) g.told
+      (subst (λ (x : BetweenState). Appended acts1 (emitted sound ∷ pass_acts x p.took sound) acts') g.goes p.told);
 }
 
 pub hands-running : (b after : BetweenState) (r : Running) (k : CardKind) (at : ℕ) (sound : List ℕ) (acts acts' : Option (List ToldAct)) → b.running ≡ Some r → b.shape.kind ≡ k →
@@ -81,6 +85,13 @@ passed-is b r r' result owed sound at is after owes =
     ap (λ (x : List ℕ). record b { running = Some (after_give result at r); owed = x; tick = None; lost = lost }) owes ∙
     ap (λ (now : Option Running). record b { running = option_map (after_give result at) now; owed = owed_after result b.owed owed; tick = None; lost = lost }) (sym is)
 
+-- a card that may be offered the sound is
+passes-told : (b : BetweenState) (took : Took) (sound : List ℕ) (acts mid acts' : Option (List ToldAct)) → may_pass b ≡ true → Appended acts (emitted sound ∷ []) mid →
+    Appended mid (took_acts took sound) acts' → Appended acts (emitted sound ∷ pass_acts b took sound) acts'
+passes-told b took sound acts mid acts' may told passes =
+    subst (λ more. Appended acts (emitted sound ∷ more) acts') (sym (ap (λ t. acts_if t (took_acts took sound)) may))
+    (appended_on acts mid acts' (emitted sound ∷ []) (took_acts took sound) told passes)
+
 -- a card is given the sound
 pub passes-sound : (b : BetweenState) (r r' : Running) (sound : List ℕ) (result : Took) (owed : List ℕ) (at : ℕ) (acts mid acts' : Option (List ToldAct)) → b.running ≡ Some r →
     r' ≡ after_give result at r → r.is_closed ≡ false → b.owed ≡ [] → Appended acts (emitted sound ∷ []) mid → PassesOn result sound b.shape.frame_bytes owed mid acts' →
@@ -95,7 +106,7 @@ passes-sound b r r' sound (takes.Bytes n) owed at acts mid acts' is after takes-
       parted = record { rest = passes.rest; less = passes.less; whole = passes.whole; is = passes.owes };
       waits = λ no. grind arith;
       goes = passed-is b r r' (takes.Bytes n) owed sound at is after refl;
-      told = appended_on acts mid acts' (emitted sound ∷ []) (took (take n sound) ∷ []) told passes.told;
+      told = passes-told b (takes.Bytes n) sound acts mid acts' may told passes.told;
     }
 passes-sound b r r' sound takes.NoRoom owed at acts mid acts' is after takes-sound none told passes = record {
   took = takes.NoRoom;
@@ -104,7 +115,7 @@ passes-sound b r r' sound takes.NoRoom owed at acts mid acts' is after takes-sou
   parted = passes.0;
   waits = λ no. refl;
   goes = passed-is b r r' takes.NoRoom owed sound at is after (passes.0 ∙ sym none);
-  told = appended_stays acts mid acts' (emitted sound ∷ []) told passes.1;
+  told = passes-told b takes.NoRoom sound acts mid acts' (may-pass-where b r is takes-sound none) told passes.1;
 }
 passes-sound b r r' sound takes.Ended owed at acts mid acts' is after takes-sound none told passes =
     let may = may-pass-where b r is takes-sound none in
@@ -115,7 +126,7 @@ passes-sound b r r' sound takes.Ended owed at acts mid acts' is after takes-soun
       parted = passes.0;
       waits = λ no. grind arith;
       goes = passed-is b r r' takes.Ended owed sound at is after (passes.0 ∙ sym none);
-      told = appended_stays acts mid acts' (emitted sound ∷ []) told passes.1;
+      told = passes-told b takes.Ended sound acts mid acts' may told passes.1;
     }
 
 -- a program that ran still runs

@@ -3,13 +3,13 @@ use Rattle.std.specs.Prelude.{◌≡◌, ⊤, ℕ, ◌+◌, ◌*◌, ◌/◌, �
 use Rattle.std.specs.declared.option.Option.{Option}
 use Rattle.std.specs.declared.option.Option.TheVariants.{None, Some}
 use Rattle.af_limits.specs.Limits.{longest_capture, longest_tick}
-use Rattle.af_io.specs.Observed.{Appended, Unchanged}
+use Rattle.af_io.specs.Observed.{Appended}
 use Rattle.af_program.specs.declared.program.Gave.{Gave}
 use Rattle.af_program.specs.declared.program.Gave.TheVariants as gives
 use Rattle.af_program.specs.declared.program.Took.{Took}
 use Rattle.af_program.specs.declared.program.Took.TheVariants as takes
 use Rattle.af_program.specs.declared.starts.Starts.{Starts}
-use Rattle.af_program.specs.Acts.{ToldAct, took}
+use Rattle.af_program.specs.Acts.{ToldAct, took_acts}
 use Rattle.af_program.specs.Ledger.{Ledger, LedgerFits, HoldsOf}
 use Rattle.af_program.specs.Waits.{no_starts, may_come, is_left}
 use Rattle.af_world.specs.declared.card_kind.CardKind.{CardKind}
@@ -83,7 +83,8 @@ Accounts b acts = HoldsOf card_book [] (Account b) (is_some b.running) acts
 abbrev pub IsWhole : ℕ → ℕ → Type 0
 IsWhole width bytes = (frames : ℕ) × (bytes ≡ frames * width)
 
--- A first part of a sound was taken. The rest of the frame in which it ends is owed, as far as the sound has it.
+-- The sound was offered in one give, and a first part of it taken. The rest of the frame in which it ends is owed, as far as the
+-- sound has it.
 pub record PassesPart (n : ℕ) (sound : List ℕ) (width : ℕ) (owed : List ℕ) (acts acts' : Option (List ToldAct)) : Type 0 where
   pub rest : ℕ
   pub some : 1 ≤ n
@@ -91,12 +92,12 @@ pub record PassesPart (n : ℕ) (sound : List ℕ) (width : ℕ) (owed : List �
   pub less : rest < width
   pub whole : IsWhole width (n + rest)
   pub owes : owed ≡ take (min rest (length sound - n)) (drop n sound)
-  pub told : Appended acts (took (take n sound) ∷ []) acts'
+  pub told : Appended acts (took_acts (takes.Bytes n) sound) acts'
 
 abbrev pub PassesOn : Took → List ℕ → ℕ → List ℕ → Option (List ToldAct) → Option (List ToldAct) → Type 0
 PassesOn (takes.Bytes n) sound width owed acts acts' = PassesPart n sound width owed acts acts'
-PassesOn takes.NoRoom sound width owed acts acts' = (owed ≡ []) × Unchanged acts acts'
-PassesOn takes.Ended sound width owed acts acts' = (owed ≡ []) × Unchanged acts acts'
+PassesOn takes.NoRoom sound width owed acts acts' = (owed ≡ []) × Appended acts (took_acts takes.NoRoom sound) acts'
+PassesOn takes.Ended sound width owed acts acts' = (owed ≡ []) × Appended acts (took_acts takes.Ended sound) acts'
 
 -- The kind of device and the starts stay, and a program runs if one ran. So many bytes of a tick were captured, and are to be
 -- emitted, if any are.
@@ -185,6 +186,11 @@ may_emit b bytes = is_tick_of b.tick bytes && nat_le bytes longest_capture && em
 abbrev pub takes_now : Option Running → Bool
 takes_now None = false
 takes_now (Some running) = not running.is_closed
+
+-- whether a program runs that gives sound, and has not said that it gives none any more
+abbrev pub gives_now : CardKind → Option Running → Bool
+gives_now k None = false
+gives_now k (Some running) = gives_sound k && not running.is_over
 
 -- The frames that are due by a program: whole frames that it gave, at most as many as a tick has; or a piece, once it is owed
 -- nothing.

@@ -1,7 +1,8 @@
 -- What goes between a device and its program in one call, and the acts that the call adds. These are all: no other act is added.
-use Rattle.std.specs.Prelude.{◌≡◌, ◌<◌, ℕ, ◌+◌, ◌-◌, Bool, true, false, ◌&&◌, ◌==◌, nat_le, if◌then◌else◌, List, [], ◌∷◌, ◌++◌, length, min, take, drop, option_map}
+use Rattle.std.specs.Prelude.{◌≡◌, ◌<◌, ℕ, ◌+◌, ◌-◌, Bool, true, false, ◌&&◌, ◌==◌, nat_le, nat_lt, if◌then◌else◌, List, [], ◌∷◌, ◌++◌, length, min, take, drop, option_map}
 use Rattle.std.specs.declared.option.Option.{Option}
 use Rattle.std.specs.declared.option.Option.TheVariants.{None, Some}
+use Rattle.af_limits.specs.Limits.{longest_capture}
 use Rattle.af_io.specs.Observed.{Appended}
 use Rattle.af_program.specs.declared.program.Launched.{Launched}
 use Rattle.af_program.specs.declared.program.Launched.TheVariants as launch
@@ -10,12 +11,13 @@ use Rattle.af_program.specs.declared.program.Gave.TheVariants as gives
 use Rattle.af_program.specs.declared.program.Took.{Took}
 use Rattle.af_program.specs.declared.program.Took.TheVariants as takes
 use Rattle.af_program.specs.declared.starts.Starts.{Starts}
-use Rattle.af_program.specs.Acts.{ToldAct, gave, emitted, ended, took_acts, TookFits}
+use Rattle.af_program.specs.Acts.{ToldAct, emitted, ended, took_acts, TookFits}
+use Rattle.af_program.specs.Handing.{acts_if, given_acts, left_with}
 use Rattle.af_program.specs.Waits.{begun_once_more, after_end}
 use Rattle.af_world.specs.declared.card_kind.CardKind.{CardKind}
 use Rattle.af_world.specs.declared.card_kind.CardKind.TheVariants as kind
 use Rattle.af_card.specs.declared.running.Running.{Running}
-use Rattle.af_card.specs.Between.{BetweenState, IsWhole, after_give, after_take, frames_of, gives_sound, is_over_of, running_after_look, running_since, takes_now}
+use Rattle.af_card.specs.Between.{BetweenState, IsWhole, after_give, after_take, frames_of, gives_now, gives_sound, is_over_of, running_after_look, running_since, takes_now}
 use Rattle.af_card.specs.Lost.{lost_after, without_room}
 
 -- Starts and ends
@@ -43,23 +45,28 @@ still_owed (takes.Bytes n) owed = drop n owed
 still_owed takes.NoRoom owed = owed
 still_owed takes.Ended owed = owed
 
--- after a give of what it is owed; NoRoom also stands for no give
+-- after a give of what it is owed; NoRoom also stands for no give, as it changes nothing
 abbrev pub given_between : Took → ℕ → BetweenState → BetweenState
 given_between took at b =
     record b { running = option_map (after_give took at) b.running; owed = still_owed took b.owed }
 
--- what a program gave comes after what is left, and is one act
-abbrev pub left_with : Gave → List ℕ → List ℕ → List ℕ
-left_with (gives.Bytes n) left bytes = left ++ bytes
-left_with gives.NotYet left bytes = left
-left_with gives.Ended left bytes = left
+-- whether it is offered what it is owed: it takes sound, and is owed some
+abbrev pub is_offered : BetweenState → Bool
+is_offered b = takes_now b.running && nat_lt 0 (length b.owed)
 
-abbrev pub given_acts : Gave → List ℕ → List ToldAct
-given_acts (gives.Bytes n) bytes = gave bytes ∷ []
-given_acts gives.NotYet bytes = []
-given_acts gives.Ended bytes = []
+-- the acts of offering it that, which is one give or none
+abbrev pub offer_acts : BetweenState → Took → List ToldAct
+offer_acts b took = acts_if (is_offered b) (took_acts took b.owed)
 
--- after a take that gave these bytes; NotYet also stands for no take
+-- whether it is asked for sound: it gives some, and there is room
+abbrev pub is_asked : BetweenState → Bool
+is_asked b = gives_now b.shape.kind b.running && nat_lt (length b.left) longest_capture
+
+-- the acts of asking it, which is one take with all the room, or none
+abbrev pub ask_acts : BetweenState → Gave → List ℕ → List ToldAct
+ask_acts b came bytes = acts_if (is_asked b) (given_acts (longest_capture - length b.left) came bytes)
+
+-- after a take that gave these bytes; NotYet also stands for no take, as it changes nothing
 abbrev pub taken_between : Gave → List ℕ → ℕ → BetweenState → BetweenState
 taken_between came bytes at b =
     let left = left_with came b.left bytes in
@@ -68,20 +75,21 @@ taken_between came bytes at b =
 abbrev pub looked_between : ℕ → BetweenState → BetweenState
 looked_between at b = record b { running = running_after_look b.running b.shape.kind at }
 
--- a first part of what it is owed is taken, or nothing
+-- All that it is owed is offered in one give, if it takes sound and is owed some, and a first part of it is taken, or nothing.
 pub record GivesOwed (at : ℕ) (before after : BetweenState) (acts acts' : Option (List ToldAct)) : Type 0 where
   pub took : Took
   pub fits : TookFits took (length before.owed)
+  pub waits : is_offered before ≡ false → took ≡ takes.NoRoom
   pub goes : after ≡ given_between took at before
-  pub told : Appended acts (took_acts took before.owed) acts'
+  pub told : Appended acts (offer_acts before took) acts'
 
--- what it gives is taken; a loudspeaker gives nothing
+-- It is asked in one take, if it gives sound and there is room, and what it gives is taken.
 pub record TakesGiven (at : ℕ) (before after : BetweenState) (acts acts' : Option (List ToldAct)) : Type 0 where
   pub came : Gave
   pub bytes : List ℕ
-  pub silent : gives_sound before.shape.kind ≡ false → came ≡ gives.NotYet
+  pub silent : is_asked before ≡ false → came ≡ gives.NotYet
   pub goes : after ≡ taken_between came bytes at before
-  pub told : Appended acts (given_acts came bytes) acts'
+  pub told : Appended acts (ask_acts before came bytes) acts'
 
 -- While it is asked what is due
 
@@ -97,15 +105,18 @@ EndsIf false at b after so_far acts acts' = (after ≡ b) × Appended acts so_fa
 abbrev pub met_between : Took → Gave → List ℕ → ℕ → BetweenState → BetweenState
 met_between took came bytes at b = looked_between at (taken_between came bytes at (given_between took at b))
 
--- A program that runs takes of what it is owed, and gives bytes. Then it is ended at this moment, if it is to be ended.
+-- A program that runs is offered what it is owed, and then asked for bytes. Then it is ended at this moment, if it is to be
+-- ended.
 pub record Meets (at : ℕ) (before after : BetweenState) (acts acts' : Option (List ToldAct)) : Type 0 where
   pub took : Took
   pub came : Gave
   pub bytes : List ℕ
   pub fits : TookFits took (length before.owed)
-  pub silent : gives_sound before.shape.kind ≡ false → came ≡ gives.NotYet
+  pub waits : is_offered before ≡ false → took ≡ takes.NoRoom
+  pub silent : is_asked (given_between took at before) ≡ false → came ≡ gives.NotYet
   pub ends : let met = met_between took came bytes at before in
-      EndsIf (is_done_at at met) at met after (took_acts took before.owed ++ given_acts came bytes) acts acts'
+      EndsIf (is_done_at at met) at met after
+      (offer_acts before took ++ ask_acts (given_between took at before) came bytes) acts acts'
 
 -- As the sound of a tick is captured
 
@@ -123,12 +134,13 @@ captured_between bytes b = record b { left = left_after b.running b bytes; tick 
 abbrev pub owing : List ℕ → BetweenState → BetweenState
 owing sound b = record b { owed = b.owed ++ sound; tick = None }
 
--- a loudspeaker takes a first part of what it is owed, and this is the sound too
+-- a loudspeaker is offered all that it is owed, and this is the sound too
 pub record HandsAll (at : ℕ) (sound : List ℕ) (before after : BetweenState) (acts acts' : Option (List ToldAct)) : Type 0 where
   pub took : Took
   pub fits : TookFits took (length (before.owed ++ sound))
+  pub waits : is_offered (owing sound before) ≡ false → took ≡ takes.NoRoom
   pub goes : after ≡ given_between took at (owing sound before)
-  pub told : Appended acts (emitted sound ∷ took_acts took (before.owed ++ sound)) acts'
+  pub told : Appended acts (emitted sound ∷ offer_acts (owing sound before) took) acts'
 
 -- it took so many bytes of a sound; this part is the rest of the frame in which it stopped, as far as the sound has it
 pub record StopsWithin (width n : ℕ) (sound part : List ℕ) : Type 0 where
@@ -161,7 +173,11 @@ passed_between took part sound at b = record b {
   lost = lost_after b.lost (without_room took (length sound) (length part)) b.shape.frame_bytes;
 }
 
--- a card takes whole frames from the front of a sound, if it may; NoRoom also stands for no give
+-- the acts of offering it a sound, which is one give or none
+abbrev pub pass_acts : BetweenState → Took → List ℕ → List ToldAct
+pass_acts b took sound = acts_if (may_pass b) (took_acts took sound)
+
+-- A card is offered the sound in one give, if it may be. It takes whole frames from the front.
 pub record PassesSound (at : ℕ) (sound : List ℕ) (before after : BetweenState) (acts acts' : Option (List ToldAct)) : Type 0 where
   pub took : Took
   pub part : List ℕ
@@ -169,9 +185,9 @@ pub record PassesSound (at : ℕ) (sound : List ℕ) (before after : BetweenStat
   pub parted : IsPart took before.shape.frame_bytes sound part
   pub waits : may_pass before ≡ false → took ≡ takes.NoRoom
   pub goes : after ≡ passed_between took part sound at before
-  pub told : Appended acts (emitted sound ∷ took_acts took sound) acts'
+  pub told : Appended acts (emitted sound ∷ pass_acts before took sound) acts'
 
--- A card first takes of what it is owed, and then of the sound. Frames are lost only where it may not be given the sound, or took
+-- A card is first offered what it is owed, and then the sound. Frames are lost only where it may not be given the sound, or took
 -- less than that.
 pub record HandsFrames (at : ℕ) (sound : List ℕ) (before after : BetweenState) (acts acts' : Option (List ToldAct)) : Type 0 where
   pub first : Took
@@ -179,9 +195,11 @@ pub record HandsFrames (at : ℕ) (sound : List ℕ) (before after : BetweenStat
   pub part : List ℕ
   pub fits : TookFits first (length before.owed) × TookFits took (length sound)
   pub parted : IsPart took before.shape.frame_bytes sound part
+  pub idles : is_offered before ≡ false → first ≡ takes.NoRoom
   pub waits : may_pass (given_between first at before) ≡ false → took ≡ takes.NoRoom
   pub goes : after ≡ passed_between took part sound at (given_between first at before)
-  pub told : Appended acts (took_acts first before.owed ++ (emitted sound ∷ took_acts took sound)) acts'
+  pub told : Appended acts
+      (offer_acts before first ++ (emitted sound ∷ pass_acts (given_between first at before) took sound)) acts'
 
 -- nobody is given the sound
 pub record HandsNone (sound : List ℕ) (before after : BetweenState) (acts acts' : Option (List ToldAct)) : Type 0 where

@@ -1,8 +1,9 @@
 -- What each call on what stands between a line and its program keeps of the acts.
-use Rattle.std.proofs.Common.{◌≡◌, ◌≢◌, ℕ, Bool, true, false, not, List, [], ◌∷◌, ◌++◌, take, drop, refl, sym, ap, ◌∙◌, subst, arith, is_some}
+use Rattle.std.proofs.Common.{◌≡◌, ◌≢◌, ℕ, ◌-◌, nat_lt, Bool, true, false, not, List, [], ◌∷◌, ◌++◌, length, drop, refl, sym, ap, ◌∙◌, subst, arith, is_some}
+use Rattle.std.specs.List.{fold}
 use Rattle.std.specs.declared.option.Option.{Option}
 use Rattle.std.specs.declared.option.Option.TheVariants.{None, Some}
-use Rattle.af_io.specs.Observed.{Appended, Unchanged}
+use Rattle.af_io.specs.Observed.{Appended}
 use Rattle.af_io.proofs.AppendedLemmas.{appended_none}
 use Rattle.af_phone.specs.declared.line.LineChange.{LineChange}
 use Rattle.af_program.specs.declared.program.Gave.{Gave}
@@ -12,62 +13,83 @@ use Rattle.af_program.specs.declared.program.Took.TheVariants as takes
 use Rattle.af_program.specs.declared.program.Launched.{Launched}
 use Rattle.af_program.specs.declared.program.Launched.TheVariants as launch
 use Rattle.af_program.specs.declared.starts.Starts.{Starts}
-use Rattle.af_program.specs.Acts.{ToldAct, launched, gave, took, ended, captured, emitted}
-use Rattle.af_program.specs.Handing.{TakesInto, GivesFrom}
+use Rattle.af_program.specs.Acts.{ToldAct, launched, ended, captured, emitted, runs_after, took_acts}
+use Rattle.af_program.specs.Handing.{TakesInto, GivesFrom, acts_if, given_acts, left_with}
+use Rattle.af_program.specs.Ledger.{Ledger, ledger_after}
 use Rattle.af_program.specs.Waits.{may_come, begun_once_more, after_end}
-use Rattle.af_program.proofs.LedgerLemmas.{no-act}
 use Rattle.af_exchange.specs.declared.running.Running.{Running}
 use Rattle.af_exchange.specs.Lines.{text_of, hook_text}
 use Rattle.af_exchange.specs.Fronts.{SaysMore}
-use Rattle.af_exchange.specs.Ledger.{Run, Notes}
+use Rattle.af_exchange.specs.Ledger.{Run, Notes, exchange_book}
 use Rattle.af_exchange.specs.Told.{RunTold}
-use Rattle.af_exchange.specs.Dialogue.{DialogueState, Accounts, running_since, after_take, after_give, PassesOver, CanEnd}
-use Rattle.af_exchange.proofs.NoteLemmas.{notes, notes-same}
+use Rattle.af_exchange.specs.Dialogue.{DialogueState, Account, Accounts, running_since, after_take, after_give, PassesOver, CanEnd}
+use Rattle.af_exchange.proofs.NoteLemmas.{notes}
 use Rattle.af_exchange.proofs.RunLemmas.{told-closed, told-owed, told-missed}
 use Rattle.af_exchange.proofs.AccountLemmas.{Accounts-on, Account-gave, Account-took, Account-knows, Account-passed, Account-changed, Account-called, Account-begun, Account-failed, Account-ended}
 
 -- no byte goes, though more of the run may be known
-Accounts-known : (d : DialogueState) (r r' : Running) (acts acts' : Option (List ToldAct)) → d.running ≡ Some r → r'.began ≡ r.began →
-    ((run : Run) → RunTold run d.left d.owed (not r.is_closed) → RunTold run d.left d.owed (not r'.is_closed)) → Unchanged acts acts' → Accounts d acts →
+Accounts-known : (d : DialogueState) (r r' : Running) (acts acts' : Option (List ToldAct)) (more : List ToldAct) → d.running ≡ Some r → r'.began ≡ r.began →
+    ((run : Run) → RunTold run d.left d.owed (not r.is_closed) → RunTold run d.left d.owed (not r'.is_closed)) →
+    ((ledger : Ledger Run) → fold (ledger_after exchange_book) ledger more ≡ ledger) → fold runs_after true more ≡ true → Appended acts more acts' → Accounts d acts →
     Accounts (record d { running = Some r' }) acts'
-Accounts-known d r r' acts acts' is began on same fits =
-    Accounts-on d (record d { running = Some r' }) acts acts' [] fits (no-act acts acts' same) (Account-knows d r r' is began on) (ap is_some is)
+Accounts-known d r r' acts acts' more is began on stays runs told fits =
+    Accounts-on d (record d { running = Some r' }) acts acts' more fits told
+    (λ ledger account. subst (Account (record d { running = Some r' })) (sym (stays ledger)) (Account-knows d r r' is began on ledger account))
+    (ap (λ now. fold runs_after (is_some now) more) is ∙ runs)
 
-pub Accounts-taken : (d : DialogueState) (r : Running) (result : Gave) (left : List ℕ) (acts acts' : Option (List ToldAct)) → d.running ≡ Some r →
-    TakesInto result d.left left acts acts' → Accounts d acts → Accounts (record d { running = Some (after_take result r); left = left }) acts'
-Accounts-taken d r (gives.Bytes n) left acts acts' is into fits =
-    subst (λ x. Accounts (record d { running = Some r; left = x }) acts') (sym into.1)
-    (Accounts-on d (record d { running = Some r; left = d.left ++ into.0 }) acts acts' (gave into.0 ∷ []) fits into.2
-    (Account-gave d r r into.0 is refl refl) (ap is_some is))
-Accounts-taken d r gives.NotYet left acts acts' is into fits =
-    subst (λ x. Accounts (record d { running = Some r; left = x }) acts') (sym into.0)
-    (Accounts-known d r r acts acts' is refl (λ run told. told) into.1 fits)
-Accounts-taken d r gives.Ended left acts acts' is into fits =
-    subst (λ x. Accounts (record d { running = Some (record r { is_ended = true }); left = x }) acts') (sym into.0)
-    (Accounts-known d r (record r { is_ended = true }) acts acts' is refl (λ run told. told) into.1 fits)
+-- the program was asked, or not
+asked-on : (d : DialogueState) (r : Running) (is_made : Bool) (room : ℕ) (result : Gave) (bytes left : List ℕ) (acts acts' : Option (List ToldAct)) → d.running ≡ Some r →
+    (is_made ≡ false → result ≡ gives.NotYet) → left ≡ left_with result d.left bytes → Appended acts (acts_if is_made (given_acts room result bytes)) acts' → Accounts d acts →
+    Accounts (record d { running = Some (after_take result r); left = left }) acts'
+asked-on d r true room (gives.Bytes n) bytes left acts acts' is none goes told fits =
+    subst (λ x. Accounts (record d { running = Some r; left = x }) acts') (sym goes)
+    (Accounts-on d (record d { running = Some r; left = d.left ++ bytes }) acts acts' (given_acts room (gives.Bytes n) bytes) fits told
+    (Account-gave d r r bytes is refl refl) (ap is_some is))
+asked-on d r true room gives.NotYet bytes left acts acts' is none goes told fits =
+    subst (λ x. Accounts (record d { running = Some r; left = x }) acts') (sym goes)
+    (Accounts-known d r r acts acts' (given_acts room gives.NotYet bytes) is refl (λ run t. t) (λ ledger. refl) refl told fits)
+asked-on d r true room gives.Ended bytes left acts acts' is none goes told fits =
+    subst (λ x. Accounts (record d { running = Some (record r { is_ended = true }); left = x }) acts') (sym goes)
+    (Accounts-known d r (record r { is_ended = true }) acts acts' (given_acts room gives.Ended bytes) is refl (λ run t. t) (λ ledger. refl) refl told fits)
+asked-on d r false room (gives.Bytes n) bytes left acts acts' is none goes told fits = let no = none refl in grind arith
+asked-on d r false room gives.NotYet bytes left acts acts' is none goes told fits =
+    subst (λ x. Accounts (record d { running = Some r; left = x }) acts') (sym goes)
+    (Accounts-known d r r acts acts' [] is refl (λ run t. t) (λ ledger. refl) refl told fits)
+asked-on d r false room gives.Ended bytes left acts acts' is none goes told fits = let no = none refl in grind arith
 
-pub notes-taken : (result : Gave) (before after : List ℕ) (acts acts' : Option (List ToldAct)) → TakesInto result before after acts acts' → Notes [] [] [] acts acts'
-notes-taken (gives.Bytes n) before after acts acts' into = notes acts acts' (gave into.0 ∷ []) into.2
-notes-taken gives.NotYet before after acts acts' into = notes-same acts acts' into.1
-notes-taken gives.Ended before after acts acts' into = notes-same acts acts' into.1
+pub Accounts-taken : (d : DialogueState) (r : Running) (most : ℕ) (result : Gave) (left : List ℕ) (acts acts' : Option (List ToldAct)) → d.running ≡ Some r →
+    TakesInto most result d.left left acts acts' → Accounts d acts → Accounts (record d { running = Some (after_take result r); left = left }) acts'
+Accounts-taken d r most result left acts acts' is into fits =
+    asked-on d r (nat_lt (length d.left) most) (most - length d.left) result into.bytes left acts acts' is into.full into.goes into.told fits
+
+notes-asked : (is_made : Bool) (room : ℕ) (result : Gave) (bytes : List ℕ) (acts acts' : Option (List ToldAct)) → Appended acts (acts_if is_made (given_acts room result bytes)) acts' →
+    Notes [] [] [] acts acts'
+notes-asked true room (gives.Bytes n) bytes acts acts' told = notes acts acts' (given_acts room (gives.Bytes n) bytes) told
+notes-asked true room gives.NotYet bytes acts acts' told = notes acts acts' (given_acts room gives.NotYet bytes) told
+notes-asked true room gives.Ended bytes acts acts' told = notes acts acts' (given_acts room gives.Ended bytes) told
+notes-asked false room result bytes acts acts' told = notes acts acts' [] told
+
+pub notes-taken : (most : ℕ) (result : Gave) (before after : List ℕ) (acts acts' : Option (List ToldAct)) → TakesInto most result before after acts acts' → Notes [] [] [] acts acts'
+notes-taken most result before after acts acts' into = notes-asked (nat_lt (length before) most) (most - length before) result into.bytes acts acts' into.told
 
 pub Accounts-given : (d : DialogueState) (r : Running) (result : Took) (owed : List ℕ) (acts acts' : Option (List ToldAct)) → d.running ≡ Some r →
     GivesFrom result d.owed owed acts acts' → Accounts d acts → Accounts (record d { running = Some (after_give result r); owed = owed }) acts'
 Accounts-given d r (takes.Bytes n) owed acts acts' is given fits =
     subst (λ x. Accounts (record d { running = Some r; owed = x }) acts') (sym given.2)
-    (Accounts-on d (record d { running = Some r; owed = drop n d.owed }) acts acts' (took (take n d.owed) ∷ []) fits given.3
+    (Accounts-on d (record d { running = Some r; owed = drop n d.owed }) acts acts' (took_acts (takes.Bytes n) d.owed) fits given.3
     (Account-took d r r n is refl refl) (ap is_some is))
 Accounts-given d r takes.NoRoom owed acts acts' is given fits =
     subst (λ x. Accounts (record d { running = Some r; owed = x }) acts') (sym given.0)
-    (Accounts-known d r r acts acts' is refl (λ run told. told) given.1 fits)
+    (Accounts-known d r r acts acts' (took_acts takes.NoRoom d.owed) is refl (λ run told. told) (λ ledger. refl) refl given.1 fits)
 Accounts-given d r takes.Ended owed acts acts' is given fits =
     subst (λ x. Accounts (record d { running = Some (record r { is_closed = true }); owed = x }) acts') (sym given.0)
-    (Accounts-known d r (record r { is_closed = true }) acts acts' is refl (λ run told. told-closed run d.left d.owed (not r.is_closed) told) given.1 fits)
+    (Accounts-known d r (record r { is_closed = true }) acts acts' (took_acts takes.Ended d.owed) is refl (λ run told. told-closed run d.left d.owed (not r.is_closed) told)
+    (λ ledger. refl) refl given.1 fits)
 
 pub notes-given : (result : Took) (before after : List ℕ) (acts acts' : Option (List ToldAct)) → GivesFrom result before after acts acts' → Notes [] [] [] acts acts'
-notes-given (takes.Bytes n) before after acts acts' given = notes acts acts' (took (take n before) ∷ []) given.3
-notes-given takes.NoRoom before after acts acts' given = notes-same acts acts' given.1
-notes-given takes.Ended before after acts acts' given = notes-same acts acts' given.1
+notes-given (takes.Bytes n) before after acts acts' given = notes acts acts' (took_acts (takes.Bytes n) before) given.3
+notes-given takes.NoRoom before after acts acts' given = notes acts acts' (took_acts takes.NoRoom before) given.1
+notes-given takes.Ended before after acts acts' given = notes acts acts' (took_acts takes.Ended before) given.1
 
 pub Accounts-passed : (d : DialogueState) (left : List ℕ) (acts : Option (List ToldAct)) → PassesOver d.left left → Accounts d acts → Accounts (record d { left = left }) acts
 Accounts-passed d left acts over fits =

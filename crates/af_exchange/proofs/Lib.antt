@@ -4,3 +4,4 @@ pub mod RunLemmas
 pub mod HookLemmas
 pub mod AccountLemmas
 pub mod DialogueLemmas
+pub mod AskLemmas

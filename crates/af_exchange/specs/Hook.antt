@@ -33,8 +33,8 @@ after_call off d =
 abbrev pub is_owed : DialogueState → Bool
 is_owed d = is_open d.running && nat_lt 0 (length d.owed)
 
--- All that is owed was offered to the program, which gave this answer, or nothing was offered. It goes on taking lines, unless it
--- answered that it takes none any more.
+-- All that is owed was offered to the program in one give, which had this answer, or no give was made. It goes on taking lines,
+-- unless it answered that it takes none any more.
 abbrev pub Offers : Option Took → DialogueState → DialogueState → Option (List ToldAct) → Option (List ToldAct) → Type 0
 Offers None before after acts acts' = (after ≡ before) × Unchanged acts acts'
 Offers (Some took) before after acts acts' = GivesFrom took before.owed after.owed acts acts'

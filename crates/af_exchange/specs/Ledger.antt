@@ -5,7 +5,7 @@ use Rattle.std.specs.Prelude.{ℕ, List, [], ◌∷◌, ◌++◌, codes, flat_ma
 use Rattle.std.specs.declared.option.Option.{Option}
 use Rattle.std.specs.declared.option.Option.TheVariants.{None, Some}
 use Rattle.af_io.specs.Observed.{Appended}
-use Rattle.af_program.specs.Acts.{ToldAct, launched, gave, took, ended, captured, emitted}
+use Rattle.af_program.specs.Acts.{ToldAct, launched, asked, gave, offered, took, ended, captured, emitted}
 use Rattle.af_program.specs.Ledger.{Book, Ledger, ledger_by}
 
 -- While one program ran: the bytes that it gave and those that it took; the lines of the changes that were given meanwhile; and
@@ -41,7 +41,9 @@ ledger_of acts = ledger_by exchange_book first_hook acts
 -- the line of the change that an act notes, if it notes one
 abbrev pub change_in : ToldAct → List (List ℕ)
 change_in (launched at words came_to) = []
+change_in (asked room came) = []
 change_in (gave bytes) = []
+change_in (offered bytes answer) = []
 change_in (took bytes) = []
 change_in (ended at) = []
 change_in (captured line) = line ∷ []
@@ -50,7 +52,9 @@ change_in (emitted line) = []
 -- the line of the hook call that an act notes, if it notes one
 abbrev pub call_in : ToldAct → List (List ℕ)
 call_in (launched at words came_to) = []
+call_in (asked room came) = []
 call_in (gave bytes) = []
+call_in (offered bytes answer) = []
 call_in (took bytes) = []
 call_in (ended at) = []
 call_in (captured line) = []
@@ -64,7 +68,9 @@ pub record Order : Type 0 where
 -- the start that an act is, if it is one
 abbrev pub order_in : ToldAct → List Order
 order_in (launched at words came_to) = record { at = at; words = words } ∷ []
+order_in (asked room came) = []
 order_in (gave bytes) = []
+order_in (offered bytes answer) = []
 order_in (took bytes) = []
 order_in (ended at) = []
 order_in (captured line) = []

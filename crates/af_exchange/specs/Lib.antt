@@ -4,4 +4,5 @@ pub mod Ledger
 pub mod Told
 pub mod Dialogue
 pub mod Hook
+pub mod Asks
 pub mod Exchange

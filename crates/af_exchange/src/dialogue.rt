@@ -4,13 +4,14 @@ ghost use Rattle.std.specs.declared.option.Option.{Option};
 ghost use Rattle.std.specs.declared.option.Option.TheVariants.{None, Some};
 ghost use Rattle.arrayvec.specs.ArrayVec.{array_vec_len};
 ghost use Rattle.af_io.specs.Observed.{Appended};
-ghost use Rattle.af_program.specs.Acts.{ToldAct, emitted};
+ghost use Rattle.af_program.specs.Acts.{ToldAct, captured, emitted, ended};
 ghost use Rattle.af_process.specs.Acts.{words_of};
 ghost use Rattle.af_world.specs.Kinds.{most_card_restarts};
 ghost use Rattle.af_exchange.specs.Lines.{text_of, hook_text};
 ghost use Rattle.af_exchange.specs.Fronts.{FrontOf, NoComment};
 ghost use Rattle.af_exchange.specs.Ledger.{Notes};
 ghost use Rattle.af_exchange.specs.Hook.{after_call, OffersOwed};
+ghost use Rattle.af_exchange.specs.Asks.{TakesMore};
 ghost use Rattle.af_exchange.specs.Dialogue.{new_dialogue, is_open, is_over, Accounts, CanBegin, CanEnd, LeavesNone, PassesOver};
 
 use crate::line::{Front, front_of, hook_text, note_change};
@@ -197,6 +198,8 @@ impl Dialogue {
         ensures fits { Accounts self.new (P.acts program.new) }
         ensures same { (self.new.starts ≡ self.old.starts) × (self.new.off ≡ self.old.off) }
         ensures runs { is_some self.new.running ≡ is_some self.old.running }
+        ensures takes { is_some self.old.running ≡ true →
+            TakesMore self.old self.new (P.acts program.old) (P.acts program.new) }
         ensures notes { Notes [] [] [] (P.acts program.old) (P.acts program.new) }
     {
         let Some(running) = self.running else {
@@ -211,6 +214,7 @@ impl Dialogue {
         ensures fits { (acts : Option (List ToldAct)) → Accounts self.old acts → Accounts self.new acts }
         ensures same { (self.new.starts ≡ self.old.starts) × (self.new.off ≡ self.old.off) }
         ensures runs { self.new.running ≡ self.old.running }
+        ensures passed { PassesOver self.old.left self.new.left }
         ensures front { FrontOf result self.new.left }
         ensures none { NoComment result }
     {
@@ -229,6 +233,8 @@ impl Dialogue {
         requires fits { Accounts self.old (P.acts program.old) }
         ensures fits { Accounts self.new (P.acts program.new) }
         ensures same { (self.new.starts ≡ self.old.starts) × (self.new.off ≡ self.old.off) }
+        ensures runs { self.new.running ≡ self.old.running }
+        ensures acts { Appended (P.acts program.old) (captured (text_of change) ∷ []) (P.acts program.new) }
         ensures notes { Notes (text_of change ∷ []) [] [] (P.acts program.old) (P.acts program.new) }
     {
         self.input.drop_front(count);
@@ -243,6 +249,8 @@ impl Dialogue {
         ensures same { (self.new.starts.restarts ≡ self.old.starts.restarts) × (self.new.starts.tried ≡ self.old.starts.tried)
             × (self.new.off ≡ self.old.off) }
         ensures ended { self.new.running ≡ None }
+        ensures acts { is_some self.old.running ≡ true →
+            Appended (P.acts program.old) (ended at ∷ []) (P.acts program.new) }
         ensures notes { Notes [] [] [] (P.acts program.old) (P.acts program.new) }
     {
         let Some(running) = self.running else {

@@ -14,6 +14,7 @@ ghost use Rattle.af_exchange.specs.Fronts.{FrontOf, NoComment};
 ghost use Rattle.af_exchange.specs.Dialogue.{Accounts, CanBegin, LeavesNone, new_dialogue, is_over};
 ghost use Rattle.af_exchange.specs.Exchange.{new_exchange, IsToldWhereTold, IsDrainedWhereTold, SameOrders, lines_of, order_at, tried_after};
 ghost use Rattle.af_exchange.specs.Hook.{CallsHook};
+ghost use Rattle.af_exchange.specs.Asks.{AsksFor, AsksProgram};
 
 use crate::dialogue::Dialogue;
 use crate::line::Front;
@@ -99,6 +100,8 @@ impl<P: Program + Drop> Exchange<P> {
             (P.acts self.new.program) }
         ensures possible { IfSome result (λ change. is_change change ≡ true) }
         ensures drained { result ≡ None → IsDrainedWhereTold P.acts self.new }
+        ensures asks { is_some self.old.dialogue.running ≡ true →
+            AsksProgram at result self.old.dialogue self.new.dialogue (P.acts self.old.program) (P.acts self.new.program) }
         ensures over { is_some self.old.dialogue.running ≡ true → result ≡ None → is_over self.new.dialogue.running ≡ false }
         ensures tried { self.new.dialogue.starts.tried ≡ tried_after self.old.dialogue at }
         ensures same { SameOrders self.old self.new }
@@ -177,6 +180,7 @@ fn next_of<P: Program>(dialogue: &mut Dialogue, program: &mut P, at: u64) -> Opt
     requires fits { Accounts dialogue.old (P.acts program.old) }
     ensures fits { Accounts dialogue.new (P.acts program.new) }
     ensures notes { Notes (lines_of result) [] [] (P.acts program.old) (P.acts program.new) }
+    ensures asks { AsksProgram at result dialogue.old dialogue.new (P.acts program.old) (P.acts program.new) }
     ensures possible { IfSome result (λ change. is_change change ≡ true) }
     ensures drained { result ≡ None → LeavesNone dialogue.new }
     ensures over { result ≡ None → is_over dialogue.new.running ≡ false }
@@ -210,6 +214,8 @@ fn first_of<P: Program>(dialogue: &mut Dialogue, program: &mut P) -> Front
     ensures front { FrontOf result dialogue.new.left }
     ensures none { NoComment result }
     ensures runs { is_some dialogue.new.running ≡ is_some dialogue.old.running }
+    ensures asks { is_some dialogue.old.running ≡ true →
+        AsksFor result dialogue.old dialogue.new (P.acts program.old) (P.acts program.new) }
     ensures notes { Notes [] [] [] (P.acts program.old) (P.acts program.new) }
     ensures same { (dialogue.new.starts ≡ dialogue.old.starts) × (dialogue.new.off ≡ dialogue.old.off) }
 {

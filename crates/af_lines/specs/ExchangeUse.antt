@@ -12,6 +12,7 @@ use Rattle.af_exchange.specs.Told.{IsTold, IsDrained}
 use Rattle.af_exchange.specs.Dialogue.{DialogueState, new_dialogue, is_open, is_over}
 use Rattle.af_exchange.specs.Exchange.{ExchangeState, lines_of, order_at, tried_after}
 use Rattle.af_exchange.specs.Hook.{CallsHook}
+use Rattle.af_exchange.specs.Asks.{AsksProgram}
 
 -- the acts of its program, if they are observable; what stands between it and its line; and the command line of each start
 pub record ExchangeUse : Type 0 where
@@ -61,11 +62,14 @@ pub record IsBegun (restarts : ℕ) (words : List (List ℕ)) (e : ExchangeUse) 
   pub starts_once : StartsOnce at words e.acts
   pub told : IsToldUse e
 
--- It is asked at a moment, and gives this change or none. If it gives none, all that its program said was given, and a program
--- that gives or takes nothing any more was ended. If no program runs, a start is tried, if one may come.
+-- It is asked at a moment, and gives this change or none. A program that runs is offered what it is owed, and asked for more if
+-- no change is left of what it gave. If it gives none, all that it said was given, and one that gives or takes nothing any more
+-- was ended. If no program runs, a start is tried, if one may come.
 pub record AsksExchange (at : ℕ) (change : Option LineChange) (before after : ExchangeUse) : Type 0 where
   pub notes : Notes (lines_of change) [] (order_at before.dialogue before.words at) before.acts after.acts
   pub possible : IfSome change (λ c. is_change c ≡ true)
+  pub asks : is_some before.dialogue.running ≡ true →
+      AsksProgram at change before.dialogue after.dialogue before.acts after.acts
   pub drained : change ≡ None → IsDrainedUse after
   pub over : is_some before.dialogue.running ≡ true → change ≡ None → is_over after.dialogue.running ≡ false
   pub tried : after.dialogue.starts.tried ≡ tried_after before.dialogue at

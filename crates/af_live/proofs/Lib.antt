@@ -1,4 +1,5 @@
 pub mod HeldLinksLemmas
 pub mod PollsLemmas
 pub mod RoundLemmas
+pub mod SharesLemmas
 pub mod WakingLemmas

@@ -12,6 +12,8 @@ use Rattle.af_world.specs.declared.happening.Wake.TheVariants as wake
 use Rattle.af_live.specs.declared.link_table.LinkEntry.{LinkEntry}
 use Rattle.af_live.specs.declared.link_table.Readiness.{Readiness}
 use Rattle.af_live.specs.LinkTable.{is_free, is_open, link_at, new_link, with_readiness, without_first_ready, KeepsOpen, GivesFirst}
+use Rattle.af_live.specs.Shares.{all_renewed}
+use Rattle.af_live.proofs.SharesLemmas.{all_renewed_free, all_renewed_open}
 use Rattle.af_live.specs.Polls.{readiness_of, noted, all_noted, TakesIn, TakesAll, takes_none, takes_one, PollsTo, ready_of, PolledGives, LeadsLinks, TakesLeast}
 
 -- a link is replaced by one that a test cannot tell from it: the test gives the same for each number
@@ -63,11 +65,13 @@ all_noted_same f stays [] links k = refl
 all_noted_same f stays (e ∷ events) links k = all_noted_same f stays events (noted links e) k ∙ noted_same f stays links e k
 
 module _ {S : Type 0} where
-  -- a poll that reported these events, noted them and took new links in
-  pub polls_by : (told events : List Event) (streams kept streams' : Slab S) (old links new : List (Option LinkEntry)) →
-      events ≡ told → kept ≡ streams → links ≡ all_noted told old → TakesAll kept links streams' new → PollsTo events streams old streams' new
-  polls_by told events streams kept streams' old links new e s n t =
-      subst (λ es. TakesAll streams (all_noted es old) streams' new) (sym e) (subst (λ ls. TakesAll streams ls streams' new) n (subst (λ x. TakesAll x links streams' new) s t))
+  -- a poll that reported these events, gave new shares, noted the events and took new links in
+  pub polls_by : (told events : List Event) (streams kept streams' : Slab S) (old given links new : List (Option LinkEntry)) →
+      events ≡ told → kept ≡ streams → given ≡ all_renewed old → links ≡ all_noted told given → TakesAll kept links streams' new →
+      PollsTo events streams old streams' new
+  polls_by told events streams kept streams' old given links new e s r n t =
+      subst (λ es. TakesAll streams (all_noted es (all_renewed old)) streams' new) (sym e)
+      (subst (λ ls. TakesAll streams ls streams' new) (n ∙ ap (all_noted told) r) (subst (λ x. TakesAll x links streams' new) s t))
 
   takes_in_open : (streams streams' : Slab S) (old new : List (Option LinkEntry)) → TakesIn streams old streams' new → KeepsOpen old new
   takes_in_open streams streams' old new t =
@@ -84,7 +88,8 @@ module _ {S : Type 0} where
   pub polls_keep_open : (events : List Event) (streams : Slab S) (old : List (Option LinkEntry)) (streams' : Slab S) (new : List (Option LinkEntry)) →
       PollsTo events streams old streams' new → KeepsOpen old new
   polls_keep_open events streams old streams' new p = λ k.
-      takes_all_open streams (all_noted events old) streams' new p k ∙ all_noted_same is_open noted_open events old k
+      takes_all_open streams (all_noted events (all_renewed old)) streams' new p k
+      ∙ all_noted_same is_open noted_open events (all_renewed old) k ∙ all_renewed_open old k
 
 -- if the same numbers are free, no number was taken
 same_free : (a b c : List (Option LinkEntry)) → ((k : ℕ) → is_free (link_at c k) ≡ is_free (link_at b k)) → TakesLeast a b → TakesLeast a c
@@ -117,7 +122,9 @@ module _ {S : Type 0} where
   pub polls_take_least : (events : List Event) (streams : Slab S) (old : List (Option LinkEntry)) (streams' : Slab S) (new : List (Option LinkEntry)) →
       PollsTo events streams old streams' new → TakesLeast old new
   polls_take_least events streams old streams' new p =
-      takes_all_least old streams (all_noted events old) streams' new (same_free old old (all_noted events old) (all_noted_same is_free noted_free events old) (none_taken old)) p
+      takes_all_least old streams (all_noted events (all_renewed old)) streams' new
+      (same_free old old (all_noted events (all_renewed old))
+      (λ k. all_noted_same is_free noted_free events (all_renewed old) k ∙ all_renewed_free old k) (none_taken old)) p
 
 rest_free : (link : Option LinkEntry) → is_free (without_first_ready link) ≡ is_free link
 rest_free None = refl

@@ -1,14 +1,11 @@
 -- Links that are held by number, what is ready of each, and which of that is given first.
-use Rattle.std.specs.Prelude.{◌≡◌, ◌≢◌, ◌⊎◌, ℕ, ◌≤◌, ◌<◌, nat_lt, Bool, true, false, ◌&&◌, ◌||◌, not, List, length, slice_index_or, slice_set, if◌then◌else◌}
+use Rattle.std.specs.Prelude.{◌≡◌, ◌≢◌, ℕ, ◌≤◌, ◌<◌, Bool, true, false, ◌&&◌, ◌||◌, not, List, length, slice_index_or, slice_set, if◌then◌else◌}
 use Rattle.std.specs.declared.option.Option.{Option}
 use Rattle.std.specs.declared.option.Option.TheVariants.{None, Some}
 use Rattle.af_limits.specs.Limits.{most_links}
 use Rattle.af_world.specs.declared.happening.Wake.{Wake}
 use Rattle.af_world.specs.declared.happening.Wake.TheVariants as wake
-use Rattle.af_world.specs.declared.world.LinkGot.{LinkGot}
-use Rattle.af_world.specs.declared.world.LinkGot.TheVariants as got
-use Rattle.af_world.specs.declared.world.LinkTook.{LinkTook}
-use Rattle.af_world.specs.declared.world.LinkTook.TheVariants as took
+use Rattle.af_live.specs.declared.share.Share.{Share}
 use Rattle.af_live.specs.declared.link_table.LinkEntry.{LinkEntry}
 use Rattle.af_live.specs.declared.link_table.Readiness.{Readiness}
 
@@ -91,9 +88,25 @@ abbrev pub GivesFirst : List (Option LinkEntry) → Option Wake → List (Option
 GivesFirst old None new = IsFirstReady old None × (new ≡ old)
 GivesFirst old (Some w) new = GivesOf old (link_of_wake w) w new
 
+-- how many bytes are written to a link between two polls, at most
+abbrev pub write_share : ℕ
+write_share = 65536
+
+-- what a link may be given from a poll on: one read, and so many bytes
+abbrev pub whole_share : Share
+whole_share = record { may_read = true; room = write_share; read_cut = false; write_cut = false }
+
 -- a link that is new
 abbrev pub new_link : ℕ → LinkEntry
-new_link key = record { key = key; opened = true; readable = false; writable = false; drained = false; hides = false }
+new_link key = record {
+  key = key;
+  opened = true;
+  readable = false;
+  writable = false;
+  drained = false;
+  hides = false;
+  share = whole_share;
+}
 
 -- What an event says of a link is noted: it may be read or written from now on, or may hide more. If it may be read, it is no
 -- longer drained. Whether its opening was given stays.
@@ -133,16 +146,6 @@ Opens _ old new = KeepsOpen old new
 abbrev pub ClosesOne : ℕ → List (Option LinkEntry) → List (Option LinkEntry) → Type 0
 ClosesOne k old new = new ≡ slice_set old k free_entry
 
--- a link is ready to be read at once; nothing else changes
-abbrev pub to_read : Option LinkEntry → Option LinkEntry
-to_read None = None
-to_read (Some link) = Some (record link { readable = true })
-
--- all that had come by the link was read; nothing else changes
-abbrev pub to_drain : Option LinkEntry → Option LinkEntry
-to_drain None = None
-to_drain (Some link) = Some (record link { drained = true })
-
 -- all that had come by the link was read, and no event has reported more
 abbrev pub is_drained : Option LinkEntry → Bool
 is_drained None = false
@@ -152,29 +155,3 @@ is_drained (Some link) = link.drained
 abbrev pub may_hide : Option LinkEntry → Bool
 may_hide None = false
 may_hide (Some link) = link.hides
-
--- A read drained its link: it gave fewer bytes than there was room for, and the link hides nothing after them.
-abbrev pub has_drained : ℕ → ℕ → Option LinkEntry → Bool
-has_drained n room link = nat_lt n room && not (may_hide link)
-
--- a read of this link was interrupted and is to be made again: the link stays ready
-abbrev pub StaysReady : ℕ → List (Option LinkEntry) → List (Option LinkEntry) → Type 0
-StaysReady k old new = new ≡ slice_set old k (to_read (link_at old k))
-
--- What a read into so much room does to the links. If it gave nothing so far, they stay as they are, unless it was interrupted.
--- That never happens to a link that is drained, since the system is not asked then.
-abbrev pub AfterRead : ℕ → ℕ → LinkGot → List (Option LinkEntry) → List (Option LinkEntry) → Type 0
-AfterRead k room (got.Bytes n) old new =
-    new ≡ (if has_drained n room (link_at old k) then slice_set old k (to_drain (link_at old k)) else old)
-AfterRead k room got.NotYet old new = (new ≡ old) ⊎ ((is_drained (link_at old k) ≡ false) × StaysReady k old new)
-AfterRead k room got.Ended old new = new ≡ old
-AfterRead k room got.Failed old new = new ≡ old
-
--- After a write that took nothing, a link may be ready for another at once. Nothing else changes.
-abbrev pub to_write : Option LinkEntry → Option LinkEntry
-to_write None = None
-to_write (Some link) = Some (record link { writable = true })
-
-abbrev pub AfterWrite : ℕ → LinkTook → List (Option LinkEntry) → List (Option LinkEntry) → Type 0
-AfterWrite k took.Failed old new = new ≡ old
-AfterWrite k (took.Took n) old new = (new ≡ old) ⊎ ((n ≡ 0) × (new ≡ slice_set old k (to_write (link_at old k))))

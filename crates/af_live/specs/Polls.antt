@@ -15,6 +15,7 @@ use Rattle.af_live.specs.declared.link_table.LinkEntry.{LinkEntry}
 use Rattle.af_live.specs.declared.link_table.Readiness.{Readiness}
 use Rattle.af_live.specs.declared.sockets.Sockets.{Sockets}
 use Rattle.af_live.specs.LinkTable.{is_free, link_at, new_link, with_readiness, IsLeastFree, GivesFirst}
+use Rattle.af_live.specs.Shares.{all_renewed}
 
 -- the latest poll: how many nanoseconds it was to wait at most, and the events that it reported
 pub record LatestPoll : Type 0 where
@@ -70,9 +71,9 @@ module _ {S : Type 0} where
     takes_one : (streams' streams'' : Slab S) (links new : List (Option LinkEntry)) →
         TakesAll streams old streams' links → TakesIn streams' links streams'' new → TakesAll streams old streams'' new
 
-  -- The links after a poll: each event that it reported was noted, and then new links were taken in.
+  -- The links after a poll: each has a new share, each event that the poll reported was noted, and then new links were taken in.
   abbrev pub PollsTo : List Event → Slab S → List (Option LinkEntry) → Slab S → List (Option LinkEntry) → Type 0
-  PollsTo events streams old streams' new = TakesAll streams (all_noted events old) streams' new
+  PollsTo events streams old streams' new = TakesAll streams (all_noted events (all_renewed old)) streams' new
 
 -- what a poll found ready, by the wake that is given after it: nothing at Idle
 abbrev pub ready_of : Wake → Option Wake

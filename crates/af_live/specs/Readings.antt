@@ -1,8 +1,10 @@
 -- The times that a wait goes by: what the clock shows, the reading of a round, and how long a poll waits.
-use Rattle.std.specs.Prelude.{◌≡◌, ◌⊎◌, ℕ, ◌-◌, ◌≤◌, ◌<◌, nat_le, ◌||◌, Bool, false, if◌then◌else◌, Option, Some, None}
+use Rattle.std.specs.Prelude.{◌≡◌, ◌⊎◌, ℕ, ◌-◌, ◌/◌, ◌≤◌, ◌<◌, nat_le, ◌||◌, Bool, false, List, if◌then◌else◌, Option, Some, None}
 use Rattle.af_backend.specs.Rounds.{longest_step, reading_after}
 use Rattle.af_live.specs.declared.waking.Step.{Step}
+use Rattle.af_live.specs.declared.link_table.LinkEntry.{LinkEntry}
 use Rattle.af_live.specs.Polls.{LatestPoll}
+use Rattle.af_live.specs.Shares.{some_cut}
 use Rattle.af_live.specs.Timer.{TimerState, no_answers, whole_millis, AsksOnce}
 
 -- the clock of a world, and the last step of its readings
@@ -50,11 +52,17 @@ ReadsBy taken last old (Some nanos) new = IsReadingBy taken last old nanos new
 abbrev pub TakesNoReading : ClockState → ClockState → Type 0
 TakesNoReading old new = (new ≡ old) ⊎ (AsksOnce old.timer None new.timer × (new.step ≡ old.step))
 
+-- by how many milliseconds device time is late: what the clock showed at the latest step is further on
+abbrev pub late_millis : Step → Option ℕ → ℕ
+late_millis step None = 0
+late_millis step (Some last) = (step.shown - last) / 1000000
+
 -- How many nanoseconds a poll waits at most. It does not wait if there is more to do, if a device ticked or a line changed in the
--- round, or if the server is a whole step late.
-abbrev pub pause_of : Bool → Bool → Bool → ℕ
-pause_of more went_on is_late = if more || went_on || is_late then 0 else 10000000
+-- round, if the server is a whole step late, or if a link is cut.
+abbrev pub pause_of : Bool → Bool → Bool → Bool → ℕ
+pause_of more went_on is_late cut = if more || went_on || is_late || cut then 0 else 10000000
 
 -- The poll of a wait, if it polls, waits for such a pause at most: 10 milliseconds, or not at all.
-abbrev pub PausesBy : Bool → Bool → LatestPoll → LatestPoll → Type 0
-PausesBy more is_late old new = (new ≡ old) ⊎ ((went_on : Bool) × (new.pause ≡ pause_of more went_on is_late))
+abbrev pub PausesBy : Bool → Bool → List (Option LinkEntry) → LatestPoll → LatestPoll → Type 0
+PausesBy more is_late links old new =
+    (new ≡ old) ⊎ ((went_on : Bool) × (new.pause ≡ pause_of more went_on is_late (some_cut links)))

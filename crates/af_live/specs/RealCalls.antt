@@ -1,7 +1,8 @@
 -- What each call of the real world promises, of what contracts see of it. A world that stands over it has just these calls.
 use Rattle.std.specs.Prelude.{◌≡◌, ◌<◌, ℕ, length, true, false, IfSome, MatchOption, Bool, List}
 use Rattle.af_limits.specs.Limits.{most_links, most_devices}
-use Rattle.af_live.specs.LinkTable.{is_drained, is_free, link_at, something_ready, AfterRead, AfterWrite, KeepsOpen, ClosesOne, Opens}
+use Rattle.af_live.specs.LinkTable.{is_drained, is_free, link_at, something_ready, KeepsOpen, ClosesOne, Opens}
+use Rattle.af_live.specs.Shares.{AfterRead, AfterWrite}
 use Rattle.af_live.specs.Counting.{CountsOne, CountsStand}
 use Rattle.af_backend.specs.Backends.{may_be_refused, round_after, CapturesAt, EmitsAt, AttachesAt}
 use Rattle.af_backend.specs.CodecUse.{codec_allows, codec_after}
@@ -27,8 +28,8 @@ use Rattle.af_world.specs.declared.world.LinkTook.{LinkTook}
 use Rattle.af_world.specs.declared.world.LinkTook.TheVariants as took
 use Rattle.af_live.specs.RealWorld.{RealState}
 
--- A read of a link fails where the link is not held, gives nothing where all that came was read, and changes only whether the
--- link is drained or stays ready.
+-- A read of a link fails where the link is not held, gives nothing where all that came was read or where one was made since the
+-- last poll, and changes only what is known of the link.
 pub record RealReads (old : RealState) (link : ℕ) (answer : LinkGot) (into : List ℕ) (new : RealState) : Type 0 where
   pub faults : CountsOne (answer ≡ got.Failed) old.link_faults new.link_faults
   pub keeps_open : KeepsOpen old.links new.links
@@ -37,12 +38,13 @@ pub record RealReads (old : RealState) (link : ℕ) (answer : LinkGot) (into : L
   pub after : AfterRead link (length into) answer old.links new.links
   pub rest : new ≡ record old { links = new.links; link_faults = new.link_faults }
 
--- A write to a link fails where the link is not held, and changes only whether the link stays ready.
+-- A write to a link fails where the link is not held, takes at most what is left of its share, and changes only what is known of
+-- the link.
 pub record RealWrites (old : RealState) (link : ℕ) (piece : List ℕ) (answer : LinkTook) (new : RealState) : Type 0 where
   pub faults : CountsOne (answer ≡ took.Failed) old.link_faults new.link_faults
   pub keeps_open : KeepsOpen old.links new.links
   pub unheld : is_free (link_at old.links link) ≡ true → answer ≡ took.Failed
-  pub after : AfterWrite link answer old.links new.links
+  pub after : AfterWrite link (length piece) answer old.links new.links
   pub rest : new ≡ record old { links = new.links; link_faults = new.link_faults }
 
 -- The close of a link lets go of that link, and of nothing else.
@@ -116,8 +118,8 @@ pub record RealAttachesLine (old : RealState) (device : ℕ) (program : LineProg
       ≡ record old { clock = new.clock; lines = new.lines; device_faults = new.device_faults }
   pub counts : CountsStand old new
 
--- A wait gives what is ready first, or goes round the devices and the lines at one reading of the clock, or polls. No due frame
--- is lost.
+-- A wait gives what is ready first, or goes round the devices and the lines at one reading of the clock, or polls. A poll gives
+-- each link a new share. No due frame is lost.
 pub record RealWaits (old : RealState) (more : Bool) (answer : Waited) (new : RealState) : Type 0 where
   pub faults : CountsOne (answer ≡ waited.Failed) old.wait_faults new.wait_faults
   pub unlistened : old.listens ≡ false → answer ≡ waited.Failed
@@ -126,7 +128,7 @@ pub record RealWaits (old : RealState) (more : Bool) (answer : Waited) (new : Re
   pub fits : IfSome (given_wake answer) (λ wake. WakeFits old.links old.round old.lines wake)
   pub opens : MatchOption (given_wake answer) (KeepsOpen old.links new.links)
       (λ wake. Opens wake old.links new.links)
-  pub pauses : PausesBy more new.clock.step.is_late old.poll new.poll
+  pub pauses : PausesBy more new.clock.step.is_late old.links old.poll new.poll
   pub links : LeadsLinks new.poll.events (given_wake answer) old.links new.links
   pub least : TakesLeast old.links new.links
   pub round : LeadsRound (given_wake answer) old.links old.clock old.round old.backends

@@ -1,14 +1,16 @@
 // The links that a world holds, by number.
 // Layout: a table with a place for each number, and bounds on the numbers of links with something ready. A search looks only
 // between the bounds, and nowhere if nothing is ready.
-ghost use Rattle.std.specs.Prelude.{◌≡◌, ◌<◌, ◌+◌, min, max, length, replicate, slice_set, IfSome};
+ghost use Rattle.std.specs.Prelude.{◌≡◌, ◌<◌, ◌+◌, min, max, length, option_map, replicate, slice_set, IfSome};
 ghost use Rattle.std.specs.declared.option.Option.TheVariants.{Some};
 ghost use Rattle.af_limits.specs.Limits.{most_links};
-ghost use Rattle.af_live.specs.LinkTable.{free_entry, link_at, new_link, to_drain, to_read, to_write, IsLeastFree, GivesFirst, LinkWakeFits, Opens};
+ghost use Rattle.af_live.specs.LinkTable.{free_entry, link_at, new_link, IsLeastFree, GivesFirst, LinkWakeFits, Opens};
 ghost use Rattle.af_live.specs.Polls.{NotesAt};
+ghost use Rattle.af_live.specs.Shares.{all_renewed, some_cut, with_new_share};
 
 use crate::link_table::{
-    LinkEntry, Readiness, first_ready, free_number, held_at, least_free, note_told, take_first,
+    LinkEntry, Readiness, first_ready, free_number, held_at, is_cut, least_free, note_told, renew,
+    take_first,
 };
 use af_limits::MOST_LINKS;
 use af_world::Wake;
@@ -43,6 +45,8 @@ impl ReadySpan {
 pub(crate) struct HeldLinks {
     entries: [Option<LinkEntry>; MOST_LINKS],
     ready: ReadySpan,
+    /// The least number that no link has had, nor any after it: a poll looks no further.
+    end: usize,
 }
 
 impl Model for HeldLinks {
@@ -51,13 +55,15 @@ impl Model for HeldLinks {
     ghost use Rattle.af_limits.specs.Limits.{most_links};
     ghost use Rattle.af_live.specs.declared.link_table.LinkEntry.{LinkEntry};
     ghost use Rattle.af_live.specs.LinkTable.{NothingReadyBelow, NothingReadyFrom};
+    ghost use Rattle.af_live.specs.Shares.{NoneHeldFrom};
 
     ghost Value = { List (Option LinkEntry) };
 
     ghost view = { λ h. h.entries };
 
     ghost invariant = { λ h. (length h.entries ≡ most_links) × (h.ready.below ≤ most_links)
-        × NothingReadyBelow h.ready.from h.entries × NothingReadyFrom h.ready.below h.entries };
+        × NothingReadyBelow h.ready.from h.entries × NothingReadyFrom h.ready.below h.entries
+        × (h.end ≤ most_links) × NoneHeldFrom h.end h.entries };
 }
 
 impl HeldLinks {
@@ -68,6 +74,7 @@ impl HeldLinks {
         HeldLinks {
             entries: [None; MOST_LINKS],
             ready: NONE_READY,
+            end: 0,
         }
     }
 
@@ -91,6 +98,7 @@ impl HeldLinks {
     {
         if number < self.entries.len() {
             self.entries[number] = Some(LinkEntry::new(key));
+            self.end = self.end.max(number + 1);
             self.ready.include(number);
         }
     }
@@ -112,35 +120,51 @@ impl HeldLinks {
         }
     }
 
-    /// A link that is held may have something to read.
-    pub fn set_readable(&mut self, number: u8)
-        ensures { self.new ≡ slice_set self.old number (to_read (link_at self.old number)) }
+    /// What is known of a link that is held is this from now on.
+    pub fn put(&mut self, number: u8, link: LinkEntry)
+        ensures { self.new ≡ slice_set self.old number (Some link) }
     {
         let number = usize::from(number);
         if number < self.entries.len() {
-            set_readable(&mut self.entries[number]);
-            self.ready.include(number);
+            self.entries[number] = Some(link);
+            self.end = self.end.max(number + 1);
+            if link.readable || link.writable || link.opened {
+                self.ready.include(number);
+            }
         }
     }
 
-    /// All that had come of a link that is held was read.
-    pub fn set_drained(&mut self, number: u8)
-        ensures { self.new ≡ slice_set self.old number (to_drain (link_at self.old number)) }
+    /// Whether a link is cut.
+    pub fn some_cut(&self) -> bool
+        ensures { result ≡ some_cut self.now }
     {
-        let number = usize::from(number);
+        for number in 0..self.end {
+            if is_cut(&self.entries[number]) {
+                return true;
+            }
+        }
+        false
+    }
+
+    /// Gives a link a new share.
+    fn renew(&mut self, number: usize)
+        ensures { self.new ≡ slice_set self.old number (option_map with_new_share (link_at self.old number)) }
+    {
         if number < self.entries.len() {
-            set_drained(&mut self.entries[number]);
+            if is_cut(&self.entries[number]) {
+                self.ready.include(number);
+            }
+            renew(&mut self.entries[number]);
         }
     }
 
-    /// A link that is held may take something.
-    pub fn set_writable(&mut self, number: u8)
-        ensures { self.new ≡ slice_set self.old number (to_write (link_at self.old number)) }
+    /// Gives each link a new share. One that was cut is ready for what it was cut from.
+    pub fn renew_all(&mut self)
+        ensures { self.new ≡ all_renewed self.old }
     {
-        let number = usize::from(number);
-        if number < self.entries.len() {
-            set_writable(&mut self.entries[number]);
-            self.ready.include(number);
+        let end = self.end;
+        for number in 0..end {
+            self.renew(number);
         }
     }
 
@@ -161,32 +185,5 @@ impl HeldLinks {
                 None
             }
         }
-    }
-}
-
-/// Notes of a link that it may have something to read.
-fn set_readable(link: &mut Option<LinkEntry>)
-    ensures { link.new ≡ to_read link.old }
-{
-    if let Some(held) = link {
-        held.readable = true;
-    }
-}
-
-/// Notes of a link that all that had come was read.
-fn set_drained(link: &mut Option<LinkEntry>)
-    ensures { link.new ≡ to_drain link.old }
-{
-    if let Some(held) = link {
-        held.drained = true;
-    }
-}
-
-/// Notes of a link that it may take something.
-fn set_writable(link: &mut Option<LinkEntry>)
-    ensures { link.new ≡ to_write link.old }
-{
-    if let Some(held) = link {
-        held.writable = true;
     }
 }

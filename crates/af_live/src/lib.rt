@@ -7,6 +7,7 @@ mod held_links;
 mod link_table;
 mod links;
 mod mio_world;
+mod share;
 mod sockets;
 mod timer;
 mod turned_away;

@@ -1,12 +1,14 @@
 // The links that a world holds, by number, and what is ready of each and was not given yet.
-ghost use Rattle.std.specs.Prelude.{◌≡◌, ◌≤◌, length, slice_set, slice_index_or, true, false};
+ghost use Rattle.std.specs.Prelude.{◌≡◌, ◌≤◌, length, option_map, slice_set, slice_index_or, true, false};
 ghost use Rattle.af_live.specs.LinkTable.{free_entry, new_link, with_readiness, something_ready, wake_at, without_first_ready, IsLeastFree, IsFirstReady, NothingReadyBelow, NothingReadyFrom};
+ghost use Rattle.af_live.specs.Shares.{after_interrupt, after_read, after_read_cut, after_write, is_cut, to_write, with_new_share};
 
+use crate::share::Share;
 use af_world::Wake;
 
 /// A link that is held: the key of its stream; what was not given yet: that it is new, that it may have something to read, and
-/// that it may take something; whether all that had come was read, so that an event tells when there is more; and whether a read
-/// that gives little may hide more, as the end, which no event tells again.
+/// that it may take something; whether all that had come was read, so that an event tells when there is more; whether a read that
+/// gives little may hide more, as the end, which no event tells again; and what it may be given until the next poll.
 #[derive(Clone, Copy)]
 pub(crate) struct LinkEntry {
     pub key: usize,
@@ -15,6 +17,7 @@ pub(crate) struct LinkEntry {
     pub writable: bool,
     pub drained: bool,
     pub hides: bool,
+    pub share: Share,
 }
 
 impl LinkEntry {
@@ -29,7 +32,52 @@ impl LinkEntry {
             writable: false,
             drained: false,
             hides: false,
+            share: Share::whole(),
         }
+    }
+
+    /// The link after a read that drained it, or that left unknown whether more has come.
+    pub fn after_read(mut self, drains: bool) -> LinkEntry
+        ensures { result ≡ after_read drains self }
+    {
+        self.drained |= drains;
+        self.share.may_read = false;
+        self
+    }
+
+    /// The link after a read that was interrupted: it stays ready.
+    pub fn after_interrupt(mut self) -> LinkEntry
+        ensures { result ≡ after_interrupt self }
+    {
+        self.readable = true;
+        self
+    }
+
+    /// The link after a read that was refused, since one was made since the last poll.
+    pub fn after_read_cut(mut self) -> LinkEntry
+        ensures { result ≡ after_read_cut self }
+    {
+        self.share.read_cut = true;
+        self
+    }
+
+    /// The link after a write that took so many bytes of a piece, at most as many as its share had room for.
+    pub fn after_write(mut self, count: usize, piece: usize) -> LinkEntry
+        requires { count ≤ self.share.room }
+        ensures { result ≡ after_write count piece self }
+    {
+        let share = &mut self.share;
+        share.write_cut |= count == share.room && count < piece;
+        share.room -= count;
+        self
+    }
+
+    /// The link after a write that was interrupted: it stays ready.
+    pub fn to_write(mut self) -> LinkEntry
+        ensures { result ≡ to_write self }
+    {
+        self.writable = true;
+        self
     }
 }
 
@@ -72,6 +120,27 @@ fn is_ready(link: &Option<LinkEntry>) -> bool
     match link {
         Some(held) => held.opened || held.readable || held.writable,
         None => false,
+    }
+}
+
+/// Whether something was refused to a link since its share was used up.
+pub(crate) fn is_cut(link: &Option<LinkEntry>) -> bool
+    ensures { result ≡ is_cut link.now }
+{
+    match link {
+        Some(held) => held.share.read_cut || held.share.write_cut,
+        None => false,
+    }
+}
+
+/// Gives a link that is held a new share. Where it was cut, it is ready for what it was cut from.
+pub(crate) fn renew(link: &mut Option<LinkEntry>)
+    ensures { link.new ≡ option_map with_new_share link.old }
+{
+    if let Some(held) = link {
+        held.readable |= held.share.read_cut;
+        held.writable |= held.share.write_cut;
+        held.share = Share::whole();
     }
 }
 

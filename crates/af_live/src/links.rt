@@ -1,17 +1,20 @@
 // The calls of a world on its links.
-ghost use Rattle.std.specs.Prelude.{◌≡◌, ◌≢◌, ℕ, length, is_some, true, false};
+ghost use Rattle.std.specs.Prelude.{◌≡◌, ◌≢◌, length, not, slice_set, is_some, true, false};
+ghost use Rattle.std.specs.declared.option.Option.TheVariants.{Some};
 ghost use Rattle.af_world.specs.World.{LinkGotFits, TookFits};
-ghost use Rattle.af_live.specs.LinkTable.{is_drained, is_free, link_at, AfterRead, AfterWrite, KeepsOpen, ClosesOne, StaysReady};
+ghost use Rattle.af_live.specs.LinkTable.{is_drained, is_free, link_at, KeepsOpen, ClosesOne};
+ghost use Rattle.af_live.specs.Shares.{after_interrupt, after_read, AfterRead, AfterWrite};
 ghost use Rattle.af_live.specs.Polls.{latest_poll};
 
 use crate::held_links::HeldLinks;
+use crate::link_table::LinkEntry;
 use crate::sockets::Sockets;
 use af_world::{LinkGot, LinkTook};
 use std::io::ErrorKind;
 
-/// Reads what has come by a link. A read that gave less than there was room for gave all, unless it may hide more, and the system
-/// is not asked again before it tells of more. A read that was interrupted gave nothing so far, and is to be made again: the link
-/// stays ready.
+/// Reads what has come by a link, once between two polls: a further read gives nothing, and the link is ready after the next
+/// poll. A read that gave less than there was room for gave all, unless it may hide more, and the system is not asked again
+/// before it tells of more. A read that was interrupted gave nothing so far, and is to be made again: the link stays ready.
 pub(crate) fn read_link(
     sockets: &mut Option<Sockets>,
     links: &mut HeldLinks,
@@ -35,38 +38,50 @@ pub(crate) fn read_link(
     if held.drained {
         return LinkGot::NotYet;
     }
+    if !held.share.may_read {
+        links.put(link, held.after_read_cut());
+        return LinkGot::NotYet;
+    }
     match sockets.read(held.key, into) {
-        Ok(0) => LinkGot::Ended,
+        Ok(0) => {
+            links.put(link, held.after_read(false));
+            LinkGot::Ended
+        }
         Ok(count) => {
-            if count < into.len() && !held.hides {
-                links.set_drained(link);
-            }
+            links.put(link, held.after_read(count < into.len() && !held.hides));
             LinkGot::Bytes(count)
         }
-        Err(e) => note_refused(e.kind(), links, link),
+        Err(e) => note_refused(e.kind(), held, links, link),
     }
 }
 
-/// What a read comes to that the system refused: the link stays ready after an interrupt alone.
-fn note_refused(kind: ErrorKind, links: &mut HeldLinks, link: u8) -> LinkGot
+/// What a read comes to that the system refused. Where it has nothing, it tells of what comes. After an interrupt the link stays
+/// ready.
+fn note_refused(kind: ErrorKind, held: LinkEntry, links: &mut HeldLinks, link: u8) -> LinkGot
+    requires held { link_at links.old link ≡ Some held }
     ensures open { KeepsOpen links.old links.new }
-    ensures blocked { kind ≡ ErrorKind.WouldBlock → (result ≡ LinkGot.NotYet) × (links.new ≡ links.old) }
-    ensures interrupted { kind ≡ ErrorKind.Interrupted → (result ≡ LinkGot.NotYet) × StaysReady link links.old links.new }
+    ensures blocked { kind ≡ ErrorKind.WouldBlock → (result ≡ LinkGot.NotYet)
+        × (links.new ≡ slice_set links.old link (Some (after_read (not held.hides) held))) }
+    ensures interrupted { kind ≡ ErrorKind.Interrupted → (result ≡ LinkGot.NotYet)
+        × (links.new ≡ slice_set links.old link (Some (after_interrupt held))) }
     ensures refused { kind ≢ ErrorKind.WouldBlock → kind ≢ ErrorKind.Interrupted →
         (result ≡ LinkGot.Failed) × (links.new ≡ links.old) }
-    ensures after { (room : ℕ) → is_drained (link_at links.old link) ≡ false → AfterRead link room result links.old links.new }
 {
     match kind {
-        ErrorKind::WouldBlock => LinkGot::NotYet,
+        ErrorKind::WouldBlock => {
+            links.put(link, held.after_read(!held.hides));
+            LinkGot::NotYet
+        }
         ErrorKind::Interrupted => {
-            links.set_readable(link);
+            links.put(link, held.after_interrupt());
             LinkGot::NotYet
         }
         _ => LinkGot::Failed,
     }
 }
 
-/// Offers a piece to a link. A write that was interrupted took nothing, and is to be made again: the link stays ready.
+/// Offers a piece to a link, as much of it as its share has room for. Where that ends before the piece does, the link is ready
+/// after the next poll. A write that was interrupted took nothing, and is to be made again: the link stays ready.
 pub(crate) fn write_link(
     sockets: &mut Option<Sockets>,
     links: &mut HeldLinks,
@@ -76,7 +91,7 @@ pub(crate) fn write_link(
     ensures bound { TookFits result (length piece.now) }
     ensures open { KeepsOpen links.old links.new }
     ensures unheld { is_free (link_at links.old link) ≡ true → result ≡ LinkTook.Failed }
-    ensures after { AfterWrite link result links.old links.new }
+    ensures after { AfterWrite link (length piece.now) result links.old links.new }
     ensures listens { is_some sockets.new ≡ is_some sockets.old }
     ensures poll { latest_poll sockets.new ≡ latest_poll sockets.old }
 {
@@ -86,13 +101,21 @@ pub(crate) fn write_link(
     let Some(held) = links.get(link) else {
         return LinkTook::Failed;
     };
-    match sockets.write(held.key, piece) {
+    let offered = piece.len().min(held.share.room);
+    if offered == 0 {
+        links.put(link, held.after_write(0, piece.len()));
+        return LinkTook::Took(0);
+    }
+    match sockets.write(held.key, &piece[..offered]) {
         Ok(0) => LinkTook::Failed,
-        Ok(count) => LinkTook::Took(count),
+        Ok(count) => {
+            links.put(link, held.after_write(count, piece.len()));
+            LinkTook::Took(count)
+        }
         Err(e) => match e.kind() {
             ErrorKind::WouldBlock => LinkTook::Took(0),
             ErrorKind::Interrupted => {
-                links.set_writable(link);
+                links.put(link, held.to_write());
                 LinkTook::Took(0)
             }
             _ => LinkTook::Failed,

@@ -11,6 +11,7 @@ ghost use Rattle.af_limits.specs.Limits.{longest_read, output_room};
 ghost use Rattle.af_world.specs.World.{LinkGotFits, TookFits};
 ghost use Rattle.af_codec.specs.Codec.{TellsThese};
 ghost use Rattle.af_live.specs.Polls.{latest_poll};
+ghost use Rattle.af_live.specs.Readings.{late_millis};
 ghost use Rattle.af_live.specs.RealCalls.{RealAttaches, RealAttachesLine, RealCaptures, RealCloses, RealEmits, RealHooks, RealListens, RealReads, RealWaits, RealWrites};
 ghost use Rattle.af_live.specs.RealWorld.{RealLeadsTo, begun_world, listens_after};
 
@@ -137,6 +138,13 @@ impl<R: Net + Clock + Files + Drop, S: Spawner + Drop, G: Programs + Drop> MioWo
     /// The exchange of the telephone line of a device, if a program stands for it.
     pub fn exchange(&self, device: u8) -> Option<&Exchange<G::Made>> {
         self.lines.exchange(device)
+    }
+
+    /// By how many milliseconds device time is late, by the latest step of the readings.
+    pub fn late_millis(&self) -> u64
+        ensures { result ≡ late_millis self.now.clock.step self.now.round.last }
+    {
+        self.step.late_millis(self.devices.round.last_reading())
     }
 
     /// What it listens with, if it does.

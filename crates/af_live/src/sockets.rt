@@ -1,5 +1,5 @@
 // A listener, and the links that came in by it. Nothing here blocks.
-ghost use Rattle.std.specs.Prelude.{◌≡◌, ◌≤◌, [], false, IfOk, OnErr};
+ghost use Rattle.std.specs.Prelude.{◌≡◌, ◌≤◌, [], true, false, IfOk, OnErr};
 ghost use Rattle.std.specs.Io.{ReadsAtMost, WritesAtMost};
 ghost use Rattle.mio.specs.Events.{items};
 ghost use Rattle.std.specs.declared.option.Option.TheVariants.{Some};
@@ -108,11 +108,12 @@ impl Sockets {
         self.poll.poll(&mut self.events, Some(pause))
     }
 
-    /// Waits for at most so long until something is ready, and notes it. New links are accepted, at this reading of the clock.
-    /// The answer is whether the system could be asked; a signal is no refusal.
+    /// Waits for at most so long until something is ready, and notes it. Each link has a new share then. New links are accepted,
+    /// at this reading of the clock. The answer is whether the system could be asked; a signal is no refusal.
     pub(crate) fn poll(&mut self, pause: Duration, now: u64, links: &mut HeldLinks) -> bool
         ensures pause { self.new.pause ≡ pause }
-        ensures polls { PollsTo (items self.new.events) self.old.streams links.old self.new.streams links.new }
+        ensures polls { result ≡ true →
+            PollsTo (items self.new.events) self.old.streams links.old self.new.streams links.new }
         ensures refused { result ≡ false → links.new ≡ links.old }
     {
         match self.ask(pause) {
@@ -120,6 +121,7 @@ impl Sockets {
             Err(e) if e.kind() == ErrorKind::Interrupted => {}
             Err(_) => return false,
         }
+        links.renew_all();
         if note_events(&self.events, links) {
             self.waiting = true;
         }

@@ -5,7 +5,7 @@ ghost use Rattle.af_live.specs.Timer.{moment_of, nanos_of, no_answers, whole_mil
 use std::marker::Model;
 use std::time::{Clock, Duration};
 
-const NANOS_A_MILLISECOND: u64 = 1_000_000;
+pub(crate) const NANOS_A_MILLISECOND: u64 = 1_000_000;
 
 /// The clock of a runtime: how often it was asked, and what it showed last, if it could be read. The count stands still at
 /// 2^64 - 1.

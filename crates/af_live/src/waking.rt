@@ -9,12 +9,13 @@ ghost use Rattle.af_backend.specs.Rounds.{next_round};
 ghost use Rattle.af_lines.specs.HeldLines.{lines_at_round_start};
 ghost use Rattle.af_live.specs.LinkTable.{link_at, something_ready, KeepsOpen, LinkWakeFits, Opens};
 ghost use Rattle.af_live.specs.Polls.{latest_poll, LeadsLinks, PolledGives};
-ghost use Rattle.af_live.specs.Readings.{new_clock, pause_of, PausesBy, ReadsBy};
+ghost use Rattle.af_live.specs.Readings.{late_millis, new_clock, pause_of, PausesBy, ReadsBy};
+ghost use Rattle.af_live.specs.Shares.{some_cut};
 ghost use Rattle.af_live.specs.RealWorld.{given_wake, GivesKept, LeadsLines, LeadsRound, WakeFits};
 
 use crate::held_links::HeldLinks;
 use crate::sockets::Sockets;
-use crate::timer::{Timer, whole_millis};
+use crate::timer::{NANOS_A_MILLISECOND, Timer, whole_millis};
 use af_backend::{Devices, LONGEST_STEP_NANOS, Round};
 use af_limits::MOST_DEVICES;
 use af_lines::Lines;
@@ -49,6 +50,16 @@ impl Step {
             is_late: false,
         }
     }
+
+    /// By how many milliseconds the last reading is late: what the clock showed at this step is further on.
+    pub fn late_millis(&self, last: Option<u64>) -> u64
+        ensures { result ≡ late_millis self.now last }
+    {
+        match last {
+            Some(last) => self.shown.saturating_sub(last) / NANOS_A_MILLISECOND,
+            None => 0,
+        }
+    }
 }
 
 /// The reading of the clock that a round goes by: its own, or one that is taken now. After the server stood still that lags what
@@ -81,7 +92,8 @@ fn reading<R: Clock>(
 }
 
 /// What a poll finds first, at this reading of the clock. A new round over the devices and their lines begins after it. The poll
-/// waits only if there is nothing more to do, no device ticked and no line changed in the round, and the server is not late.
+/// waits only if there is nothing more to do, no device ticked and no line changed in the round, the server is not late, and no
+/// link is cut.
 fn poll_once<P: Program + Drop>(
     sockets: &mut Sockets,
     more: bool,
@@ -91,7 +103,8 @@ fn poll_once<P: Program + Drop>(
     round: &mut Round,
     lines: &mut Lines<P>,
 ) -> Option<Wake>
-    ensures pause { as_nanos sockets.new.pause ≡ pause_of more (round.old.ticked || lines.old.changed) is_late }
+    ensures pause { as_nanos sockets.new.pause
+        ≡ pause_of more (round.old.ticked || lines.old.changed) is_late (some_cut links.old) }
     ensures fits { IfSome result (λ wake. LinkWakeFits links.old wake) }
     ensures opens { MatchOption result (KeepsOpen links.old links.new) (λ wake. Opens wake links.old links.new) }
     ensures links { MatchOption result (links.new ≡ links.old)
@@ -99,7 +112,8 @@ fn poll_once<P: Program + Drop>(
     ensures round { MatchOption result (round.new ≡ round.old) (λ wake. round.new ≡ next_round round.old) }
     ensures lines { MatchOption result (lines.new ≡ lines.old) (λ wake. lines.new ≡ lines_at_round_start lines.old) }
 {
-    let pause = pause(more, round.has_ticked() || lines.has_changed(), is_late);
+    let went_on = round.has_ticked() || lines.has_changed();
+    let pause = pause(more, went_on, is_late, links.some_cut());
     if !sockets.poll(pause, nanos, links) {
         return None;
     }
@@ -129,7 +143,7 @@ pub(crate) fn next_wake<R: Clock, F: Read + Write + Drop, S: Spawner + Drop, P: 
         GivesKept result links.old devices.old.round links.new devices.new.round }
     ensures fits { IfSome result (λ wake. WakeFits links.old devices.old.round lines.old wake) }
     ensures opens { MatchOption result (KeepsOpen links.old links.new) (λ wake. Opens wake links.old links.new) }
-    ensures pauses { PausesBy more step.new.is_late (latest_poll sockets.old) (latest_poll sockets.new) }
+    ensures pauses { PausesBy more step.new.is_late links.old (latest_poll sockets.old) (latest_poll sockets.new) }
     ensures links { LeadsLinks (latest_poll sockets.new).events result links.old links.new }
     ensures round { LeadsRound result links.old (record { timer = timer.old; step = step.old }) devices.old.round
         devices.old.attached links.new (record { timer = timer.new; step = step.new }) devices.new.round devices.new.attached }
@@ -181,10 +195,10 @@ pub(crate) fn answer(next: Option<Wake>) -> Waited
 }
 
 /// How long a poll waits at most.
-fn pause(more: bool, went_on: bool, is_late: bool) -> Duration
-    ensures { as_nanos result ≡ pause_of more went_on is_late }
+fn pause(more: bool, went_on: bool, is_late: bool, cut: bool) -> Duration
+    ensures { as_nanos result ≡ pause_of more went_on is_late cut }
 {
-    if more || went_on || is_late {
+    if more || went_on || is_late || cut {
         Duration::ZERO
     } else {
         Duration::from_millis(LONGEST_PAUSE_MILLIS)

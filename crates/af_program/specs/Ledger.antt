@@ -6,7 +6,7 @@ use Rattle.std.specs.declared.option.Option.{Option}
 use Rattle.std.specs.declared.option.Option.TheVariants.{None, Some}
 use Rattle.af_program.specs.declared.program.Launched.TheVariants as launch
 use Rattle.af_program.specs.declared.starts.Starts.{Starts}
-use Rattle.af_program.specs.Acts.{ToldAct, launched, gave, took, ended, captured, emitted, runs_in}
+use Rattle.af_program.specs.Acts.{ToldAct, launched, asked, gave, offered, took, ended, captured, emitted, runs_in}
 use Rattle.af_program.specs.Waits.{Start, KeepsStarts, starts_after_end}
 
 -- How a run is kept, which is what went by while one program ran: as it begins, by the sound that was emitted last before it; and
@@ -69,7 +69,9 @@ abbrev pub ledger_after : {Run : Type 0} → Book Run → Ledger Run → ToldAct
 ledger_after book l (launched at words launch.Runs) = ledger_begun l at (book.begun l.latest)
 ledger_after book l (launched at words launch.Failed) = ledger_failed l at
 ledger_after book l (launched at words launch.OutOfMemory) = ledger_failed l at
+ledger_after book l (asked room came) = l
 ledger_after book l (gave bytes) = record l { running = on_run (λ run. book.gave_on run bytes) l.running }
+ledger_after book l (offered bytes answer) = l
 ledger_after book l (took bytes) = record l { running = on_run (λ run. book.took_on run bytes) l.running }
 ledger_after book l (ended at) = ledger_ended l at
 ledger_after book l (captured sound) =

@@ -4,12 +4,14 @@ use Rattle.std.specs.declared.option.Option.{Option}
 use Rattle.af_process.specs.Acts.{words_of}
 use Rattle.af_program.specs.declared.act.Act.{Act}
 use Rattle.af_program.specs.declared.act.Act.TheVariants as act
-use Rattle.af_program.specs.Acts.{ToldAct, launched, gave, took, ended, captured, emitted}
+use Rattle.af_program.specs.Acts.{ToldAct, launched, asked, gave, offered, took, ended, captured, emitted}
 
 -- an act as clauses see it; of a command line it has only the bytes
 abbrev pub told_of : Act → ToldAct
 told_of (act.Launched at words came_to) = launched at (words_of words) came_to
+told_of (act.Asked room came) = asked room came
 told_of (act.Gave bytes) = gave bytes
+told_of (act.Offered bytes answer) = offered bytes answer
 told_of (act.Took bytes) = took bytes
 told_of (act.Ended at) = ended at
 told_of (act.Captured sound) = captured sound

@@ -1,5 +1,5 @@
 // An act: what was done with a program in memory.
-use crate::Launched;
+use crate::{Gave, Launched, Took};
 use af_io::Bytes;
 use af_process::Words;
 
@@ -11,9 +11,19 @@ pub enum Act {
         words: Words,
         came_to: Launched,
     },
+    /// A take with room for so many bytes.
+    Asked {
+        room: usize,
+        came: Gave,
+    },
     /// The program gave these bytes.
     Gave {
         bytes: Bytes,
+    },
+    /// A give of these bytes.
+    Offered {
+        bytes: Bytes,
+        answer: Took,
     },
     /// The program took these bytes.
     Took {

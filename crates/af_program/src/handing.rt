@@ -14,7 +14,7 @@ pub fn take_into<P: Program, const ROOM: usize>(
 ) -> Gave
     requires buffer { length buffer.old ≡ ROOM }
     requires runs { RunsWhereTold (P.acts program.old) }
-    ensures takes { TakesInto result queue.old queue.new (P.acts program.old) (P.acts program.new) }
+    ensures takes { TakesInto ROOM result queue.old queue.new (P.acts program.old) (P.acts program.new) }
     ensures buffer { length buffer.new ≡ ROOM }
 {
     let free = buffer.len() - queue.as_slice().len();

@@ -5,7 +5,7 @@ ghost use Rattle.arrayvec.specs.ArrayVec.{array_vec_len};
 ghost use Rattle.af_io.specs.Observed.{Appended, next_count};
 ghost use Rattle.af_process.specs.Acts.{words_of};
 ghost use Rattle.af_program.specs.Acts.{launched, ended, captured, emitted, gave_acts, took_acts, runs_after, GaveFits, TookFits, IdlesWhereTold, RunsWhereTold};
-ghost use Rattle.af_program.specs.Memory.{gave_count, gave_of, took_of};
+ghost use Rattle.af_program.specs.Memory.{gave_count, gave_of, gave_some, took_of, took_some};
 ghost use Rattle.af_program.specs.Notes.{told_of};
 
 use crate::{Act, Gave, Launched, Program, ProgramSockets, Took, acts};
@@ -179,21 +179,18 @@ impl Program for MemProgram {
         ensures rest { self.new
             ≡ record self.old { acts = self.new.acts; left = self.new.left; take_calls = next_count self.old.take_calls } }
     {
-        let most = match self.gives.next_answer() {
-            None => return Gave::NotYet,
-            Some(None) => return Gave::Ended,
-            Some(Some(most)) => most as usize,
-        };
         let left = &self.output[self.gone..];
-        let count = most.min(left.len()).min(into.len());
-        if count == 0 {
-            return Gave::NotYet;
+        let came = match self.gives.next_answer() {
+            None => Gave::NotYet,
+            Some(None) => Gave::Ended,
+            Some(Some(most)) => gave_some((most as usize).min(left.len()).min(into.len())),
+        };
+        if let Gave::Bytes(count) = came {
+            into[..count].copy_from_slice(&left[..count]);
+            self.gone += count;
         }
-        into[..count].copy_from_slice(&left[..count]);
-        self.gone += count;
-        let act = acts::gave(self.notes.allocator(), &into[..count]);
-        self.notes.add(act);
-        Gave::Bytes(count)
+        acts::note_take(&mut self.notes, into, came);
+        came
     }
 
     fn give(&mut self, bytes: &[u8]) -> Took
@@ -204,17 +201,13 @@ impl Program for MemProgram {
         ensures took { result ≡ took_of (slice_get self.old.takes self.old.give_calls) (length bytes.now) }
         ensures rest { self.new ≡ record self.old { acts = self.new.acts; give_calls = next_count self.old.give_calls } }
     {
-        let count = match self.takes.next_answer() {
-            None => bytes.len(),
-            Some(None) => return Took::Ended,
-            Some(Some(most)) => (most as usize).min(bytes.len()),
+        let took = match self.takes.next_answer() {
+            None => took_some(bytes.len()),
+            Some(None) => Took::Ended,
+            Some(Some(most)) => took_some((most as usize).min(bytes.len())),
         };
-        if count == 0 {
-            return Took::NoRoom;
-        }
-        let act = acts::took(self.notes.allocator(), &bytes[..count]);
-        self.notes.add(act);
-        Took::Bytes(count)
+        acts::note_give(&mut self.notes, bytes, took);
+        took
     }
 
     fn end(&mut self, at: u64)
@@ -229,4 +222,26 @@ impl Program for MemProgram {
     fn tend(&mut self, _at: u64)
         ensures same { self.new ≡ self.old }
     {}
+}
+
+// So many bytes are given, if there are any.
+fn gave_some(count: usize) -> Gave
+    ensures { result ≡ gave_some count }
+{
+    if count == 0 {
+        Gave::NotYet
+    } else {
+        Gave::Bytes(count)
+    }
+}
+
+// So many bytes are taken, if there are any.
+fn took_some(count: usize) -> Took
+    ensures { result ≡ took_some count }
+{
+    if count == 0 {
+        Took::NoRoom
+    } else {
+        Took::Bytes(count)
+    }
 }

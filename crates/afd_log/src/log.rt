@@ -13,6 +13,8 @@ use std::time::Clock;
 /// How many lines are written in a second.
 const MOST_LINES: u32 = 50;
 
+const NANOS_A_SECOND: u64 = 1_000_000_000;
+
 /// The log of a server. It is written where details are wanted, by whoever holds a reference to it; and it keeps why the system
 /// refused something last, wanted or not.
 #[derive(Drop)]
@@ -33,6 +35,8 @@ pub struct Log<'a> {
     starts: Cell<u32>,
     /// How many pieces of sound that program did not take in time, since it was told of last.
     late: Cell<u64>,
+    /// The second of the clock in which it was told last that device time is late.
+    late_second: Cell<u64>,
 }
 
 impl<'a> Log<'a> {
@@ -56,6 +60,7 @@ impl<'a> Log<'a> {
             codec: Cell::new(0),
             starts: Cell::new(0),
             late: Cell::new(0),
+            late_second: Cell::new(0),
         }
     }
 
@@ -171,6 +176,15 @@ impl<'a> Log<'a> {
             Finished::Failed => self.line(format_args!(
                 "device {device}: its program took no sound any more; {next}"
             )),
+        }
+    }
+
+    /// Tells how late device time is, at most once a second.
+    pub(crate) fn tell_late(&self, millis: u64) {
+        let second = self.nanos() / NANOS_A_SECOND;
+        if second != self.late_second.get() {
+            self.late_second.set(second);
+            self.line(format_args!("late by {millis} milliseconds"));
         }
     }
 

@@ -14,6 +14,9 @@ use af_world::{
 };
 use std::alloc::Global;
 
+/// By how many milliseconds device time may be late before that is told.
+const MOST_LATE_MILLIS: u64 = 100;
+
 /// A world that is watched: it tells in a log at which address the world below listens, what the devices are, what the programs
 /// of devices do, who connects, why a link is closed and why a device has died. Each of its calls is that call of the world
 /// below.
@@ -78,6 +81,16 @@ impl<'a, W: World + Live + Drop, V: Sight<W> + Drop> Logged<'a, W, V> {
         if count > 0 {
             self.turned_away = turned_away;
             self.log.line(format_args!("{count} turned away: all 32 connections are in use"));
+        }
+    }
+
+    /// Tells how late device time is, once it can be heard.
+    fn tell_late(&self) {
+        if self.log.is_wanted() {
+            let late = self.sight.late_millis(&self.world);
+            if late > MOST_LATE_MILLIS {
+                self.log.tell_late(late);
+            }
         }
     }
 }
@@ -234,6 +247,7 @@ impl<W: World + Live + Drop, V: Sight<W> + Drop> Live for Logged<'_, W, V> {
     fn wait(&mut self, more: bool) -> Waited {
         let waited = self.world.wait(more);
         self.tell_turned_away();
+        self.tell_late();
         if self.has_programs {
             self.tell_programs();
         }

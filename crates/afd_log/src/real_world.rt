@@ -186,6 +186,10 @@ impl<'a> Sight<RealWorld<'a>> for RealSight<'a> {
         }
     }
 
+    fn late_millis(&self, world: &RealWorld<'a>) -> u64 {
+        world.world.late_millis()
+    }
+
     fn has_exchange(&self, world: &RealWorld<'a>, device: u8) -> bool {
         world.world.exchange(device).is_some()
     }

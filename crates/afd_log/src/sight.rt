@@ -18,6 +18,9 @@ pub trait Sight<W> {
     /// How many connections were turned away.
     fn turned_away(&self, world: &W) -> u64;
 
+    /// By how many milliseconds device time is late.
+    fn late_millis(&self, world: &W) -> u64;
+
     /// Whether a program stands for the exchange of a device's telephone line.
     fn has_exchange(&self, world: &W, device: u8) -> bool;
 
@@ -43,6 +46,10 @@ impl<W> Sight<W> for NoSight {
     }
 
     fn turned_away(&self, _world: &W) -> u64 {
+        0
+    }
+
+    fn late_millis(&self, _world: &W) -> u64 {
         0
     }
 

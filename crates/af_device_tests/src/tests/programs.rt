@@ -26,7 +26,9 @@ enum Call {
 #[derive(Clone, Copy)]
 enum Kept {
     Launched(u64, Launched),
+    Asked(usize, Gave),
     Gave(&'static [u8]),
+    Offered(&'static [u8], Took),
     Took(&'static [u8]),
     Ended(u64),
     Captured(&'static [u8]),
@@ -87,7 +89,11 @@ fn is_kept(act: &Act, wanted: &Kept) -> bool {
         (Act::Launched { at, came_to, .. }, Kept::Launched(moment, launched)) => {
             at == moment && came_to == launched
         }
+        (Act::Asked { room, came }, Kept::Asked(wanted, gave)) => room == wanted && came == gave,
         (Act::Gave { bytes }, Kept::Gave(wanted)) => bytes.as_slice() == *wanted,
+        (Act::Offered { bytes, answer }, Kept::Offered(wanted, took)) => {
+            bytes.as_slice() == *wanted && answer == took
+        }
         (Act::Took { bytes }, Kept::Took(wanted)) => bytes.as_slice() == *wanted,
         (Act::Ended { at }, Kept::Ended(moment)) => at == moment,
         (Act::Captured { sound }, Kept::Captured(wanted)) => sound.as_slice() == *wanted,
@@ -146,15 +152,26 @@ fn a_program_in_memory_plays_its_plan(rt: HostRuntime) -> Result<(), Fail> {
     ];
     let acts = [
         Kept::Launched(5, Launched::Runs),
+        Kept::Asked(2, Gave::Bytes(2)),
         Kept::Gave(b"ab"),
+        Kept::Asked(4, Gave::NotYet),
+        Kept::Asked(4, Gave::Bytes(4)),
         Kept::Gave(b"cdef"),
+        Kept::Asked(4, Gave::Ended),
         Kept::Captured(b"c"),
+        Kept::Offered(b"xyz", Took::Bytes(2)),
         Kept::Took(b"xy"),
+        Kept::Offered(b"z", Took::NoRoom),
+        Kept::Offered(b"z", Took::Ended),
         Kept::Emitted(b"e"),
         Kept::Ended(6),
         Kept::Launched(7, Launched::Failed),
         Kept::Launched(8, Launched::Runs),
+        Kept::Asked(4, Gave::Bytes(1)),
         Kept::Gave(b"g"),
+        Kept::Asked(4, Gave::NotYet),
+        Kept::Asked(4, Gave::NotYet),
+        Kept::Offered(b"uvw", Took::Bytes(3)),
         Kept::Took(b"uvw"),
     ];
     assert_played(&rt, rt.alloc(), &calls, &acts)

@@ -243,7 +243,10 @@ const BEFORE: [Act; 2] = [
     Act::World(Call::Listen("no address", Ready::Failed)),
 ];
 
-const LINK: [Act; 31] = [
+// More than one read gives.
+const LONG: [u8; 20_000] = [b'+'; 20_000];
+
+const LINK: [Act; 38] = [
     Act::World(Call::Listen("127.0.0.1:0", Ready::Failed)),
     Act::Connect,
     Act::Send(b"hello"),
@@ -255,6 +258,14 @@ const LINK: [Act; 31] = [
     Act::World(Call::Poll(Waited::Woke(Wake::Idle))),
     Act::World(Call::Write(0, b"back", LinkTook::Took(4))),
     Act::Receive(b"back"),
+    // a link is read once between two polls
+    Act::Send(&LONG),
+    Act::World(Call::Wait(Waited::Woke(Wake::Readable(0)))),
+    Act::World(Call::Wait(Waited::Woke(Wake::Writable(0)))),
+    Act::World(Call::Read(0, LinkGot::Bytes(16_384), b"++++++")),
+    Act::World(Call::Read(0, LinkGot::NotYet, b"------")),
+    Act::World(Call::Poll(Waited::Woke(Wake::Readable(0)))),
+    Act::World(Call::Read(0, LinkGot::Bytes(3_616), b"++++++")),
     Act::Send(b"!"),
     Act::World(Call::Wait(Waited::Woke(Wake::Readable(0)))),
     Act::World(Call::Read(0, LinkGot::Bytes(1), b"!-----")),

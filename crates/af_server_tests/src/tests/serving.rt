@@ -3,6 +3,7 @@ use crate::tests::checks::holds;
 use af_io::{Args, MemSink, MemSource};
 use af_outside::{DeviceSpec, Happening, Lifecycle, LifecycleFaults, Tape, ToldKind, Wake};
 use af_script::{Script, print_log, read_script};
+use afd_log::{Log, Logged, NoSight};
 use afd_serve::{LiveEnd, afd_live, status_of};
 use std::alloc::Global;
 use std::process::Abort;
@@ -332,13 +333,22 @@ struct Served<'a> {
     printed: &'a str,
 }
 
-fn assert_served(rt: &impl Abort, alloc: Global, case: &Served<'_>) -> Result<(), Fail> {
+// Over a tape that is watched: what it was asked, and what it prints, is what a tape by itself is asked and prints.
+fn assert_served(
+    rt: &impl Abort,
+    alloc: Global,
+    log: &Log<'_>,
+    case: &Served<'_>,
+) -> Result<(), Fail> {
     let words = args(alloc, case.words)?;
     let script = script_of(alloc, case.script)?;
     let steps = script.steps.as_slice();
-    let mut tape = Tape::new(alloc, &script.config, steps, case.faults)?;
-    let end = run_to_end(alloc, &words, case.config, &[], &mut tape);
+    let tape = Tape::new(alloc, &script.config, steps, case.faults)?;
+    let mut world = Logged::new(tape, NoSight, log);
+    let mut source = MemSource::new(case.config, 7, &[]);
+    let end = afd_live(alloc, &words, &mut source, &mut world);
     holds(rt, case.what, end == case.end);
+    let tape = world.world();
     assert_calls(rt, case.what, tape.lifecycle(), case.calls);
     assert_turns(rt, case.what, tape.log(), case.turns);
     assert_printed(rt, case.what, tape.log(), case.printed);
@@ -476,8 +486,9 @@ static SERVED: [Served<'static>; 7] = [
 
 #[test]
 fn what_is_asked_of_the_world_is_told(rt: HostRuntime) -> Result<(), Fail> {
+    let log = Log::new(&rt, false);
     for case in &SERVED {
-        assert_served(&rt, rt.alloc(), case)?;
+        assert_served(&rt, rt.alloc(), &log, case)?;
     }
     Ok(())
 }

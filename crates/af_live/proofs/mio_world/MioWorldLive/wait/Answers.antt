@@ -7,6 +7,7 @@ use Rattle.af_world.specs.declared.live.Waited.TheVariants.{Failed}
 use Rattle.af_live.specs.LinkTable.{link_at, something_ready, KeepsOpen, Opens}
 use Rattle.af_live.specs.Counting.{CountsOne}
 use Rattle.af_live.specs.Polls.{latest_poll, LeadsLinks, TakesLeast}
+use Rattle.af_live.specs.Readings.{PausesBy}
 use Rattle.af_live.specs.RealWorld.{RealState, given_wake, GivesKept, LeadsLines, LeadsRound, LosesNoFrame, WakeFits}
 use Rattle.af_live.proofs.PollsLemmas.{waits_take_least}
 use Rattle.af_live.proofs.RoundLemmas.{waits_lose_none}
@@ -24,7 +25,8 @@ returns g c = record {
         (subst (λ (o : Option Wake). IfSome o (λ wake. WakeFits c.self.inside.links c.self.inside.devices.round c.self.inside.lines wake)) (sym c.answer-waited.ensures.given) c.next_wake-next.ensures.fits);
     opens = subst (λ (s : RealState). MatchOption (given_wake c.answer-waited.result) (KeepsOpen s.links c.next_wake-next.new.links) (λ wake. Opens wake s.links c.next_wake-next.new.links)) c.self.view_is
         (subst (λ (o : Option Wake). MatchOption o (KeepsOpen c.self.inside.links c.next_wake-next.new.links) (λ wake. Opens wake c.self.inside.links c.next_wake-next.new.links)) (sym c.answer-waited.ensures.given) c.next_wake-next.ensures.opens);
-    pauses = search rules;
+    pauses = subst (λ (s : RealState). PausesBy c.args.more c.next_wake-next.new.step.is_late s.links s.poll (latest_poll c.next_wake-next.new.sockets)) c.self.view_is
+        c.next_wake-next.ensures.pauses;
     links = subst (λ (s : RealState). LeadsLinks (latest_poll c.next_wake-next.new.sockets).events (given_wake c.answer-waited.result) s.links c.next_wake-next.new.links) c.self.view_is
         (subst (λ (o : Option Wake). LeadsLinks (latest_poll c.next_wake-next.new.sockets).events o c.self.inside.links c.next_wake-next.new.links) (sym c.answer-waited.ensures.given) c.next_wake-next.ensures.links);
     least = subst (λ (s : RealState). TakesLeast s.links c.next_wake-next.new.links) c.self.view_is (waits_take_least (latest_poll c.next_wake-next.new.sockets).events _ _ _ c.next_wake-next.ensures.links);

@@ -14,15 +14,18 @@ A session is a folder of tests/log with a file `session`. Its lines, one act eac
     asks NAME               a client is set up, and told the time of device 0
     told TEXT               the log comes to have a line with this text, within some seconds
     pause MILLISECONDS      nothing is done
+    stand MILLISECONDS      the server is stopped meanwhile
 
 `words` are those of the program; PORT in them is a free port, and so it is in `log`, which is what standard error has when all is
-over. Ports of clients are written as CLIENT. `status` is the status, if the server ends by itself; else it is ended by a signal.
+over. Ports of clients are written as CLIENT. A machine may stand still, so lines on late device time count only where the server
+was stopped: then one or more of them are `late by N milliseconds`. `status` is the status, if the server ends by itself; else it is ended by a signal.
 """
 
 import contextlib
 import os
 import re
 import shutil
+import signal
 import socket
 import subprocess
 import tempfile
@@ -34,6 +37,7 @@ from serving import GET_TIME, SETUP, free_port, received, reset
 LONGEST = 20
 ENVIRONMENT = {"AUDIOFILE_DETAILS": "1"}
 TAKER = "#!/bin/sh\nexec cat > /dev/null\n"
+LATE = re.compile(rb"(?:^afd: late by \d+ milliseconds\n)+", re.MULTILINE)
 CLIENT = re.compile(rb"(connection \d+ from 127\.0\.0\.1:)\d+")
 
 
@@ -47,6 +51,7 @@ class Session:
         self.clients = {}
         self.others = []
         self.server = None
+        self.stood = False
 
     def read(self, name, default=b""):
         path = os.path.join(self.folder, name)
@@ -127,6 +132,12 @@ class Session:
     def pause(self, milliseconds):
         time.sleep(int(milliseconds) / 1000)
 
+    def stand(self, milliseconds):
+        self.stood = True
+        self.server.send_signal(signal.SIGSTOP)
+        time.sleep(int(milliseconds) / 1000)
+        self.server.send_signal(signal.SIGCONT)
+
     def come_true(self, holds, otherwise):
         for _ in range(LONGEST * 100):
             if holds():
@@ -164,6 +175,7 @@ class Session:
             said = CLIENT.sub(rb"\1CLIENT", self.said())
             said = re.sub(rb"127\.0\.0\.1:%d\b" % self.port, b"127.0.0.1:PORT", said)
             said = re.sub(rb"(listening at 127\.0\.0\.1:)\d+", rb"\1PORT", said)
+            said = LATE.sub(b"afd: late by N milliseconds\n" if self.stood else b"", said)
             wanted = self.read("log")
             if said != wanted:
                 return "standard error is\n%s\nin place of\n%s" % (said.decode(errors="replace"), wanted.decode())

@@ -17,8 +17,9 @@ A session is a folder of tests/log with a file `session`. Its lines, one act eac
     stand MILLISECONDS      the server is stopped meanwhile
 
 `words` are those of the program; PORT in them is a free port, and so it is in `log`, which is what standard error has when all is
-over. Ports of clients are written as CLIENT. A machine may stand still, so lines on late device time count only where the server
-was stopped: then one or more of them are `late by N milliseconds`. `status` is the status, if the server ends by itself; else it is ended by a signal.
+over. Ports of clients are written as CLIENT. `status` is the status, if the server ends by itself; else it is ended by a signal.
+A machine may stand still, so lines that device time is late count only where the server was stopped. Then one or more of them are
+`late by N milliseconds`.
 """
 
 import contextlib

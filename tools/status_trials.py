@@ -268,6 +268,7 @@ def streams(trial):
         place = whole.find(heard[:400])
         trial.holds("it is what the device captures, from frame %d on" % (place // 4), place >= 0 and place % 4 == 0)
         trial.holds("%d frames, and each of them" % (len(heard) // 4), len(heard) == 8 * RATE and whole[place:place + len(heard)] == heard)
+        trial.holds("who has left is not counted", page.becomes(lambda it: it["devices"][1]["listeners"] == 0, 1))
         with contextlib.ExitStack() as links:
             for _ in range(8):
                 link = http.client.HTTPConnection(*page.place, timeout=ANSWERS)

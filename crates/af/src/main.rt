@@ -7,15 +7,17 @@ ghost use Rattle.af.specs.Statuses.{answer_status, tool_status};
 
 use af_answer::{AnswerEnd, answer_run, names_answer};
 use af_details::{
-    Streams, WatchedDial, WatchedSource, WatchedSpawner, as_tool_end, tell_answer, tell_no_text,
-    tell_tool,
+    Page, Streams, WatchedDial, WatchedSource, WatchedSpawner, as_tool_end, page_asked,
+    tell_answer, tell_no_text, tell_output, tell_tool,
 };
+use af_environment::{completed_words, server_variable, tell_server_variable};
 use af_io::{
     Args, StdSink, StdSource, TcpDial, WordsFault, open_standard_streams, program_words,
     wants_details,
 };
 use af_process::StdSpawner;
 use af_tools::{ToolEnd, af_run};
+use af_version::{PageFault, write_page};
 use std::io;
 use std::process::ExitCode;
 
@@ -98,23 +100,64 @@ fn report_answer(rt: &impl Eprint, end: AnswerEnd) -> io::Result<()> {
 fn main(rt: HostRuntime) -> ExitCode {
     open_standard_streams(&rt);
     let details = wants_details(&rt);
-    let words = match program_words(rt.alloc(), &rt) {
-        Ok(words) => words,
+    match program_words(rt.alloc(), &rt) {
+        Ok(words) => match page_asked(&words) {
+            Some(page) => ExitCode::from(status_of(show(&rt, page, details))),
+            None => ExitCode::from(run_with_server(&rt, words, details)),
+        },
         Err(WordsFault::NotText) => {
             let end = said(&rt, ToolEnd::Usage);
             if details {
                 tell_no_text(&rt);
             }
-            return ExitCode::from(status_of(end));
+            ExitCode::from(status_of(end))
         }
         Err(WordsFault::OutOfMemory) => {
-            return ExitCode::from(status_of(said(&rt, ToolEnd::OutOfMemory)));
+            ExitCode::from(status_of(said(&rt, ToolEnd::OutOfMemory)))
         }
+    }
+}
+
+// Writes a page of help, or the version, to standard output.
+fn show(rt: &HostRuntime, page: Page, details: bool) -> ToolEnd {
+    let mut sink = StdSink::new(io::writer(rt));
+    let end = match write_page(rt.alloc(), &page, &mut sink) {
+        Ok(()) => ToolEnd::Done,
+        Err(PageFault::SinkFault) => ToolEnd::SinkFault,
+        Err(PageFault::OutOfMemory) => ToolEnd::OutOfMemory,
     };
-    if names_answer(&words) {
-        ExitCode::from(answer_status_of(attend(&rt, &words, details)))
+    let end = said(rt, end);
+    if details {
+        tell_output(rt, sink.reason());
+    }
+    end
+}
+
+// Runs a tool with the arguments and, where they state none, the server that the environment names. It answers the exit status.
+fn run_with_server(rt: &HostRuntime, stated: Args, details: bool) -> u8 {
+    let count = stated.len();
+    let Ok(variable) = server_variable(rt) else {
+        return status_of(said(rt, ToolEnd::OutOfMemory));
+    };
+    let Ok(words) = completed_words(rt.alloc(), stated, variable.text()) else {
+        return status_of(said(rt, ToolEnd::OutOfMemory));
+    };
+    let (status, end) = run_tool(rt, &words, details);
+    if details && let Some(end) = end {
+        let put_in = words.len() != count;
+        tell_server_variable(rt, rt.alloc(), &words, &variable, put_in, end);
+    }
+    status
+}
+
+// Runs the tool that the arguments name. It answers the exit status, and the end of a tool that means the same.
+fn run_tool(rt: &HostRuntime, words: &Args, details: bool) -> (u8, Option<ToolEnd>) {
+    if names_answer(words) {
+        let end = attend(rt, words, details);
+        (answer_status_of(end), as_tool_end(end))
     } else {
-        ExitCode::from(status_of(run(&rt, &words, details)))
+        let end = run(rt, words, details);
+        (status_of(end), Some(end))
     }
 }
 

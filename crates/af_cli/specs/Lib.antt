@@ -1,4 +1,5 @@
 pub mod Sizes
+pub mod Lengths
 pub mod Numbers
 pub mod Words
 pub mod Ranges

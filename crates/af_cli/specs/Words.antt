@@ -24,6 +24,7 @@ use Rattle.af_sound.specs.declared.head.SoundForm.{SoundForm}
 use Rattle.af_text.specs.Sound.{type_of}
 use Rattle.af_wire.specs.declared.order.Order.{Order}
 use Rattle.af_wire.specs.declared.order.Order.TheVariants.{Big}
+use Rattle.af_cli.specs.Lengths.{most_frames, most_seconds}
 use Rattle.af_cli.specs.Numbers.{◌>>=◌, form_in, gain_in, if_there, number_in, or_default, order_in, switch_in}
 
 -- `--id VALUE` or `--id=VALUE`
@@ -65,13 +66,13 @@ with_sound rules =
 -- the command of aplay
 unfoldable pub aplay_app : App
 aplay_app = with_rules (new_app (codes "aplay")) (
-    with_sound (rules_of FreeOption (codes "lead" ∷ codes "time" ∷ []) ++ rule_at (codes "preempt") Flag ∷ []))
+    with_sound (rules_of FreeOption (codes "lead" ∷ codes "time" ∷ []) ++ rules_of Flag (codes "preempt" ∷ codes "drain" ∷ [])))
 
 -- the command of arecord
 unfoldable pub arecord_app : App
 arecord_app = with_rules (new_app (codes "arecord")) (
-    with_sound (rule_at (codes "time") FreeOption ∷ rule_at (codes "frames") NeededOption ∷
-    rules_of FreeOption (codes "stop-peak" ∷ codes "stop-blocks" ∷ [])))
+    with_sound (rules_of FreeOption (
+    codes "time" ∷ codes "frames" ∷ codes "seconds" ∷ codes "stop-peak" ∷ codes "stop-blocks" ∷ [])))
 
 -- the command of aset
 unfoldable pub aset_app : App
@@ -165,14 +166,25 @@ play_job rows = do
     lead = lead;
     time = basics.time;
     preempt = is_set (codes "preempt") rows;
+    drain = is_set (codes "drain") rows;
   })
+
+-- how much is recorded: so many frames, or no frames yet and so many seconds; exactly one of the two is stated
+abbrev pub length_in : (frames seconds : Option Text) → Option (ℕ × Option ℕ)
+length_in (Some frames) None = option_map (λ n. (n, None)) (number_in 1 most_frames frames)
+length_in None (Some seconds) = option_map (λ n. (0, Some n)) (number_in 1 most_seconds seconds)
+length_in (Some frames) (Some seconds) = None
+length_in None None = None
+
+abbrev pub length_at : List Row → Option (ℕ × Option ℕ)
+length_at rows = length_in (first_of (codes "frames") rows) (first_of (codes "seconds") rows)
 
 -- the job of arecord
 abbrev pub record_job : List Row → Option RecordJob
 record_job rows = do
   (basics : CommonOptions) ← basics_of rows
   form ← form_at rows
-  frames ← stated_number_at (codes "frames") 1 2147483647 rows
+  (length : ℕ × Option ℕ) ← length_at rows
   stop_peak ← number_at (codes "stop-peak") 0 0 32768 rows
   stop_blocks ← number_at (codes "stop-blocks") 1 1 1000000 rows
   Some (record {
@@ -182,7 +194,8 @@ record_job rows = do
     gain = basics.gain;
     block = basics.block;
     time = basics.time;
-    frames = frames;
+    frames = length.0;
+    seconds = length.1;
     stop_peak = stop_peak;
     stop_blocks = stop_blocks;
   })

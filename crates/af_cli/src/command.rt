@@ -38,7 +38,7 @@ const BLOCK: Argument<'static> = Argument("block", ArgumentKind::FreeOption);
 
 const TIME: Argument<'static> = Argument("time", ArgumentKind::FreeOption);
 
-static APLAY: [Argument<'static>; 10] = [
+static APLAY: [Argument<'static>; 11] = [
     SERVER,
     ORDER,
     DEVICE,
@@ -49,9 +49,10 @@ static APLAY: [Argument<'static>; 10] = [
     Argument("lead", ArgumentKind::FreeOption),
     TIME,
     Argument("preempt", ArgumentKind::Flag),
+    Argument("drain", ArgumentKind::Flag),
 ];
 
-static ARECORD: [Argument<'static>; 11] = [
+static ARECORD: [Argument<'static>; 12] = [
     SERVER,
     ORDER,
     DEVICE,
@@ -60,7 +61,8 @@ static ARECORD: [Argument<'static>; 11] = [
     GAIN,
     BLOCK,
     TIME,
-    Argument("frames", ArgumentKind::NeededOption),
+    Argument("frames", ArgumentKind::FreeOption),
+    Argument("seconds", ArgumentKind::FreeOption),
     Argument("stop-peak", ArgumentKind::FreeOption),
     Argument("stop-blocks", ArgumentKind::FreeOption),
 ];

@@ -1,4 +1,7 @@
 // What a tool is asked to do.
+ghost use Rattle.std.specs.Prelude.{◌≡◌};
+ghost use Rattle.af_cli.specs.Lengths.{at_rate, most_frames, most_seconds};
+
 use af_sample::{Gain, SampleType};
 use af_sound::SoundForm;
 
@@ -20,9 +23,17 @@ pub struct PlayJob {
     pub time: Option<u32>,
     /// Whether what others play is replaced.
     pub preempt: bool,
+    /// Whether it ends only once the device has handed out the last frame.
+    pub drain: bool,
 }
 
-/// To record n frames.
+/// The most frames that are recorded.
+pub const MOST_FRAMES: u32 = 2147483647;
+
+/// The most seconds that are recorded: those of the most frames at 1000 frames a second.
+pub const MOST_SECONDS: u32 = 2147483;
+
+/// To record n frames, or n seconds.
 #[derive(Clone, Copy, Debug, PartialEq, Eq)]
 pub struct RecordJob {
     /// The number of the device, 0..7.
@@ -36,12 +47,33 @@ pub struct RecordJob {
     pub block: u32,
     /// The start, if it is stated, or else the device's time.
     pub time: Option<u32>,
-    /// How many frames, 1..2147483647.
+    /// How many frames, 1..2147483647, or 0 where seconds are stated.
     pub frames: u32,
+    /// How many seconds, 1..2147483, if they are stated in place of frames.
+    pub seconds: Option<u32>,
     /// A block whose peak is below this is quiet, 0..32768.
     pub stop_peak: u32,
     /// So many quiet blocks in a row end the recording, 1..1000000.
     pub stop_blocks: u32,
+}
+
+impl RecordJob {
+    /// The job on a device of this rate: its seconds are that many frames, at most 2147483647.
+    pub fn at_rate(&self, rate: u32) -> RecordJob
+        ensures { result ≡ at_rate rate self.now }
+    {
+        match self.seconds {
+            Some(seconds) => {
+                let frames = u64::from(seconds) * u64::from(rate);
+                RecordJob {
+                    frames: frames.min(u64::from(MOST_FRAMES)) as u32,
+                    seconds: None,
+                    ..*self
+                }
+            }
+            None => *self,
+        }
+    }
 }
 
 /// To set the controls of a device, and its hook. What is not stated stays.

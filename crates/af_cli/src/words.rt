@@ -3,11 +3,11 @@ ghost use Rattle.std.specs.Prelude.{◌≡◌, ◌≤◌, codes, length, option_
 ghost use Rattle.af_limits.specs.Limits.{longest_address};
 ghost use Rattle.clap.specs.Words.{first_of, found_of, rows_of};
 ghost use Rattle.af_cli.specs.Numbers.{gain_in, if_there, number_in, switch_in};
-ghost use Rattle.af_cli.specs.Words.{address_at, basics_of, block_at, device_at, form_at, gain_at, is_set, number_at, order_at, pass_job, play_job, record_job, set_job, stated_number_at, text_at, type_at};
+ghost use Rattle.af_cli.specs.Words.{address_at, basics_of, block_at, device_at, form_at, gain_at, is_set, length_at, number_at, order_at, pass_job, play_job, record_job, set_job, stated_number_at, text_at, type_at};
 ghost use Rattle.af_cli.specs.Ranges.{IsPaced};
 
 use crate::command::text_of;
-use crate::job::{PassJob, PlayJob, RecordJob, SetJob};
+use crate::job::{MOST_FRAMES, MOST_SECONDS, PassJob, PlayJob, RecordJob, SetJob};
 use crate::number::{form_in, gain_in, number_in, order_in, switch_in};
 use af_limits::{LONGEST_ADDRESS, MOST_DEVICES};
 use af_sample::{Gain, SampleType};
@@ -184,7 +184,19 @@ pub fn play_job(matches: &ArgMatches<'_>) -> Option<PlayJob>
         lead,
         time: basics.time,
         preempt: is_set(matches, "preempt"),
+        drain: is_set(matches, "drain"),
     })
+}
+
+// How much is recorded: so many frames, or so many seconds. Exactly one of the two is stated.
+fn length_at(matches: &ArgMatches<'_>) -> Option<(u32, Option<u32>)>
+    ensures { result ≡ length_at (rows_of (found_of matches.now)) }
+{
+    match (text_of(matches, "frames"), text_of(matches, "seconds")) {
+        (Some(text), None) => Some((number_in(1, MOST_FRAMES, text.as_bytes())?, None)),
+        (None, Some(text)) => Some((0, Some(number_in(1, MOST_SECONDS, text.as_bytes())?))),
+        _ => None,
+    }
 }
 
 /// The job of arecord.
@@ -195,7 +207,7 @@ pub fn record_job(matches: &ArgMatches<'_>) -> Option<RecordJob>
 {
     let basics = basics_of(matches)?;
     let form = form_at(matches)?;
-    let frames = stated_number_at(matches, "frames", 1, 2147483647)?;
+    let (frames, seconds) = length_at(matches)?;
     let stop_peak = number_at(matches, "stop-peak", 0, 0, 32768)?;
     let stop_blocks = number_at(matches, "stop-blocks", 1, 1, 1000000)?;
     Some(RecordJob {
@@ -206,6 +218,7 @@ pub fn record_job(matches: &ArgMatches<'_>) -> Option<RecordJob>
         block: basics.block,
         time: basics.time,
         frames,
+        seconds,
         stop_peak,
         stop_blocks,
     })

@@ -3,5 +3,6 @@ mod answer;
 mod checks;
 mod connection;
 mod conversation;
+mod environment;
 mod jobs;
 mod tools;

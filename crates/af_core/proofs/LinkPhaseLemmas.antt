@@ -21,9 +21,9 @@ use Rattle.af_model.proofs.BoolTestLemmas.{both-true}
 use Rattle.af_model.proofs.ListLemmas.{get-set_other}
 use Rattle.af_model.proofs.SlotLemmas.{some_link, slot_link, links_of-set, length-links_of}
 use Rattle.af_state.specs.Deferrals.{KeptDeferral, has_waiting}
-use Rattle.af_state.specs.SharedState.{StandsForLink, KeptSharedState, StandsForSharedState}
+use Rattle.af_state.specs.SharedState.{StandsForLink, KeptSharedState, StandsForSharedState, StepsLink}
 use Rattle.af_state.proofs.DeferralLemmas.{same_waiting}
-use Rattle.af_core.specs.Stands.{AreSettled, StandsForSlot, IsSettled, IsSettledSlot, Kept, StandsFor, kept_of, writes_left}
+use Rattle.af_core.specs.Stands.{AdvancesOn, AreSettled, StandsForSlot, IsSettled, IsSettledSlot, Kept, StandsFor, kept_of, writes_left}
 use Rattle.af_core.specs.Simulates.{Simulates}
 use Rattle.af_core.proofs.SimulationLemmas.{simulates_more, simulates_nothing, simulates_one, simulates_then, simulates_within}
 
@@ -53,17 +53,18 @@ reads a b k env env' l l' got wants fits told step =
     simulates_one (Read k got) (StandsForLink env l) (StandsForLink env' l') (read_phase k) accept (λ p. after_read k got p) refl told step
     (λ p s log. ap (λ b. cond b (parse_one (read_by k p) (Read k got ∷ log)) (accept p (Read k got ∷ log))) (reads_same env k l p s ∙ wants) ∙ rw (eq-refl k, fits))
 
-pub given_fits : (n : ℕ) (xs : List ℕ) → 1 ≤ n → n ≤ length xs → length xs ≡ longest_read → is_read (Given (take n xs)) ≡ true
-given_fits n xs some within room = let e : length (take n xs) ≡ n = length-take-le n xs within in rw e (grind arith)
+pub given_fits : (n : ℕ) (xs : List ℕ) → 1 ≤ n → n ≤ longest_read → n ≤ length xs → is_read (Given (take n xs)) ≡ true
+given_fits n xs some few within = let e : length (take n xs) ≡ n = length-take-le n xs within in rw e (grind arith)
 
 -- bytes that come are taken in, and then what they complete is taken off
-pub absorbed : (k : ℕ) (env env' : KeptSharedState) (l l1 l' : LinkState) (bytes : List ℕ) → wants_read (has_waiting env.waits k) l ≡ true → l1 ≡ record l { rest = l.rest ++ bytes } →
-    ((a : EnvironmentState) → StandsForSharedState env a → StandsForLink env' l' (advance k (open_link a l1))) → (a : EnvironmentState) → StandsForSharedState env a → StandsForLink env' l' (absorb k bytes (open_link a l))
-absorbed k env env' l l1 l' bytes wants e step a h =
+pub absorbed : (k : ℕ) (env env1 env' : KeptSharedState) (l l1 l' : LinkState) (bytes : List ℕ) → wants_read (has_waiting env.waits k) l ≡ true → AdvancesOn k env (record l { rest = l.rest ++ bytes }) env1 l1 →
+    StepsLink (advance k) env1 l1 env' l' → StepsLink (absorb k bytes) env l env' l'
+absorbed k env env1 env' l l1 l' bytes wants on step a h =
     let waits = has_waiting env.waits k in
     let open_to : is_none l.closing ≡ true = (both-true (is_none l.closing) (nat_le (length l.pending) perform_limit) (both-true (not waits) (is_none l.closing && nat_le (length l.pending) perform_limit) (both-true l.is_ready (takes_more waits l) wants).1).1).0 in
+    let came = on a h in
     subst (λ b. StandsForLink env' l' (cond b (advance k (open_link a (record l { rest = l.rest ++ bytes }))) (open_link a l))) (sym open_to)
-    (subst (λ m. StandsForLink env' l' (advance k (open_link a m))) e (step a h))
+    (subst (λ p. StandsForLink env' l' p) came.2 (step came.0 came.1))
 
 -- Writes
 

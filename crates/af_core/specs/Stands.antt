@@ -45,6 +45,12 @@ AdvancesTo false (Some p) e l = ⊥
 abbrev pub Advances : Bool → (OpenLink → Option OpenLink) → KeptSharedState → LinkState → KeptSharedState → LinkState → Type 0
 Advances taken f e l e' l' = (a : EnvironmentState) → StandsForSharedState e a → AdvancesTo taken (f (open_link a l)) e' l'
 
+-- Some of a link's input was taken off and answered, or none: in any environment, to advance the link leads where it did before.
+abbrev pub AdvancesOn : ℕ → KeptSharedState → LinkState → KeptSharedState → LinkState → Type 0
+AdvancesOn k e l e' l' =
+    (a : EnvironmentState) → StandsForSharedState e a →
+    (now : EnvironmentState) × StandsForSharedState e' now × (advance k (open_link now l') ≡ advance k (open_link a l))
+
 -- A link is within its bounds. One that takes more has less than a whole frame unread. One with a deferred request has room for
 -- its reply.
 pub record IsSettled (waits : Bool) (l : LinkState) : Type 0 where

@@ -1,6 +1,6 @@
 // Advancing a link: a complete setup or frame at the front of its input is taken off and answered.
-ghost use Rattle.std.specs.Prelude.{◌≡◌, ◌≤◌, ◌<◌, ◌++◌, length, map, IsTrue, IsFalse, true};
-ghost use Rattle.af_limits.specs.Limits.{most_links, most_devices, longest_capture, longest_frame, longest_message, perform_limit, event_limit};
+ghost use Rattle.std.specs.Prelude.{◌≡◌, ◌+◌, ◌≤◌, ◌<◌, [], ◌++◌, length, map, IfSome, IsTrue, IsFalse, true};
+ghost use Rattle.af_limits.specs.Limits.{most_links, most_devices, most_unread, longest_capture, longest_frame, longest_message, perform_limit, event_limit};
 ghost use Rattle.af_world.specs.declared.happening.Why.TheVariants as why;
 ghost use Rattle.af_wire.specs.declared.front.Front.TheVariants.{Frame};
 ghost use Rattle.af_wire.specs.Front.{setup_front, frame_front};
@@ -13,7 +13,7 @@ ghost use Rattle.af_model.specs.Advance.{after_setup, after_frame, advance_step,
 ghost use Rattle.af_state.specs.Kept.{kept_info, IsBounded};
 ghost use Rattle.af_state.specs.Deferrals.{has_waiting, OnlyQueues};
 ghost use Rattle.af_state.specs.SharedState.{MayAsk};
-ghost use Rattle.af_core.specs.Stands.{Advances, LinkAdvanced};
+ghost use Rattle.af_core.specs.Stands.{Advances, AdvancesOn, LinkAdvanced};
 
 use af_perform::perform;
 use af_request::{Devices, Reply, opcode, read_request, write_reply};
@@ -86,6 +86,28 @@ fn setup_once(shared: &SharedState, link: &mut ServedLink, work: &mut Work) -> b
     }
 }
 
+// Performs a frame that the link's input began with, and has no more.
+fn perform_frame(
+    number: u8,
+    shared: &mut SharedState,
+    link: &mut ServedLink,
+    frame: &[u8],
+    work: &mut Work,
+)
+    requires asks { MayAsk number shared.old link.old }
+    requires few { length frame.now ≤ longest_frame }
+    ensures step { Advances true (after_frame number (Frame (length frame.now)))
+        shared.old (record link.old { rest = frame.now ++ link.old.rest }) shared.new link.new }
+    ensures no_more { length link.new.rest ≤ length link.old.rest }
+    ensures only_queues { OnlyQueues number shared.old.waits shared.new.waits }
+    ensures small_pending { IsTrue (has_waiting shared.new.waits number) → length link.new.pending ≤ perform_limit }
+{
+    match read_request(link.order(), frame) {
+        Some(request) => perform(number, &request, shared, link, work),
+        None => link.stop(Why::Malformed),
+    }
+}
+
 // Takes the first frame off and performs it. `frame` receives a copy of it.
 fn perform_front(
     number: u8,
@@ -104,10 +126,7 @@ fn perform_front(
     ensures small_pending { IsTrue (has_waiting shared.new.waits number) → length link.new.pending ≤ perform_limit }
 {
     link.take_front(frame);
-    match read_request(link.order(), frame) {
-        Some(request) => perform(number, &request, shared, link, work),
-        None => link.stop(Why::Malformed),
-    }
+    perform_frame(number, shared, link, frame, work)
 }
 
 // Takes a frame off, if one is complete.
@@ -192,5 +211,47 @@ pub fn advance(number: u8, shared: &mut SharedState, link: &mut ServedLink, scra
 {
     if link.has_input() {
         advance_all(number, shared, link, scratch);
+    }
+}
+
+// The length of the frame that these bytes begin with, if nothing is unread before them and the frame is whole.
+fn frame_in_place(link: &ServedLink, bytes: &[u8]) -> Option<usize>
+    ensures { IfSome result (λ n. IsTrue link.now.is_set_up × (link.now.rest ≡ [])
+        × (frame_front link.now.order bytes.now ≡ Frame n)) }
+{
+    if !link.is_set_up() || link.has_input() {
+        return None;
+    }
+    match frame_at(link.order(), bytes) {
+        Front::Frame(n) => Some(n),
+        Front::NeedMore | Front::Malformed => None,
+    }
+}
+
+/// Takes in what was read. Mostly that is one frame, or begins with one, and nothing is unread before it. Then the frame is
+/// performed where it was read. What comes after it is taken in first, since a malformed frame ends with nothing unread.
+pub fn receive(
+    number: u8,
+    shared: &mut SharedState,
+    link: &mut ServedLink,
+    bytes: &[u8],
+    work: &mut Work,
+)
+    requires number { number < most_links }
+    requires takes { IsTrue (takes_more (has_waiting shared.old.waits number) link.old) }
+    requires room { length link.old.rest + length bytes.now ≤ most_unread }
+    ensures on { AdvancesOn number shared.old (record link.old { rest = link.old.rest ++ bytes.now }) shared.new link.new }
+    ensures only_queues { OnlyQueues number shared.old.waits shared.new.waits }
+    ensures small_pending { IsTrue (has_waiting shared.new.waits number) → length link.new.pending ≤ perform_limit }
+{
+    match frame_in_place(link, bytes) {
+        Some(n) => {
+            let (frame, after) = bytes.split_at(n);
+            if !after.is_empty() {
+                link.take_in(after);
+            }
+            perform_frame(number, shared, link, frame, work);
+        }
+        None => link.take_in(bytes),
     }
 }

@@ -1,20 +1,31 @@
 // A link is served: a read, writes, and a close.
 ghost use Rattle.std.specs.Prelude.{◌≡◌, ◌<◌, ◌≤◌, IsTrue, if◌then◌else◌, length, [], ◌∷◌};
 ghost use Rattle.std.specs.declared.option.Option.TheVariants.{None, Some};
-ghost use Rattle.af_limits.specs.Limits.{output_room};
+ghost use Rattle.af_limits.specs.Limits.{output_room, longest_capture, longest_read};
 ghost use Rattle.af_io.specs.Observed.{Appended};
-ghost use Rattle.af_world.specs.World.{took_of, TookFits};
-ghost use Rattle.af_world.specs.declared.happening.Happening.TheVariants.{Wrote};
+ghost use Rattle.af_world.specs.World.{got_of, took_of, LinkGotFits, TookFits};
+ghost use Rattle.af_world.specs.declared.happening.Happening.TheVariants.{Read, Wrote};
 ghost use Rattle.af_model.specs.Turn.{accept, wants_write, read_phase, write_phase, close_phase, serve_link};
 ghost use Rattle.af_state.specs.SharedState.{StandsForLink, KeptSharedState};
 ghost use Rattle.af_core.specs.Simulates.{Simulates};
 ghost use Rattle.af_core.specs.Stands.{StandsForSlot, IsInTurn, LinkServed, writes_left};
 
-use crate::advance::advance;
+use crate::advance::{advance, receive};
 use crate::events::drop_link;
 use af_limits::LONGEST_READ;
 use af_state::{Scratch, ServedLink, SharedState};
 use af_world::{LinkGot, LinkTook, Why, World};
+
+// One read, into the first bytes of the room for input.
+fn read_input<W: World>(number: u8, input: &mut [u8], world: &mut W) -> LinkGot
+    requires size { length input.old ≡ longest_capture }
+    ensures log { Appended (W.log world.old) (Read number (got_of result input.new) ∷ []) (W.log world.new) }
+    ensures bound { LinkGotFits result longest_read }
+    ensures leads { W.leads_to world.old world.new }
+{
+    let (room, _) = input.split_at_mut(LONGEST_READ);
+    world.read(number, room)
+}
 
 // One read, if the link is to be read.
 fn read_link<W: World>(
@@ -33,10 +44,9 @@ fn read_link<W: World>(
     if !link.wants_read(number, &shared.waits) {
         return;
     }
-    let (input, _) = scratch.input.split_at_mut(LONGEST_READ);
-    match world.read(number, input) {
+    match read_input(number, &mut scratch.input, world) {
         LinkGot::Bytes(n) => {
-            link.take_in(&input[..n]);
+            receive(number, shared, link, &scratch.input[..n], &mut scratch.work);
             advance(number, shared, link, scratch)
         }
         LinkGot::NotYet => link.wait_for_bytes(),

@@ -1,1 +1,2 @@
 pub mod AnswerEnds
+pub mod Pages

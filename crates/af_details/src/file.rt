@@ -90,6 +90,43 @@ fn wave_coding<W: Write>(tag: u32, bits: u32, f: &mut Formatter<W>) -> fmt::Resu
     }
 }
 
+/// A sound file that was taken for raw samples.
+#[derive(Clone, Copy)]
+pub struct TakenForSamples<'a> {
+    /// Its kind, in words.
+    pub kind: &'a str,
+    /// Its form, if it is one that can be played.
+    pub form: Option<SoundForm>,
+}
+
+/// The sound file that samples begin as, if they do.
+pub fn taken_for_samples<'a>(first: &[u8]) -> Option<TakenForSamples<'a>> {
+    let (kind, form) = match first {
+        [
+            b'R',
+            b'I',
+            b'F',
+            b'F',
+            _,
+            _,
+            _,
+            _,
+            b'W',
+            b'A',
+            b'V',
+            b'E',
+            ..
+        ] => { ("WAVE", Some(SoundForm::Wave)) }
+        [b'.', b's', b'n', b'd', ..] => (".au", Some(SoundForm::Au)),
+        [b'I', b'D', b'3', ..] => ("MP3", None),
+        [b'f', b'L', b'a', b'C', ..] => ("FLAC", None),
+        [b'O', b'g', b'g', b'S', ..] => ("Ogg, such as Vorbis or Opus", None),
+        [b'F', b'O', b'R', b'M', ..] => ("AIFF", None),
+        _ => return None,
+    };
+    Some(TakenForSamples { kind, form })
+}
+
 /// The ending of a file's name, by its form.
 pub fn ending<'a>(form: SoundForm) -> &'a str {
     match form {

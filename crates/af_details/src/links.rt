@@ -4,6 +4,7 @@ use crate::dial::Seen;
 use crate::talk::Talk;
 use af_io::Reason;
 use af_request::DeviceInfo;
+use af_shown::Shown;
 
 /// The talk in which something was asked that was not answered, or else the last one.
 pub fn waiting(seen: &Seen) -> Option<&Talk> {
@@ -16,8 +17,8 @@ pub fn waiting(seen: &Seen) -> Option<&Talk> {
 
 /// Tells why a server was not reached.
 pub fn tell_dial(rt: &impl Eprint, seen: &Seen) {
-    let address = seen.address.as_str();
-    if !address.contains(":") {
+    let address = Shown::new(seen.address.as_str().as_bytes());
+    if !seen.address.as_str().contains(":") {
         let _ = eprintln!(rt;
             "af: {address} has no port; an address is HOST:PORT, such as 127.0.0.1:1701"
         );
@@ -31,7 +32,7 @@ pub fn tell_link(rt: &impl Eprint, seen: &Seen) {
     let Some(talk) = waiting(seen) else {
         return;
     };
-    let address = talk.address.as_str();
+    let address = talk.shown_address();
     match talk.reason {
         Some(reason) => {
             let _ = eprintln!(rt; "af: {address}: {reason}");
@@ -49,7 +50,7 @@ pub fn tell_link(rt: &impl Eprint, seen: &Seen) {
 
 /// Tells what a server was asked last.
 pub fn tell_asked(rt: &impl Eprint, talk: &Talk) {
-    let address = talk.address.as_str();
+    let address = talk.shown_address();
     if let Some(asked) = talk.asked {
         let _ = eprintln!(rt; "af: {address} was asked {asked}");
     }
@@ -84,21 +85,21 @@ pub fn tell_bad_reply(rt: &impl Eprint, seen: &Seen) {
     let Some(talk) = waiting(seen) else {
         return;
     };
-    let address = talk.address.as_str();
+    let address = talk.shown_address();
     let _ = eprintln!(rt; "af: {address} does not answer as an AudioFile server does: is it one?");
     tell_asked(rt, talk);
 }
 
 /// Tells which devices a server has, if it has not the one that was asked for.
 pub fn tell_no_device(rt: &impl Eprint, talk: &Talk, device: u8) {
-    let address = talk.address.as_str();
+    let address = talk.shown_address();
     let _ = eprintln!(rt; "af: {address} has no device {device}; its devices are:");
     tell_devices(rt, talk);
 }
 
 /// Tells which devices of a server have a telephone line, if the one that was asked for has none.
 pub fn tell_no_line(rt: &impl Eprint, talk: &Talk, device: u8) {
-    let address = talk.address.as_str();
+    let address = talk.shown_address();
     let _ = eprintln!(rt;
         "af: device {device} of {address} has no telephone line; the devices there are:"
     );
@@ -117,6 +118,11 @@ fn tell_device(rt: &impl Eprint, number: usize, info: &DeviceInfo) {
     let channels = channels_text(info.channels);
     let line = if info.line { ", a telephone line" } else { "" };
     let _ = eprintln!(rt; "af:   device {number}: {ty}, {rate} frames a second, {channels}{line}");
+}
+
+/// Tells why a write to standard output has failed, if one did.
+pub fn tell_output(rt: &impl Eprint, reason: Option<Reason>) {
+    tell_stream(rt, "standard output", reason);
 }
 
 /// Tells why a read of standard input, or a write to standard output, has failed.

@@ -1,7 +1,7 @@
 // Frames that were lost.
 ghost use Rattle.std.specs.Prelude.{◌≡◌, ◌≤◌, ◌*◌, ◌^◌};
 
-use crate::shown::Counted;
+use crate::counted::Counted;
 use af_time::DevTime;
 use std::fmt;
 use std::fmt::{Formatter, Write};

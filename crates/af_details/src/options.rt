@@ -1,5 +1,9 @@
 // The tools and their options, as they are shown to a person.
+ghost use Rattle.std.specs.Prelude.{◌≡◌};
+ghost use Rattle.af_details.specs.Pages.{command_named};
+
 use crate::values::Values;
+use af_cli::{MOST_FRAMES, MOST_SECONDS};
 use std::fmt;
 use std::fmt::{Formatter, Write};
 
@@ -55,7 +59,7 @@ const BLOCK: OptionRow<'static> = OptionRow {
     what: "frames that one request plays",
 };
 
-static APLAY: [OptionRow<'static>; 9] = [
+static APLAY: [OptionRow<'static>; 10] = [
     DEVICE,
     OptionRow {
         name: "file",
@@ -91,17 +95,34 @@ static APLAY: [OptionRow<'static>; 9] = [
         default: "",
         what: "replaces what was played before for the same times",
     },
+    OptionRow {
+        name: "drain",
+        values: Values::None,
+        needed: false,
+        default: "",
+        what: "ends only once the device has handed out the last frame",
+    },
     ORDER,
 ];
 
-static ARECORD: [OptionRow<'static>; 10] = [
-    OptionRow {
-        name: "frames",
-        values: Values::Number(1, 2147483647),
-        needed: true,
-        default: "",
-        what: "frames that are recorded at most",
-    },
+// How much arecord records: one of these two.
+const FRAMES: OptionRow<'static> = OptionRow {
+    name: "frames",
+    values: Values::Number(1, MOST_FRAMES),
+    needed: false,
+    default: "",
+    what: "frames that are recorded at most",
+};
+
+const SECONDS: OptionRow<'static> = OptionRow {
+    name: "seconds",
+    values: Values::Number(1, MOST_SECONDS),
+    needed: false,
+    default: "",
+    what: "seconds that are recorded at most",
+};
+
+static ARECORD: [OptionRow<'static>; 9] = [
     DEVICE,
     OptionRow {
         name: "file",
@@ -291,15 +312,23 @@ pub enum Command {
 
 impl Command {
     /// The tool of a name.
-    pub fn named(name: &str) -> Option<Command> {
-        match name {
-            "aplay" => Some(Command::Play),
-            "arecord" => Some(Command::Record),
-            "aset" => Some(Command::Set),
-            "apass" => Some(Command::Pass),
-            "answer" => Some(Command::Answer),
-            "list" => Some(Command::List),
-            _ => None,
+    pub fn named(name: &str) -> Option<Command>
+        ensures { result ≡ command_named name.now }
+    {
+        if name == "aplay" {
+            Some(Command::Play)
+        } else if name == "arecord" {
+            Some(Command::Record)
+        } else if name == "aset" {
+            Some(Command::Set)
+        } else if name == "apass" {
+            Some(Command::Pass)
+        } else if name == "answer" {
+            Some(Command::Answer)
+        } else if name == "list" {
+            Some(Command::List)
+        } else {
+            None
         }
     }
 
@@ -335,7 +364,15 @@ impl Command {
         }
     }
 
-    /// Its options: first those that have to be there.
+    /// Two options of which exactly one has to be there, if it has such.
+    pub fn choice<'a>(self) -> Option<(OptionRow<'a>, OptionRow<'a>)> {
+        match self {
+            Command::Record => Some((FRAMES, SECONDS)),
+            _ => None,
+        }
+    }
+
+    /// Its other options: first those that have to be there.
     pub fn options<'a>(self) -> &'a [OptionRow<'a>] {
         match self {
             Command::Play => APLAY.as_slice(),
@@ -372,6 +409,9 @@ impl fmt::Display for Command {
         write!(f, "af {name}")?;
         for place in self.places() {
             write!(f, " {place}")?;
+        }
+        if let Some((one, other)) = self.choice() {
+            write!(f, " ({one} | {other})")?;
         }
         for row in self.options() {
             if row.needed {

@@ -1,8 +1,8 @@
 // Details of a play: a file that does not fit, and frames that came too late.
 use crate::asked::channels_text;
-use crate::file::{Unplayable, ending};
+use crate::counted::Counted;
+use crate::file::{Unplayable, ending, taken_for_samples};
 use crate::lost::{tell_greater, tell_late};
-use crate::shown::Counted;
 use crate::source::WatchedSource;
 use crate::talk::Talk;
 use af_cli::PlayJob;
@@ -50,9 +50,35 @@ pub fn tell_sound<S: Source + Drop>(
     tell_remedy(rt, job, form, talk);
 }
 
+/// Tells that a sound file was taken for raw samples, and which words play it.
+pub fn tell_samples<S: Source + Drop>(
+    rt: &impl Eprint,
+    job: &PlayJob,
+    talk: &Talk,
+    source: &WatchedSource<S>,
+) {
+    let Some(file) = taken_for_samples(source.first()) else {
+        return;
+    };
+    let kind = file.kind;
+    let _ = eprintln!(rt; "af: standard input is {kind}, and was taken for raw samples");
+    match file.form {
+        Some(SoundForm::Wave) => {
+            let _ = eprintln!(rt; "af: --file=wave plays it");
+        }
+        Some(SoundForm::Au) => {
+            let _ = eprintln!(rt; "af: --file=au plays it");
+        }
+        None => {
+            tell_remedy(rt, job, SoundForm::Wave, talk);
+            let _ = eprintln!(rt; "af: --file=wave plays that file");
+        }
+    }
+}
+
 fn tell_rates(rt: &impl Eprint, job: &PlayJob, talk: &Talk, from: u32, to: u32) {
     let device = job.device;
-    let address = talk.address.as_str();
+    let address = talk.shown_address();
     let _ = eprintln!(rt;
         "af: the file has {from} frames a second, and device {device} of {address} has {to}"
     );
@@ -60,7 +86,7 @@ fn tell_rates(rt: &impl Eprint, job: &PlayJob, talk: &Talk, from: u32, to: u32) 
 
 fn tell_channels(rt: &impl Eprint, job: &PlayJob, talk: &Talk, from: u8, to: u8) {
     let device = job.device;
-    let address = talk.address.as_str();
+    let address = talk.shown_address();
     let from = channels_text(from);
     let to = channels_text(to);
     let _ = eprintln!(rt; "af: the file has {from}, and device {device} of {address} has {to}");

@@ -1,7 +1,7 @@
 // Details of a relay.
+use crate::counted::Counted;
 use crate::links::tell_no_device;
 use crate::lost::{tell_greater, tell_late};
-use crate::shown::Counted;
 use crate::talk::Talk;
 use af_cli::PassJob;
 use af_toolkit::ToolEnd;
@@ -41,7 +41,7 @@ fn tell_both(
     let devices = [job.from_device, job.to_device];
     for end in 0..2 {
         let device = devices[end];
-        let address = talks[end].address.as_str();
+        let address = talks[end].shown_address();
         let count = Counted(counts[end], word);
         let _ = eprintln!(rt; "af: device {device} of {address} has {count}{per}");
     }

@@ -7,6 +7,7 @@ use af_io::Reason;
 use af_limits::LONGEST_ADDRESS;
 use af_request::{Devices, Reply, Request, read_reply, read_request};
 use af_sample::SampleType;
+use af_shown::Shown;
 use af_time::DevTime;
 use af_wire::{Order, SetupFront, setup_of};
 use arrayvec::ArrayString;
@@ -64,6 +65,11 @@ impl Talk {
             context: None,
             incoming: Incoming::new(),
         }
+    }
+
+    /// The address of the server, as it is shown.
+    pub fn shown_address(&self) -> Shown<'_> {
+        Shown::new(self.address.as_str().as_bytes())
     }
 
     /// The client sends a setup, or a whole request.

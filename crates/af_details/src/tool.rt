@@ -1,13 +1,13 @@
 // Details of the end of a tool.
 use crate::dial::Seen;
 use crate::links::{
-    tell_bad_reply, tell_dial, tell_link, tell_no_device, tell_refusal, tell_stream,
+    tell_bad_reply, tell_dial, tell_link, tell_no_device, tell_output, tell_refusal, tell_stream,
 };
-use crate::play::{tell_played, tell_sound};
+use crate::play::{tell_played, tell_samples, tell_sound};
 use crate::relay::{tell_pair, tell_passed};
 use crate::source::WatchedSource;
 use crate::talk::Talk;
-use crate::usage::tell_usage;
+use crate::usage::{states_option, tell_usage};
 use af_cli::{Call, RecordJob, Task, call_of};
 use af_io::{Args, Reason, Source};
 use af_toolkit::ToolEnd;
@@ -38,6 +38,11 @@ pub fn tell_tool<S: Source + Drop>(
         Ok(Call::One(call)) => {
             if let Some(talk) = &seen.first {
                 tell_task(rt, &call.task, end, talk, source);
+                if let Task::Play(job) = &call.task
+                    && !states_option(words, "file")
+                {
+                    tell_samples(rt, job, talk, source);
+                }
             }
         }
         Ok(Call::Relay(call)) => {
@@ -61,7 +66,7 @@ pub fn tell_end(rt: &impl Eprint, end: ToolEnd, seen: &Seen, streams: Streams) {
             first: _,
         } => tell_bad_reply(rt, seen),
         ToolEnd::ReadFault => tell_stream(rt, "standard input", streams.input),
-        ToolEnd::SinkFault => tell_stream(rt, "standard output", streams.output),
+        ToolEnd::SinkFault => tell_output(rt, streams.output),
         ToolEnd::TooLong => {
             let _ = eprintln!(rt; "af: standard input gave more than 2^40 bytes");
         }

@@ -1,10 +1,10 @@
 // Which argument is wrong, and what it may be.
-use crate::help::{tell_manual, tell_options, tell_tools, tell_version};
 use crate::options::{Command, OptionRow};
-use crate::shown::Shown;
+use crate::page::{Page, tell_manual, tell_page};
 use af_cli::{Argument, ArgumentKind, matches_for, number_at, text_of};
 use af_io::Args;
 use af_limits::LONGEST_ADDRESS;
+use af_shown::Shown;
 use clap::error::ErrorKind;
 use clap::{ArgMatches, Error};
 use std::alloc::{AllocError, Global};
@@ -12,24 +12,40 @@ use std::alloc::{AllocError, Global};
 /// Tells why words are none of a tool's, or the help that they ask for.
 pub fn tell_usage(rt: &impl Eprint, alloc: Global, words: &Args) {
     let Some(name) = words.word(0) else {
-        tell_tools(rt);
-        return tell_manual(rt);
+        return tell_page(rt, alloc, Page::Tools);
     };
     if has_word(words, "--version") {
-        return tell_version(rt);
+        return tell_page(rt, alloc, Page::Version);
     }
     match Command::named(name) {
-        Some(command) if asks_help(words) => tell_options(rt, command),
-        Some(command) => tell_mistake(rt, alloc, command, words),
+        Some(command) if asks_help(words) => tell_page(rt, alloc, Page::Tool(command)),
+        Some(command) => {
+            tell_mistake(rt, alloc, command, words);
+            tell_manual(rt);
+        }
         None => {
             if !asks_help(words) {
-                let name = Shown(name);
-                let _ = eprintln!(rt; "af: there is no tool '{name}'");
+                tell_no_tool(rt, name, words);
             }
-            tell_tools(rt);
+            tell_page(rt, alloc, Page::Tools);
         }
     }
-    tell_manual(rt);
+}
+
+// Tells why words name no tool, and no page of help.
+fn tell_no_tool(rt: &impl Eprint, name: &str, words: &Args) {
+    let (wrong, excess) = match name {
+        "help" => (words.word(1), words.word(2)),
+        "version" => (None, words.word(1)),
+        _ => (Some(name), None),
+    };
+    if let Some(word) = excess {
+        let word = Shown::new(word.as_bytes());
+        let _ = eprintln!(rt; "af: '{word}' is a word too many");
+    } else if let Some(tool) = wrong {
+        let tool = Shown::new(tool.as_bytes());
+        let _ = eprintln!(rt; "af: there is no tool '{tool}'");
+    }
 }
 
 /// Tells that a word is no text.
@@ -42,6 +58,19 @@ fn has_word(words: &Args, wanted: &str) -> bool {
     words.as_slice().iter().any(|word| word.as_str() == wanted)
 }
 
+/// Whether a word states this option.
+pub fn states_option(words: &Args, option: &str) -> bool {
+    for word in words.as_slice() {
+        if let Some(name) = word.as_str().strip_prefix("--")
+            && let Some(rest) = name.strip_prefix(option)
+            && (rest.is_empty() || rest.starts_with("="))
+        {
+            return true;
+        }
+    }
+    false
+}
+
 fn asks_help(words: &Args) -> bool {
     has_word(words, "--help") || has_word(words, "-h")
 }
@@ -50,8 +79,15 @@ fn asks_help(words: &Args) -> bool {
 fn tell_mistake(rt: &impl Eprint, alloc: Global, command: Command, words: &Args) {
     if let Ok(table) = command_words(alloc, command) {
         match matches_for(alloc, command.name(), table.as_slice(), words.as_slice()) {
-            Ok(matches) => tell_values(rt, command, &matches),
-            Err(e) => tell_error(rt, alloc, command, &e),
+            Ok(matches) => {
+                tell_values(rt, command, &matches);
+                tell_choice(rt, command, words);
+            }
+            Err(e) if e.kind() == ErrorKind::MissingRequiredArgument => {
+                tell_missing(rt, alloc, command, &e);
+                tell_choice(rt, command, words);
+            }
+            Err(e) => tell_error(rt, alloc, &e),
         }
     }
     let _ = eprintln!(rt; "af: usage: {command}");
@@ -62,6 +98,10 @@ fn command_words<'a>(alloc: Global, command: Command) -> Result<Vec<Argument<'a>
     let mut table = Vec::new(alloc);
     for place in command.places() {
         table.push(Argument(*place, ArgumentKind::Place))?;
+    }
+    if let Some((one, other)) = command.choice() {
+        table.push(Argument(one.name, kind_of(&one)))?;
+        table.push(Argument(other.name, kind_of(&other)))?;
     }
     for row in command.options() {
         table.push(Argument(row.name, kind_of(row)))?;
@@ -80,16 +120,13 @@ fn kind_of(row: &OptionRow<'_>) -> ArgumentKind {
 }
 
 // Tells what is wrong with the arguments before their values are looked at.
-fn tell_error(rt: &impl Eprint, alloc: Global, command: Command, error: &Error) {
+fn tell_error(rt: &impl Eprint, alloc: Global, error: &Error) {
     let Ok(text) = error.to_string(alloc) else {
         return;
     };
-    if error.kind() == ErrorKind::MissingRequiredArgument {
-        return tell_missing(rt, command, text.as_str());
-    }
     if let Some(line) = text.as_str().lines().next() {
         let line = line.strip_prefix("error: ").unwrap_or(line);
-        let shown = Shown(line);
+        let shown = Shown::new(line.as_bytes());
         let _ = eprintln!(rt; "af: {shown}");
         if has_negative(line) {
             let _ = eprintln!(rt;
@@ -108,7 +145,11 @@ fn has_negative(line: &str) -> bool {
 }
 
 // Tells which arguments are missing.
-fn tell_missing(rt: &impl Eprint, command: Command, text: &str) {
+fn tell_missing(rt: &impl Eprint, alloc: Global, command: Command, error: &Error) {
+    let Ok(text) = error.to_string(alloc) else {
+        return;
+    };
+    let text = text.as_str();
     for word in command.places() {
         if names(text, "<", word) {
             let _ = eprintln!(rt;
@@ -121,6 +162,27 @@ fn tell_missing(rt: &impl Eprint, command: Command, text: &str) {
             let what = row.what;
             let _ = eprintln!(rt; "af: {row} is missing: {what}");
         }
+    }
+}
+
+// Tells where words state neither or both of two options, of which exactly one has to be there.
+fn tell_choice(rt: &impl Eprint, command: Command, words: &Args) {
+    let Some((one, other)) = command.choice() else {
+        return;
+    };
+    match (
+        states_option(words, one.name),
+        states_option(words, other.name),
+    ) {
+        (false, false) => {
+            let _ = eprintln!(rt; "af: {one} or {other} is missing: how much is recorded at most");
+        }
+        (true, true) => {
+            let name = one.name;
+            let second = other.name;
+            let _ = eprintln!(rt; "af: --{name} and --{second} cannot both be stated");
+        }
+        _ => {}
     }
 }
 
@@ -144,20 +206,29 @@ fn tell_values(rt: &impl Eprint, command: Command, matches: &ArgMatches<'_>) {
             tell_address(rt, place, address);
         }
     }
+    if let Some((one, other)) = command.choice() {
+        tell_value(rt, matches, &one);
+        tell_value(rt, matches, &other);
+    }
     for row in command.options() {
-        if let Some(value) = text_of(matches, row.name)
-            && !row.values.has(value)
-        {
-            let name = row.name;
-            let takes = row.values.wanted();
-            let value = Shown(value);
-            let _ = eprintln!(rt; "af: '{value}' is no value of --{name}, which takes {takes}");
-        }
+        tell_value(rt, matches, row);
     }
     if command == Command::Play && is_file(matches) && text_of(matches, "type").is_some() {
         let _ = eprintln!(rt;
             "af: --type does not go with a sound file, which says itself of which type its samples are"
         );
+    }
+}
+
+// Tells of the value of an option that is out of its range.
+fn tell_value(rt: &impl Eprint, matches: &ArgMatches<'_>, row: &OptionRow<'_>) {
+    if let Some(value) = text_of(matches, row.name)
+        && !row.values.has(value)
+    {
+        let name = row.name;
+        let takes = row.values.wanted();
+        let value = Shown::new(value.as_bytes());
+        let _ = eprintln!(rt; "af: '{value}' is no value of --{name}, which takes {takes}");
     }
 }
 

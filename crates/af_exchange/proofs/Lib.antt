@@ -5,3 +5,4 @@ pub mod HookLemmas
 pub mod AccountLemmas
 pub mod DialogueLemmas
 pub mod AskLemmas
+pub mod BeginLemmas

@@ -10,7 +10,7 @@ use Rattle.af_program.specs.declared.program.Took.TheVariants as takes
 use Rattle.af_program.specs.declared.starts.Starts.{Starts}
 use Rattle.af_program.specs.Acts.{ToldAct}
 use Rattle.af_program.specs.Ledger.{Ledger, LedgerFits, HoldsOf}
-use Rattle.af_program.specs.Waits.{no_starts, may_come}
+use Rattle.af_program.specs.Waits.{no_starts, may_come, after_end}
 use Rattle.af_phone.specs.declared.line.LineChange.{LineChange}
 use Rattle.af_exchange.specs.declared.running.Running.{Running}
 use Rattle.af_exchange.specs.Lines.{hook_text, at_line, after_byte}
@@ -59,12 +59,22 @@ abbrev pub is_over : Option Running → Bool
 is_over None = false
 is_over (Some running) = running.is_closed || running.is_ended
 
--- How it fits the ledger
-
 -- when the program that runs was started
 abbrev pub began_of : Option Running → Option ℕ
 began_of None = None
 began_of (Some running) = Some running.began
+
+-- the starts, once the program that was started at a moment is ended at another: the wait for the next start begins
+abbrev pub starts_once_over : Option ℕ → Starts → ℕ → Starts
+starts_once_over None starts at = starts
+starts_once_over (Some began) starts at = after_end starts began at
+
+-- the starts after a moment, by the program that runs then, or that was ended at this moment
+abbrev pub starts_after : ℕ → Option Running → DialogueState → Starts
+starts_after at None before = starts_once_over (began_of before.running) before.starts at
+starts_after at (Some running) before = before.starts
+
+-- How it fits the ledger
 
 -- what the run of the program that runs keeps to
 abbrev pub ToldNow : DialogueState → Run → Type 0

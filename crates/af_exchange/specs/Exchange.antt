@@ -1,14 +1,14 @@
 -- The program of a line, as a caller has it.
-use Rattle.std.specs.Prelude.{◌≡◌, ⊤, ℕ, ◌+◌, ◌&&◌, not, is_some, if◌then◌else◌, List, [], ◌∷◌, MatchOption}
+use Rattle.std.specs.Prelude.{◌≡◌, ⊤, ℕ, ◌+◌, if◌then◌else◌, List, [], ◌∷◌, MatchOption}
 use Rattle.std.specs.declared.option.Option.{Option}
 use Rattle.std.specs.declared.option.Option.TheVariants.{None, Some}
 use Rattle.af_phone.specs.declared.line.LineChange.{LineChange}
 use Rattle.af_program.specs.Acts.{ToldAct}
-use Rattle.af_program.specs.Waits.{may_come}
 use Rattle.af_exchange.specs.Lines.{text_of}
 use Rattle.af_exchange.specs.Ledger.{ledger_of, Order}
 use Rattle.af_exchange.specs.Told.{IsTold, IsDrained}
 use Rattle.af_exchange.specs.Dialogue.{DialogueState, new_dialogue, is_open}
+use Rattle.af_exchange.specs.Begins.{is_due}
 
 -- a program, what stands between it and its line, and the command line of each start
 pub record ExchangeState (P : Type 0) : Type 0 where
@@ -37,10 +37,10 @@ abbrev pub lines_of : Option LineChange → List (List ℕ)
 lines_of None = []
 lines_of (Some change) = text_of change ∷ []
 
--- the start that is tried at a moment: one, if no program runs and one may come
+-- the start that is tried at a moment: one, if it is due
 abbrev pub order_at : DialogueState → List (List ℕ) → ℕ → List Order
-order_at d words at = if not (is_some d.running) && may_come d.starts at then record { at = at; words = words } ∷ [] else []
+order_at d words at = if is_due d at then record { at = at; words = words } ∷ [] else []
 
--- how many starts were tried after a moment at which one is tried, if no program runs and one may come
+-- how many starts were tried after a moment at which one is tried if it is due
 abbrev pub tried_after : DialogueState → ℕ → ℕ
-tried_after d at = if not (is_some d.running) && may_come d.starts at then d.starts.tried + 1 else d.starts.tried
+tried_after d at = if is_due d at then d.starts.tried + 1 else d.starts.tried

@@ -4,5 +4,6 @@ pub mod Ledger
 pub mod Told
 pub mod Dialogue
 pub mod Hook
+pub mod Begins
 pub mod Asks
 pub mod Exchange

@@ -11,8 +11,9 @@ ghost use Rattle.af_exchange.specs.Lines.{text_of, hook_text};
 ghost use Rattle.af_exchange.specs.Fronts.{FrontOf, NoComment};
 ghost use Rattle.af_exchange.specs.Ledger.{Notes};
 ghost use Rattle.af_exchange.specs.Hook.{after_call, OffersOwed};
+ghost use Rattle.af_exchange.specs.Begins.{Begins};
 ghost use Rattle.af_exchange.specs.Asks.{TakesMore};
-ghost use Rattle.af_exchange.specs.Dialogue.{new_dialogue, is_open, is_over, Accounts, CanBegin, CanEnd, LeavesNone, PassesOver};
+ghost use Rattle.af_exchange.specs.Dialogue.{new_dialogue, began_of, is_open, is_over, starts_once_over, Accounts, CanBegin, CanEnd, LeavesNone, PassesOver};
 
 use crate::line::{Front, front_of, hook_text, note_change};
 use crate::running::Running;
@@ -74,7 +75,7 @@ impl Dialogue {
         })
     }
 
-    /// Tries a start. A program that runs then is handed the hook as it is.
+    /// Tries a start. A program that runs then is offered the line of the hook as it is.
     pub(crate) fn begin<P: Program>(
         &mut self,
         program: &mut P,
@@ -90,6 +91,7 @@ impl Dialogue {
         ensures tried { self.new.starts.tried ≡ self.old.starts.tried + 1 }
         ensures runs { (result ≡ Launched.Runs) ↔ (is_some self.new.running ≡ true) }
         ensures none { LeavesNone self.new }
+        ensures begins { Begins at (words_of words.now) result self.old self.new (P.acts program.old) (P.acts program.new) }
         ensures notes { Notes [] [] (record { at = at; words = words_of words.now } ∷ []) (P.acts program.old)
             (P.acts program.new) }
     {
@@ -179,6 +181,7 @@ impl Dialogue {
         ensures fits { Accounts self.new (P.acts program.new) }
         ensures same { (self.new.starts ≡ self.old.starts) × (self.new.off ≡ self.old.off) × (self.new.left ≡ self.old.left) }
         ensures runs { is_some self.new.running ≡ is_some self.old.running }
+        ensures began { began_of self.new.running ≡ began_of self.old.running }
         ensures offers { OffersOwed self.old self.new (P.acts program.old) (P.acts program.new) }
         ensures notes { Notes [] [] [] (P.acts program.old) (P.acts program.new) }
     {
@@ -198,6 +201,7 @@ impl Dialogue {
         ensures fits { Accounts self.new (P.acts program.new) }
         ensures same { (self.new.starts ≡ self.old.starts) × (self.new.off ≡ self.old.off) }
         ensures runs { is_some self.new.running ≡ is_some self.old.running }
+        ensures began { began_of self.new.running ≡ began_of self.old.running }
         ensures takes { is_some self.old.running ≡ true →
             TakesMore self.old self.new (P.acts program.old) (P.acts program.new) }
         ensures notes { Notes [] [] [] (P.acts program.old) (P.acts program.new) }
@@ -249,6 +253,7 @@ impl Dialogue {
         ensures same { (self.new.starts.restarts ≡ self.old.starts.restarts) × (self.new.starts.tried ≡ self.old.starts.tried)
             × (self.new.off ≡ self.old.off) }
         ensures ended { self.new.running ≡ None }
+        ensures starts { self.new.starts ≡ starts_once_over (began_of self.old.running) self.old.starts at }
         ensures acts { is_some self.old.running ≡ true →
             Appended (P.acts program.old) (ended at ∷ []) (P.acts program.new) }
         ensures notes { Notes [] [] [] (P.acts program.old) (P.acts program.new) }

@@ -11,9 +11,10 @@ ghost use Rattle.af_world.specs.Kinds.{most_card_restarts};
 ghost use Rattle.af_exchange.specs.Lines.{hook_text};
 ghost use Rattle.af_exchange.specs.Ledger.{Notes};
 ghost use Rattle.af_exchange.specs.Fronts.{FrontOf, NoComment};
-ghost use Rattle.af_exchange.specs.Dialogue.{Accounts, CanBegin, LeavesNone, new_dialogue, is_over};
+ghost use Rattle.af_exchange.specs.Dialogue.{Accounts, CanBegin, LeavesNone, began_of, new_dialogue, is_over, starts_after};
 ghost use Rattle.af_exchange.specs.Exchange.{new_exchange, IsToldWhereTold, IsDrainedWhereTold, SameOrders, lines_of, order_at, tried_after};
 ghost use Rattle.af_exchange.specs.Hook.{CallsHook};
+ghost use Rattle.af_exchange.specs.Begins.{Begins, BeginsWhereDue};
 ghost use Rattle.af_exchange.specs.Asks.{AsksFor, AsksProgram};
 
 use crate::dialogue::Dialogue;
@@ -76,10 +77,12 @@ impl<P: Program + Drop> Exchange<P> {
         })
     }
 
-    /// Tries the first start.
+    /// Tries the first start. A program that runs then is offered the line of the hook.
     pub fn begin(&mut self, at: u64) -> Launched
         requires new { self.old.dialogue ≡ new_dialogue self.old.dialogue.starts.restarts }
         ensures told { IsToldWhereTold P.acts self.new }
+        ensures begins { Begins at self.old.words result self.old.dialogue self.new.dialogue (P.acts self.old.program)
+            (P.acts self.new.program) }
         ensures notes { Notes [] [] (record { at = at; words = self.old.words } ∷ []) (P.acts self.old.program)
             (P.acts self.new.program) }
         ensures same { SameOrders self.old self.new }
@@ -99,10 +102,15 @@ impl<P: Program + Drop> Exchange<P> {
         ensures notes { Notes (lines_of result) [] (order_at self.old.dialogue self.old.words at) (P.acts self.old.program)
             (P.acts self.new.program) }
         ensures possible { IfSome result (λ change. is_change change ≡ true) }
+        ensures quiet { is_some self.old.dialogue.running ≡ false → result ≡ None }
+        ensures begins { is_some self.old.dialogue.running ≡ false → BeginsWhereDue at self.old.words self.old.dialogue
+            self.new.dialogue (P.acts self.old.program) (P.acts self.new.program) }
         ensures drained { result ≡ None → IsDrainedWhereTold P.acts self.new }
         ensures asks { is_some self.old.dialogue.running ≡ true →
             AsksProgram at result self.old.dialogue self.new.dialogue (P.acts self.old.program) (P.acts self.new.program) }
         ensures over { is_some self.old.dialogue.running ≡ true → result ≡ None → is_over self.new.dialogue.running ≡ false }
+        ensures starts { is_some self.old.dialogue.running ≡ true →
+            self.new.dialogue.starts ≡ starts_after at self.new.dialogue.running self.old.dialogue }
         ensures tried { self.new.dialogue.starts.tried ≡ tried_after self.old.dialogue at }
         ensures same { SameOrders self.old self.new }
         ensures off { self.new.dialogue.off ≡ self.old.dialogue.off }
@@ -184,6 +192,7 @@ fn next_of<P: Program>(dialogue: &mut Dialogue, program: &mut P, at: u64) -> Opt
     ensures possible { IfSome result (λ change. is_change change ≡ true) }
     ensures drained { result ≡ None → LeavesNone dialogue.new }
     ensures over { result ≡ None → is_over dialogue.new.running ≡ false }
+    ensures starts { dialogue.new.starts ≡ starts_after at dialogue.new.running dialogue.old }
     ensures tried { dialogue.new.starts.tried ≡ dialogue.old.starts.tried }
     ensures same { (dialogue.new.starts.restarts ≡ dialogue.old.starts.restarts) × (dialogue.new.off ≡ dialogue.old.off) }
 {
@@ -214,6 +223,7 @@ fn first_of<P: Program>(dialogue: &mut Dialogue, program: &mut P) -> Front
     ensures front { FrontOf result dialogue.new.left }
     ensures none { NoComment result }
     ensures runs { is_some dialogue.new.running ≡ is_some dialogue.old.running }
+    ensures began { began_of dialogue.new.running ≡ began_of dialogue.old.running }
     ensures asks { is_some dialogue.old.running ≡ true →
         AsksFor result dialogue.old dialogue.new (P.acts program.old) (P.acts program.new) }
     ensures notes { Notes [] [] [] (P.acts program.old) (P.acts program.new) }

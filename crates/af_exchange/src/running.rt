@@ -27,7 +27,8 @@ impl Running {
 
     /// After a take.
     pub(crate) fn after_take(self, gave: Gave) -> Running
-        ensures { result ≡ after_take gave self }
+        ensures state { result ≡ after_take gave self }
+        ensures began { result.began ≡ self.began }
     {
         match gave {
             Gave::Bytes(_) | Gave::NotYet => self,
@@ -40,7 +41,8 @@ impl Running {
 
     /// After a give.
     pub(crate) fn after_give(self, took: Took) -> Running
-        ensures { result ≡ after_give took self }
+        ensures state { result ≡ after_give took self }
+        ensures began { result.began ≡ self.began }
     {
         match took {
             Took::Bytes(_) | Took::NoRoom => self,

@@ -45,6 +45,12 @@ has_exchange None = false
 has_exchange (Some quiet) = false
 has_exchange (Some (over e)) = true
 
+-- the program that is its exchange, if it has one
+abbrev pub exchange_of : Option LineState → Option ExchangeUse
+exchange_of None = None
+exchange_of (Some quiet) = None
+exchange_of (Some (over e)) = Some e
+
 -- no line from this number on has a program
 abbrev pub NoneFrom : ℕ → List (Option LineState) → Type 0
 NoneFrom end lines = (d : ℕ) → end ≤ d → has_exchange (line_at lines d) ≡ false
@@ -69,12 +75,12 @@ lines_after ready.Done d has_line l = record l { lines = slice_set l.lines d (if
 lines_after ready.Failed d has_line l = l
 lines_after ready.OutOfMemory d has_line l = l
 
--- a program became the exchange of a device's line, and runs
-abbrev pub AttachesLine : Ready → ℕ → List (List ℕ) → ℕ → LinesState → LinesState → Type 0
-AttachesLine ready.Done restarts words d old new =
-    (e : ExchangeUse) × IsBegun restarts words e × (new ≡ record old { lines = slice_set old.lines d (Some (over e)) })
-AttachesLine ready.Failed restarts words d old new = new ≡ old
-AttachesLine ready.OutOfMemory restarts words d old new = new ≡ old
+-- a program became the exchange of a device's line, was started at this moment, and runs
+abbrev pub AttachesLine : Ready → ℕ → List (List ℕ) → ℕ → ℕ → LinesState → LinesState → Type 0
+AttachesLine ready.Done restarts words at d old new =
+    (e : ExchangeUse) × IsBegun restarts words at e × (new ≡ record old { lines = slice_set old.lines d (Some (over e)) })
+AttachesLine ready.Failed restarts words at d old new = new ≡ old
+AttachesLine ready.OutOfMemory restarts words at d old new = new ≡ old
 
 -- Changes
 

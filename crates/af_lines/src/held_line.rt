@@ -1,7 +1,8 @@
 // The telephone line of a device.
-ghost use Rattle.std.specs.Prelude.{◌≡◌};
-ghost use Rattle.std.specs.declared.option.Option.TheVariants.{Some};
-ghost use Rattle.af_lines.specs.HeldLines.{quiet, over, is_quiet, has_exchange, IsAskedOf, HooksBy};
+ghost use Rattle.std.specs.Prelude.{◌≡◌, MatchOption};
+ghost use Rattle.std.specs.declared.option.Option.TheVariants.{None, Some};
+ghost use Rattle.af_lines.specs.HeldLines.{quiet, over, exchange_of, is_quiet, has_exchange, IsAskedOf, HooksBy};
+ghost use Rattle.af_lines.specs.ExchangeUse.{exchange_use};
 
 use crate::line_exchange::LineExchange;
 use af_exchange::Exchange;
@@ -49,7 +50,10 @@ impl<P: Program + Drop> HeldLine<P> {
     }
 
     /// Its exchange, if it has one.
-    pub(crate) fn exchange(&self) -> Option<&Exchange<P>> {
+    pub(crate) fn exchange(&self) -> Option<&Exchange<P>>
+        ensures { MatchOption result (exchange_of (Some self.now) ≡ None)
+            (λ exchange. exchange_of (Some self.now) ≡ Some (exchange_use P.acts exchange.now)) }
+    {
         Some(self.exchange.as_ref()?.exchange())
     }
 

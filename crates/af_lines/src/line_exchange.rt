@@ -1,7 +1,7 @@
 // The program that is the exchange of a line.
-ghost use Rattle.std.specs.Prelude.{IfOk, IfSome};
+ghost use Rattle.std.specs.Prelude.{◌≡◌, IfOk, IfSome};
 ghost use Rattle.af_process.specs.Acts.{words_of};
-ghost use Rattle.af_lines.specs.ExchangeUse.{AsksExchange, CallsExchange, IsBegun};
+ghost use Rattle.af_lines.specs.ExchangeUse.{exchange_use, AsksExchange, CallsExchange, IsBegun};
 
 use af_config::is_command_line;
 use af_exchange::Exchange;
@@ -41,7 +41,7 @@ impl<P: Program + Drop> LineExchange<P> {
         at: u64,
     ) -> Result<Option<LineExchange<P>>, OutOfMemory>
         ensures begun { IfOk result
-            (λ made. IfSome made (λ exchange. IsBegun program.entry.restarts (words_of program.entry.words.now) exchange)) }
+            (λ made. IfSome made (λ exchange. IsBegun program.entry.restarts (words_of program.entry.words.now) at exchange)) }
     {
         if program.restarts > MOST_CARD_RESTARTS || !is_command_line(program.words) {
             return Ok(None);
@@ -57,7 +57,9 @@ impl<P: Program + Drop> LineExchange<P> {
     }
 
     /// The exchange.
-    pub(crate) fn exchange(&self) -> &Exchange<P> {
+    pub(crate) fn exchange(&self) -> &Exchange<P>
+        ensures { self.now ≡ exchange_use P.acts result.now }
+    {
         &self.exchange
     }
 

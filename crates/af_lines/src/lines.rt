@@ -1,9 +1,10 @@
 // The telephone lines of a world, each at the number of its device, and a round over them.
-ghost use Rattle.std.specs.Prelude.{◌≡◌, ◌≤◌, ◌<◌, true, if◌then◌else◌};
+ghost use Rattle.std.specs.Prelude.{◌≡◌, ◌≤◌, ◌<◌, true, if◌then◌else◌, MatchOption};
 ghost use Rattle.std.specs.declared.option.Option.TheVariants.{None, Some};
 ghost use Rattle.af_limits.specs.Limits.{most_devices};
 ghost use Rattle.af_process.specs.Acts.{words_of};
-ghost use Rattle.af_lines.specs.HeldLines.{no_lines, quiet, lines_after, lines_at_round_start, line_at, is_quiet, AsksUpTo, AttachesLine, GoesOverLines, HooksAt, HooksBy, HooksLine, IsAskedOf};
+ghost use Rattle.af_lines.specs.ExchangeUse.{exchange_use};
+ghost use Rattle.af_lines.specs.HeldLines.{no_lines, quiet, exchange_of, lines_after, lines_at_round_start, line_at, is_quiet, AsksUpTo, AttachesLine, GoesOverLines, HooksAt, HooksBy, HooksLine, IsAskedOf};
 
 use crate::held_line::HeldLine;
 use crate::line_exchange::LineExchange;
@@ -72,7 +73,7 @@ impl<P: Program + Drop> Lines<P> {
         }
     }
 
-    /// Gives a program to the line of a device, which has none so far, and starts it.
+    /// Gives a program to the line of a device, which has none so far, and starts it at this moment.
     pub fn attach<G: Programs<Made = P>>(
         &mut self,
         alloc: Global,
@@ -82,7 +83,7 @@ impl<P: Program + Drop> Lines<P> {
         at: u64,
     ) -> Ready
         ensures quiet { result ≡ Ready.Done → is_quiet (line_at self.old.lines device) ≡ true }
-        ensures attaches { AttachesLine result program.entry.restarts (words_of program.entry.words.now) device self.old
+        ensures attaches { AttachesLine result program.entry.restarts (words_of program.entry.words.now) at device self.old
             self.new }
     {
         if !self.is_quiet(device) {
@@ -100,7 +101,10 @@ impl<P: Program + Drop> Lines<P> {
     }
 
     /// The exchange of the line of a device, if a program stands for it.
-    pub fn exchange(&self, device: u8) -> Option<&Exchange<P>> {
+    pub fn exchange(&self, device: u8) -> Option<&Exchange<P>>
+        ensures { MatchOption result (exchange_of (line_at self.now.lines device) ≡ None)
+            (λ exchange. exchange_of (line_at self.now.lines device) ≡ Some (exchange_use P.acts exchange.now)) }
+    {
         self.held.get(usize::from(device))?.as_ref()?.exchange()
     }
 

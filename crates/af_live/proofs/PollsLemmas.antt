@@ -17,7 +17,7 @@ use Rattle.af_live.proofs.SharesLemmas.{all_renewed_free, all_renewed_open}
 use Rattle.af_live.specs.Polls.{readiness_of, noted, all_noted, TakesIn, TakesAll, takes_none, takes_one, PollsTo, ready_of, PolledGives, LeadsLinks, TakesLeast}
 
 -- a link is replaced by one that a test cannot tell from it: the test gives the same for each number
-set_same : (f : Option LinkEntry → Bool) (links : List (Option LinkEntry)) (i j : ℕ) (link : Option LinkEntry) → f link ≡ f (link_at links i) → f (link_at (slice_set links i link) j) ≡ f (link_at links j)
+pub set_same : {A : Type 0} (f : Option LinkEntry → A) (links : List (Option LinkEntry)) (i j : ℕ) (link : Option LinkEntry) → f link ≡ f (link_at links i) → f (link_at (slice_set links i link) j) ≡ f (link_at links j)
 set_same f [] i j link e = refl
 set_same f (x ∷ xs) zero zero link e = e
 set_same f (x ∷ xs) zero (suc j) link e = refl
@@ -50,7 +50,7 @@ free_closed : (link : Option LinkEntry) → is_free link ≡ true → is_open li
 free_closed None h = refl
 free_closed (Some link) h = absurd (false≢true h)
 
-noted_same : (f : Option LinkEntry → Bool) → ((told : Readiness) (link : Option LinkEntry) → f (with_readiness told link) ≡ f link) →
+noted_same : {A : Type 0} (f : Option LinkEntry → A) → ((told : Readiness) (link : Option LinkEntry) → f (with_readiness told link) ≡ f link) →
     (links : List (Option LinkEntry)) (e : Event) (k : ℕ) → f (link_at (noted links e) k) ≡ f (link_at links k)
 noted_same f stays links e k =
     elim ((event_token e).0 == most_links) as (λ (b : Bool). f (link_at (if b then links else slice_set links (event_token e).0 (with_readiness (readiness_of e) (link_at links (event_token e).0))) k) ≡ f (link_at links k)) [
@@ -59,7 +59,7 @@ noted_same f stays links e k =
     ]
 
 -- events change nothing that readiness leaves
-all_noted_same : (f : Option LinkEntry → Bool) → ((told : Readiness) (link : Option LinkEntry) → f (with_readiness told link) ≡ f link) →
+pub all_noted_same : {A : Type 0} (f : Option LinkEntry → A) → ((told : Readiness) (link : Option LinkEntry) → f (with_readiness told link) ≡ f link) →
     (events : List Event) (links : List (Option LinkEntry)) (k : ℕ) → f (link_at (all_noted events links) k) ≡ f (link_at links k)
 all_noted_same f stays [] links k = refl
 all_noted_same f stays (e ∷ events) links k = all_noted_same f stays events (noted links e) k ∙ noted_same f stays links e k

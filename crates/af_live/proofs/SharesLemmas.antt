@@ -53,7 +53,7 @@ none_renewed zero (link ∷ links) h =
     (ap (λ ls. None ∷ ls) (none_renewed zero links (all_free link links h)))
 none_renewed (suc n) (link ∷ links) h = ap (λ ls. link ∷ ls) (none_renewed n links (next_free n link links h))
 
-renewed_same : (f : Option LinkEntry → Bool) → ((link : Option LinkEntry) → f (option_map with_new_share link) ≡ f link) →
+pub renewed_same : {A : Type 0} (f : Option LinkEntry → A) → ((link : Option LinkEntry) → f (option_map with_new_share link) ≡ f link) →
     (n : ℕ) (links : List (Option LinkEntry)) (k : ℕ) → f (link_at (renewed_from n links) k) ≡ f (link_at links k)
 renewed_same f stays zero [] k = refl
 renewed_same f stays (suc n) [] k = refl

@@ -14,7 +14,7 @@ use Rattle.af_live.specs.LinkTable.{link_at, something_ready, GivesFirst, LinkWa
 use Rattle.af_live.specs.Polls.{LeadsLinks, PolledGives}
 use Rattle.af_lines.specs.HeldLines.{LinesState, lines_at_round_start}
 use Rattle.af_live.specs.Readings.{ClockState}
-use Rattle.af_live.specs.RealWorld.{LeadsRound, LeadsLines, PassesLines}
+use Rattle.af_live.specs.RealWorld.{LeadsRound, LeadsLines, PassesLines, WakeFits}
 
 pub kept_links : (events : List Event) (w : Wake) (old new : List (Option LinkEntry)) → LinkWakeFits old w → GivesFirst old (Some w) new → LeadsLinks events (Some w) old new
 kept_links events (wake.Opened k) old new fits h = inl h
@@ -79,3 +79,12 @@ pub last_stays : (o : Option Wake) (past new : RoundState) (nanos : ℕ) → Mat
     past.last ≡ Some nanos → new.last ≡ Some nanos
 last_stays None past new nanos is last = ap (λ (r : RoundState). r.last) is ∙ last
 last_stays (Some w) past new nanos is last = ap (λ (r : RoundState). r.last) is ∙ last
+
+pub kept_fits : (w : Wake) (links : List (Option LinkEntry)) (round : RoundState) (lines : LinesState) → LinkWakeFits links w → WakeFits links round lines w
+kept_fits (wake.Opened k) links round lines fits = fits
+kept_fits (wake.Readable k) links round lines fits = fits
+kept_fits (wake.Writable k) links round lines fits = fits
+kept_fits wake.Idle links round lines fits = fits
+kept_fits (wake.Ticked d n) links round lines fits = absurd fits
+kept_fits (wake.Line d change) links round lines fits = absurd fits
+kept_fits wake.Stop links round lines fits = fits

@@ -6,3 +6,4 @@ pub mod RealWorld
 pub mod Shares
 pub mod RealCalls
 pub mod Counting
+pub mod Streams

@@ -1,5 +1,6 @@
 -- The times that a wait goes by: what the clock shows, the reading of a round, and how long a poll waits.
-use Rattle.std.specs.Prelude.{◌≡◌, ◌⊎◌, ℕ, ◌-◌, ◌/◌, ◌≤◌, ◌<◌, nat_le, ◌||◌, Bool, false, List, if◌then◌else◌, Option, Some, None}
+use Rattle.std.specs.Prelude.{◌≡◌, ◌⊎◌, ℕ, ◌-◌, ◌/◌, ◌≤◌, ◌<◌, nat_le, ◌||◌, Bool, false, List, [], ◌∷◌, if◌then◌else◌, Option, Some, None}
+use Rattle.af_io.specs.Observed.{Appended}
 use Rattle.af_backend.specs.Rounds.{longest_step, reading_after}
 use Rattle.af_live.specs.declared.waking.Step.{Step}
 use Rattle.af_live.specs.declared.link_table.LinkEntry.{LinkEntry}
@@ -7,17 +8,27 @@ use Rattle.af_live.specs.Polls.{LatestPoll}
 use Rattle.af_live.specs.Shares.{some_cut}
 use Rattle.af_live.specs.Timer.{TimerState, no_answers, whole_millis, AsksOnce}
 
--- the clock of a world, and the last step of its readings
+-- the clock of a world, the last step of its readings, and all that the clock has answered, if it tells that
 pub record ClockState : Type 0 where
   pub timer : TimerState
   pub step : Step
+  pub answers : Option (List (Option ℕ))
 
-abbrev pub new_clock : ClockState
-new_clock = record { timer = no_answers; step = record { shown = 0; is_late = false } }
+abbrev pub no_step : Step
+no_step = record { shown = 0; is_late = false }
+
+-- a clock that was not asked for this world so far
+abbrev pub new_clock : Option (List (Option ℕ)) → ClockState
+new_clock answers = record { timer = no_answers; step = no_step; answers = answers }
+
+-- the clock is asked once, and what it answers is what it tells
+pub record Asks (old : ClockState) (answer : Option ℕ) (new : ClockState) : Type 0 where
+  pub once : AsksOnce old.timer answer new.timer
+  pub told : Appended old.answers (answer ∷ []) new.answers
 
 -- The clock is asked once, and no step is made.
 abbrev pub AsksClock : ClockState → ClockState → Type 0
-AsksClock old new = (answer : Option ℕ) × AsksOnce old.timer answer new.timer × (new.step ≡ old.step)
+AsksClock old new = (answer : Option ℕ) × Asks old answer new × (new.step ≡ old.step)
 
 -- a step from what the clock showed to this reading: the server is late if the clock is further ahead by as much
 abbrev pub step_to : ℕ → ℕ → Step
@@ -39,18 +50,18 @@ SharesReading last shown old nanos new = (last ≡ Some nanos)
 
 -- A round has one reading. Its first call asks the clock for it. A later call keeps to that one, and asks nothing.
 abbrev pub IsReadingBy : Option ℕ → Option ℕ → ClockState → ℕ → ClockState → Type 0
-IsReadingBy None last old nanos new = (shown : ℕ) × AsksOnce old.timer (Some shown) new.timer
+IsReadingBy None last old nanos new = (shown : ℕ) × Asks old (Some shown) new
     × (TakesStep last shown nanos new.step ⊎ SharesReading last shown old.step nanos new.step)
 IsReadingBy (Some taken) last old nanos new = (nanos ≡ taken) × (new ≡ old)
 
 -- a round has a reading, or the clock gave no answer
 abbrev pub ReadsBy : Option ℕ → Option ℕ → ClockState → Option ℕ → ClockState → Type 0
-ReadsBy taken last old None new = AsksOnce old.timer None new.timer × (new.step ≡ old.step)
+ReadsBy taken last old None new = Asks old None new × (new.step ≡ old.step)
 ReadsBy taken last old (Some nanos) new = IsReadingBy taken last old nanos new
 
 -- no reading was taken: the clock was not asked, or gave no answer
 abbrev pub TakesNoReading : ClockState → ClockState → Type 0
-TakesNoReading old new = (new ≡ old) ⊎ (AsksOnce old.timer None new.timer × (new.step ≡ old.step))
+TakesNoReading old new = (new ≡ old) ⊎ (Asks old None new × (new.step ≡ old.step))
 
 -- by how many milliseconds device time is late: what the clock showed at the latest step is further on
 abbrev pub late_millis : Step → Option ℕ → ℕ

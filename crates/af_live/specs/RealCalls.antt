@@ -3,6 +3,7 @@ use Rattle.std.specs.Prelude.{◌≡◌, ◌<◌, ℕ, length, true, false, IfSo
 use Rattle.af_limits.specs.Limits.{most_links, most_devices}
 use Rattle.af_live.specs.LinkTable.{is_drained, is_free, link_at, something_ready, KeepsOpen, ClosesOne, Opens}
 use Rattle.af_live.specs.Shares.{AfterRead, AfterWrite}
+use Rattle.af_live.specs.Streams.{AreApart}
 use Rattle.af_live.specs.Counting.{CountsOne, CountsStand}
 use Rattle.af_backend.specs.Backends.{may_be_refused, round_after, CapturesAt, EmitsAt, AttachesAt}
 use Rattle.af_backend.specs.CodecUse.{codec_allows, codec_after}
@@ -36,6 +37,7 @@ pub record RealReads (old : RealState) (link : ℕ) (answer : LinkGot) (into : L
   pub unheld : is_free (link_at old.links link) ≡ true → answer ≡ got.Failed
   pub drained : old.listens ≡ true → is_drained (link_at old.links link) ≡ true → answer ≡ got.NotYet
   pub after : AfterRead link (length into) answer old.links new.links
+  pub apart : AreApart new.links
   pub rest : new ≡ record old { links = new.links; link_faults = new.link_faults }
 
 -- A write to a link fails where the link is not held, takes at most what is left of its share, and changes only what is known of
@@ -45,11 +47,13 @@ pub record RealWrites (old : RealState) (link : ℕ) (piece : List ℕ) (answer 
   pub keeps_open : KeepsOpen old.links new.links
   pub unheld : is_free (link_at old.links link) ≡ true → answer ≡ took.Failed
   pub after : AfterWrite link (length piece) answer old.links new.links
+  pub apart : AreApart new.links
   pub rest : new ≡ record old { links = new.links; link_faults = new.link_faults }
 
 -- The close of a link lets go of that link, and of nothing else.
 pub record RealCloses (old : RealState) (link : ℕ) (new : RealState) : Type 0 where
   pub closed : ClosesOne link old.links new.links
+  pub apart : AreApart new.links
   pub rest : new ≡ record old { links = new.links }
 
 -- A capture gives what the backend of the device gives.
@@ -106,13 +110,13 @@ pub record RealAttaches (old : RealState) (device : ℕ) (spec : DeviceSpec) (ki
   }
   pub counts : CountsStand old new
 
--- A line gets a program only if it has none.
+-- A line gets a program only if it has none. The program is started at the moment that the clock shows.
 pub record RealAttachesLine (old : RealState) (device : ℕ) (program : LineProgram) (answer : Ready)
     (new : RealState) : Type 0 where
   pub faults : CountsOne (answer ≡ ready.Failed) old.device_faults new.device_faults
   pub quiet : answer ≡ ready.Done → is_quiet (line_at old.lines.lines device) ≡ true
-  pub attaches : AttachesLine answer program.restarts (words_of program.words.now) device old.lines
-      new.lines
+  pub attaches : AttachesLine answer program.restarts (words_of program.words.now) (moment_of new.clock.timer.shown) device
+      old.lines new.lines
   pub clock : AsksClock old.clock new.clock
   pub rest : new
       ≡ record old { clock = new.clock; lines = new.lines; device_faults = new.device_faults }
@@ -136,6 +140,7 @@ pub record RealWaits (old : RealState) (more : Bool) (answer : Waited) (new : Re
   pub frames : LosesNoFrame (given_wake answer) old.round new.round
   pub lines : LeadsLines (given_wake answer) old.links old.round old.lines new.links new.round
       new.lines
+  pub apart : AreApart new.links
   pub rest : new ≡ record old {
     links = new.links;
     poll = new.poll;

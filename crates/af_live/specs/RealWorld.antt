@@ -39,14 +39,14 @@ pub record RealState : Type 0 where
   pub listen_faults : ℕ
   pub wait_faults : ℕ
 
--- it was just made, over a spawner with these acts
-abbrev pub begun_world : Option (List Told) → RealState
-begun_world acts =
+-- it was just made, over a spawner with these acts and a clock with these answers
+abbrev pub begun_world : Option (List Told) → Option (List (Option ℕ)) → RealState
+begun_world acts answers =
     record {
       listens = false;
       links = replicate most_links free_entry;
       poll = no_poll;
-      clock = new_clock;
+      clock = new_clock answers;
       backends = none_attached;
       codec = begun_codec acts;
       round = new_round;

@@ -1,5 +1,5 @@
 -- The clock of a world, and what it showed.
-use Rattle.std.specs.Prelude.{◌≡◌, ℕ, ◌-◌, ◌%◌, ◌^◌, nat_lt, if◌then◌else◌, Option, Some, None}
+use Rattle.std.specs.Prelude.{◌≡◌, ℕ, ◌-◌, ◌%◌, ◌^◌, nat_lt, if◌then◌else◌, Bool, List, map, take, Option, Some, None}
 use Rattle.std.specs.declared.time.Duration.{Duration}
 use Rattle.std.specs.Duration.{as_nanos}
 use Rattle.af_io.specs.Observed.{next_count}
@@ -34,3 +34,13 @@ no_answers = record { asked = 0; shown = None }
 -- the clock is asked once, and gives this answer
 abbrev pub AsksOnce : TimerState → Option ℕ → TimerState → Type 0
 AsksOnce old answer new = new ≡ record { asked = next_count old.asked; shown = answer }
+
+-- a clock in memory: its readings, how many of them it has shown, and whether it was asked after the last
+pub record ClockOfReadings : Type 0 where
+  pub readings : List (Option Duration)
+  pub asked : ℕ
+  pub is_over : Bool
+
+-- it has shown so many of its readings, if it was not asked after the last
+abbrev pub answers_of : ClockOfReadings → Option (List (Option ℕ))
+answers_of c = if c.is_over then None else Some (map shown_nanos (take c.asked c.readings))

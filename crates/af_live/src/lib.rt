@@ -10,6 +10,7 @@ mod mio_world;
 mod share;
 mod sockets;
 mod timer;
+mod told_clock;
 mod turned_away;
 mod waking;
 
@@ -17,3 +18,4 @@ pub use af_clock::Pace;
 pub use af_config::{ConfigFault, Setting, read_config};
 pub use mio_world::MioWorld;
 pub use sockets::Sockets;
+pub use told_clock::{MemClock, ToldClock};

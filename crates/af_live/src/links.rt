@@ -5,6 +5,7 @@ ghost use Rattle.af_world.specs.World.{LinkGotFits, TookFits};
 ghost use Rattle.af_live.specs.LinkTable.{is_drained, is_free, link_at, KeepsOpen, ClosesOne};
 ghost use Rattle.af_live.specs.Shares.{after_interrupt, after_read, AfterRead, AfterWrite};
 ghost use Rattle.af_live.specs.Polls.{latest_poll};
+ghost use Rattle.af_live.specs.Streams.{KeepsStreams, LetsGo};
 
 use crate::held_links::HeldLinks;
 use crate::link_table::LinkEntry;
@@ -28,6 +29,7 @@ pub(crate) fn read_link(
     ensures after { AfterRead link (length into.new) result links.old links.new }
     ensures listens { is_some sockets.new ≡ is_some sockets.old }
     ensures poll { latest_poll sockets.new ≡ latest_poll sockets.old }
+    ensures streams { KeepsStreams sockets.old sockets.new }
 {
     let Some(sockets) = sockets else {
         return LinkGot::Failed;
@@ -94,6 +96,7 @@ pub(crate) fn write_link(
     ensures after { AfterWrite link (length piece.now) result links.old links.new }
     ensures listens { is_some sockets.new ≡ is_some sockets.old }
     ensures poll { latest_poll sockets.new ≡ latest_poll sockets.old }
+    ensures streams { KeepsStreams sockets.old sockets.new }
 {
     let Some(sockets) = sockets else {
         return LinkTook::Failed;
@@ -128,6 +131,7 @@ pub(crate) fn close_link(sockets: &mut Option<Sockets>, links: &mut HeldLinks, l
     ensures closes { ClosesOne link links.old links.new }
     ensures listens { is_some sockets.new ≡ is_some sockets.old }
     ensures poll { latest_poll sockets.new ≡ latest_poll sockets.old }
+    ensures streams { LetsGo (link_at links.old link) sockets.old sockets.new }
 {
     if let (Some(sockets), Some(held)) = (sockets, links.get(link)) {
         sockets.close(held.key);

@@ -5,7 +5,8 @@
 // and the backend of each of 8 devices, and the one codec, which may be the backend of one. `lines` has their telephone lines.
 // Faults of links, devices, listens and waits are counted apart. Contracts see these tables and counts. Of the sockets they see
 // only whether there are any.
-ghost use Rattle.std.specs.Prelude.{◌≡◌, ◌≤◌, ◌<◌, [], length, true, is_some};
+ghost use Rattle.std.specs.Prelude.{◌≡◌, ◌≤◌, ◌<◌, List, [], length, true, is_some};
+ghost use Rattle.std.specs.declared.option.Option.{Option};
 ghost use Rattle.std.specs.declared.option.Option.TheVariants.{None};
 ghost use Rattle.af_limits.specs.Limits.{longest_read, output_room};
 ghost use Rattle.af_world.specs.World.{LinkGotFits, TookFits};
@@ -14,12 +15,15 @@ ghost use Rattle.af_live.specs.Polls.{latest_poll};
 ghost use Rattle.af_live.specs.Readings.{late_millis};
 ghost use Rattle.af_live.specs.RealCalls.{RealAttaches, RealAttachesLine, RealCaptures, RealCloses, RealEmits, RealHooks, RealListens, RealReads, RealWaits, RealWrites};
 ghost use Rattle.af_live.specs.RealWorld.{RealLeadsTo, begun_world, listens_after};
+ghost use Rattle.af_live.specs.Streams.{HoldsOwn};
+ghost use Rattle.af_live.specs.declared.link_table.LinkEntry.{LinkEntry};
 
 use crate::counting::{count_got, count_put, count_ready, count_took, count_waited};
 use crate::held_links::HeldLinks;
 use crate::links::{close_link, read_link, write_link};
 use crate::sockets::Sockets;
 use crate::timer::Timer;
+use crate::told_clock::ToldClock;
 use crate::waking::{Step, answer, next_wake};
 use af_backend::{Devices, NewDevice, refusal};
 use af_card::Card;
@@ -37,7 +41,6 @@ use std::alloc::Global;
 use std::marker::Model;
 use std::net::Net;
 use std::rt::Files;
-use std::time::Clock;
 
 /// The real outside of a server. It listens at one address, whose links it numbers from 0, at most 32 at a time; a further one is
 /// accepted and ended at once. Up to 8 devices go on by the clock of the system, or by that of their program.
@@ -48,7 +51,7 @@ use std::time::Clock;
 ///
 /// It tells nothing of what happened. The counts of its faults stand still at 2^64 - 1.
 #[derive(Drop)]
-pub struct MioWorld<R: Net + Clock + Files + Drop, S: Spawner + Drop, G: Programs + Drop> {
+pub struct MioWorld<R: Net + ToldClock + Files + Drop, S: Spawner + Drop, G: Programs + Drop> {
     sockets: Option<Sockets>,
     links: HeldLinks,
     lines: Lines<G::Made>,
@@ -63,11 +66,12 @@ pub struct MioWorld<R: Net + Clock + Files + Drop, S: Spawner + Drop, G: Program
     devices: Devices<R::File, S, G::Made>,
 }
 
-impl<R: Net + Clock + Files + Drop, S: Spawner + Drop, G: Programs + Drop> Model
+impl<R: Net + ToldClock + Files + Drop, S: Spawner + Drop, G: Programs + Drop> Model
     for MioWorld<R, S, G> {
     ghost use Rattle.std.specs.Prelude.{is_some};
     ghost use Rattle.af_live.specs.Polls.{latest_poll};
     ghost use Rattle.af_live.specs.RealWorld.{RealState};
+    ghost use Rattle.af_live.specs.Streams.{HoldsOwn};
 
     ghost Value = { RealState };
 
@@ -75,7 +79,7 @@ impl<R: Net + Clock + Files + Drop, S: Spawner + Drop, G: Programs + Drop> Model
       listens = is_some w.sockets;
       links = w.links;
       poll = latest_poll w.sockets;
-      clock = record { timer = w.timer; step = w.step };
+      clock = record { timer = w.timer; step = w.step; answers = R.answers w.rt };
       backends = w.devices.attached;
       codec = w.devices.codec;
       round = w.devices.round;
@@ -85,25 +89,27 @@ impl<R: Net + Clock + Files + Drop, S: Spawner + Drop, G: Programs + Drop> Model
       listen_faults = w.listen_faults;
       wait_faults = w.wait_faults;
     } };
+
+    ghost invariant = { λ w. HoldsOwn w.sockets w.links };
 }
 
-impl<R: Net + Clock + Files + Drop, S: Spawner + Drop> MioWorld<R, S, NoPrograms> {
+impl<R: Net + ToldClock + Files + Drop, S: Spawner + Drop> MioWorld<R, S, NoPrograms> {
     /// A world over the sockets, the files and the clock of this runtime, and over a spawner that tells of no act. No device has
     /// a program whose time it goes by. It takes no memory and asks nothing of the system.
     pub fn new(rt: R, alloc: Global, spawner: S) -> MioWorld<R, S, NoPrograms>
         requires { TellsThese [] (S.acts spawner) }
-        ensures { result ≡ begun_world (S.acts spawner) }
+        ensures { result ≡ begun_world (S.acts spawner) (R.answers rt) }
     {
         MioWorld::with_programs(rt, alloc, spawner, NoPrograms)
     }
 }
 
-impl<R: Net + Clock + Files + Drop, S: Spawner + Drop, G: Programs + Drop> MioWorld<R, S, G> {
+impl<R: Net + ToldClock + Files + Drop, S: Spawner + Drop, G: Programs + Drop> MioWorld<R, S, G> {
     /// A world over the sockets, the files and the clock of this runtime, over a spawner that tells of no act, and over these
     /// programs. It takes no memory and asks nothing of the system.
     pub fn with_programs(rt: R, alloc: Global, spawner: S, programs: G) -> MioWorld<R, S, G>
         requires { TellsThese [] (S.acts spawner) }
-        ensures { result ≡ begun_world (S.acts spawner) }
+        ensures { result ≡ begun_world (S.acts spawner) (R.answers rt) }
     {
         MioWorld {
             sockets: None,
@@ -159,7 +165,7 @@ impl<R: Net + Clock + Files + Drop, S: Spawner + Drop, G: Programs + Drop> MioWo
     }
 }
 
-impl<R: Net + Clock + Files + Drop, S: Spawner + Drop, G: Programs + Drop> World
+impl<R: Net + ToldClock + Files + Drop, S: Spawner + Drop, G: Programs + Drop> World
     for MioWorld<R, S, G> {
     ghost use Rattle.af_live.specs.RealWorld.{RealLeadsTo-refl, RealLeadsTo-trans};
 
@@ -252,14 +258,14 @@ impl<R: Net + Clock + Files + Drop, S: Spawner + Drop, G: Programs + Drop> World
         ensures leads { RealLeadsTo self.old self.new }
         ensures step { RealHooks self.old device off result self.new }
     {
-        let at = self.timer.moment(&self.rt);
+        let at = self.timer.moment(&mut self.rt);
         let put = self.lines.hook(device, off, at);
         count_put(put, &mut self.device_faults);
         put
     }
 }
 
-impl<R: Net + Clock + Files + Drop, S: Spawner + Drop, G: Programs + Drop> Live
+impl<R: Net + ToldClock + Files + Drop, S: Spawner + Drop, G: Programs + Drop> Live
     for MioWorld<R, S, G> {
     ghost listen_faults = { λ world. world.listen_faults };
 
@@ -299,7 +305,7 @@ impl<R: Net + Clock + Files + Drop, S: Spawner + Drop, G: Programs + Drop> Live
             number: device,
             spec,
             kind,
-            at: self.timer.moment(&self.rt),
+            at: self.timer.moment(&mut self.rt),
         };
         let attached = self.devices.attach(&self.rt, &mut self.programs, asked);
         self.lines.note_attach(attached, device, spec.line);
@@ -310,7 +316,7 @@ impl<R: Net + Clock + Files + Drop, S: Spawner + Drop, G: Programs + Drop> Live
     fn attach_line(&mut self, alloc: Global, device: u8, program: LineProgram<'_>) -> Ready
         ensures step { RealAttachesLine self.old device program.entry result self.new }
     {
-        let at = self.timer.moment(&self.rt);
+        let at = self.timer.moment(&mut self.rt);
         let attached = self
             .lines
             .attach(alloc, &mut self.programs, device, program, at);
@@ -322,7 +328,7 @@ impl<R: Net + Clock + Files + Drop, S: Spawner + Drop, G: Programs + Drop> Live
         ensures step { RealWaits self.old more result self.new }
     {
         let next = next_wake(
-            &self.rt,
+            &mut self.rt,
             more,
             &mut self.sockets,
             &mut self.links,
@@ -347,6 +353,7 @@ fn begin_to_listen<R: Net>(
     ensures listens { is_some sockets.new ≡ listens_after result (is_some sockets.old) }
     ensures again { is_some sockets.old ≡ true → result ≡ Ready.Failed }
     ensures poll { latest_poll sockets.new ≡ latest_poll sockets.old }
+    ensures own { (links : List (Option LinkEntry)) → HoldsOwn sockets.old links → HoldsOwn sockets.new links }
 {
     if sockets.is_some() {
         return Ready::Failed;

@@ -2,8 +2,10 @@
 ghost use Rattle.std.specs.Prelude.{◌≡◌, ◌≤◌, [], true, false, IfOk, OnErr};
 ghost use Rattle.std.specs.Io.{ReadsAtMost, WritesAtMost};
 ghost use Rattle.mio.specs.Events.{items};
-ghost use Rattle.std.specs.declared.option.Option.TheVariants.{Some};
+ghost use Rattle.slab.specs.Slab.{Updates};
+ghost use Rattle.std.specs.declared.option.Option.TheVariants.{None, Some};
 ghost use Rattle.af_live.specs.Polls.{all_noted, latest_poll, no_poll, readiness_of, PollsTo, TakesAll, TakesIn};
+ghost use Rattle.af_live.specs.Streams.{SameHeld};
 
 use crate::held_links::HeldLinks;
 use crate::link_table::Readiness;
@@ -82,7 +84,9 @@ impl Sockets {
 
     /// Has the poll look at the sockets of the program of a device too, once for each of its starts. They leave the poll as they
     /// are closed. Where the system refuses, the device is asked as often as a poll waits at most.
-    pub(crate) fn watch(&mut self, device: usize, starts: u32, ends: ProgramSockets) {
+    pub(crate) fn watch(&mut self, device: usize, starts: u32, ends: ProgramSockets)
+        ensures streams { self.new.streams ≡ self.old.streams }
+    {
         if self.watched.get(device) == Some(&starts) {
             return;
         }
@@ -115,6 +119,7 @@ impl Sockets {
         ensures polls { result ≡ true →
             PollsTo (items self.new.events) self.old.streams links.old self.new.streams links.new }
         ensures refused { result ≡ false → links.new ≡ links.old }
+        ensures streams { result ≡ false → self.new.streams ≡ self.old.streams }
     {
         match self.ask(pause) {
             Ok(()) => {}
@@ -188,6 +193,7 @@ impl Sockets {
     /// Reads what has come by a link, at least one byte, or none at its end.
     pub fn read(&mut self, key: usize, into: &mut [u8]) -> io::Result<usize>
         ensures count { ReadsAtMost result into.new }
+        ensures streams { SameHeld self.old.streams self.new.streams }
         ensures poll { latest_poll (Some self.new) ≡ latest_poll (Some self.old) }
     {
         match self.streams.get_mut(key) {
@@ -199,6 +205,7 @@ impl Sockets {
     /// Hands the first bytes of a piece to a link, as many as it takes.
     pub fn write(&mut self, key: usize, piece: &[u8]) -> io::Result<usize>
         ensures count { WritesAtMost result piece.now }
+        ensures streams { SameHeld self.old.streams self.new.streams }
         ensures poll { latest_poll (Some self.new) ≡ latest_poll (Some self.old) }
     {
         match self.streams.get_mut(key) {
@@ -209,7 +216,8 @@ impl Sockets {
 
     /// Closes a link.
     pub fn close(&mut self, key: usize)
-        ensures { latest_poll (Some self.new) ≡ latest_poll (Some self.old) }
+        ensures poll { latest_poll (Some self.new) ≡ latest_poll (Some self.old) }
+        ensures streams { Updates self.old.streams self.new.streams key None }
     {
         if let Some(mut stream) = self.streams.try_remove(key) {
             // closing it takes it out of the poll in any case

@@ -1,9 +1,11 @@
 // The clock of the system, and what it showed.
-ghost use Rattle.std.specs.Prelude.{◌≡◌};
+ghost use Rattle.std.specs.Prelude.{◌≡◌, [], ◌∷◌};
+ghost use Rattle.af_io.specs.Observed.{Appended};
 ghost use Rattle.af_live.specs.Timer.{moment_of, nanos_of, no_answers, whole_millis, AsksOnce};
 
+use crate::told_clock::ToldClock;
 use std::marker::Model;
-use std::time::{Clock, Duration};
+use std::time::Duration;
 
 pub(crate) const NANOS_A_MILLISECOND: u64 = 1_000_000;
 
@@ -34,21 +36,23 @@ impl Timer {
         }
     }
 
-    /// Asks the clock of this runtime what it shows, in nanoseconds. None if it cannot be read, or shows five centuries.
-    pub fn nanos<R: Clock>(&mut self, rt: &R) -> Option<u64>
-        ensures { AsksOnce self.old result self.new }
+    /// Asks this clock what it shows, in nanoseconds. None if it cannot be read, or shows five centuries.
+    pub fn nanos<C: ToldClock>(&mut self, clock: &mut C) -> Option<u64>
+        ensures asks { AsksOnce self.old result self.new }
+        ensures told { Appended (C.answers clock.old) (result ∷ []) (C.answers clock.new) }
     {
         self.asked = self.asked.saturating_add(1);
-        self.shown = rt.monotonic().ok();
+        self.shown = clock.ask();
         nanos_of(self.shown?)
     }
 
-    /// The moment by the clock of this runtime, in nanoseconds: a reading of it, or zero if it cannot be read.
-    pub fn moment<R: Clock>(&mut self, rt: &R) -> u64
+    /// The moment by this clock, in nanoseconds: a reading of it, or zero if it cannot be read.
+    pub fn moment<C: ToldClock>(&mut self, clock: &mut C) -> u64
         ensures moment { result ≡ moment_of self.new.shown }
         ensures asks { AsksOnce self.old self.new.shown self.new }
+        ensures told { Appended (C.answers clock.old) (self.new.shown ∷ []) (C.answers clock.new) }
     {
-        match self.nanos(rt) {
+        match self.nanos(clock) {
             Some(shown) => whole_millis(shown),
             None => 0,
         }

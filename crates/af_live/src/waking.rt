@@ -9,13 +9,15 @@ ghost use Rattle.af_backend.specs.Rounds.{next_round};
 ghost use Rattle.af_lines.specs.HeldLines.{lines_at_round_start};
 ghost use Rattle.af_live.specs.LinkTable.{link_at, something_ready, KeepsOpen, LinkWakeFits, Opens};
 ghost use Rattle.af_live.specs.Polls.{latest_poll, LeadsLinks, PolledGives};
-ghost use Rattle.af_live.specs.Readings.{late_millis, new_clock, pause_of, PausesBy, ReadsBy};
+ghost use Rattle.af_live.specs.Readings.{late_millis, no_step, pause_of, PausesBy, ReadsBy};
 ghost use Rattle.af_live.specs.Shares.{some_cut};
+ghost use Rattle.af_live.specs.Streams.{KeepsOwn, StaysOwn};
 ghost use Rattle.af_live.specs.RealWorld.{given_wake, GivesKept, LeadsLines, LeadsRound, WakeFits};
 
 use crate::held_links::HeldLinks;
 use crate::sockets::Sockets;
 use crate::timer::{NANOS_A_MILLISECOND, Timer, whole_millis};
+use crate::told_clock::ToldClock;
 use af_backend::{Devices, LONGEST_STEP_NANOS, Round};
 use af_limits::MOST_DEVICES;
 use af_lines::Lines;
@@ -23,7 +25,7 @@ use af_process::Spawner;
 use af_program::Program;
 use af_world::{Waited, Wake};
 use std::io::{Read, Write};
-use std::time::{Clock, Duration};
+use std::time::Duration;
 
 /// How many milliseconds a wait with nothing to do waits at most, and so the longest that a device may be late.
 const LONGEST_PAUSE_MILLIS: u64 = 10;
@@ -43,7 +45,7 @@ pub(crate) struct Step {
 impl Step {
     /// No step was made so far.
     pub fn new() -> Step
-        ensures { result ≡ new_clock.step }
+        ensures { result ≡ no_step }
     {
         Step {
             shown: 0,
@@ -65,20 +67,21 @@ impl Step {
 /// The reading of the clock that a round goes by: its own, or one that is taken now. After the server stood still that lags what
 /// the clock shows, step by step at most 20 milliseconds further. Between two steps rounds go by the same reading for half a
 /// millisecond, in which all clients are served, if there are any.
-fn reading<R: Clock>(
-    rt: &R,
+fn reading<C: ToldClock>(
+    clock: &mut C,
     round: &Round,
     has_links: bool,
     timer: &mut Timer,
     step: &mut Step,
 ) -> Option<u64>
-    ensures { ReadsBy round.now.reading round.now.last (record { timer = timer.old; step = step.old }) result
-        (record { timer = timer.new; step = step.new }) }
+    ensures { ReadsBy round.now.reading round.now.last
+        (record { timer = timer.old; step = step.old; answers = C.answers clock.old }) result
+        (record { timer = timer.new; step = step.new; answers = C.answers clock.new }) }
 {
     if let Some(taken) = round.reading() {
         return Some(taken);
     }
-    let shown = timer.nanos(rt)?;
+    let shown = timer.nanos(clock)?;
     let next = round.reading_after(whole_millis(shown));
     let is_late = shown.saturating_sub(next) >= LONGEST_STEP_NANOS;
     let is_served = shown.saturating_sub(step.shown) >= CATCHING_UP_PAUSE_NANOS;
@@ -111,6 +114,7 @@ fn poll_once<P: Program + Drop>(
         (λ wake. PolledGives (items sockets.new.events) wake links.old links.new) }
     ensures round { MatchOption result (round.new ≡ round.old) (λ wake. round.new ≡ next_round round.old) }
     ensures lines { MatchOption result (lines.new ≡ lines.old) (λ wake. lines.new ≡ lines_at_round_start lines.old) }
+    ensures own { KeepsOwn sockets.old.streams links.old sockets.new.streams links.new }
 {
     let went_on = round.has_ticked() || lines.has_changed();
     let pause = pause(more, went_on, is_late, links.some_cut());
@@ -127,8 +131,8 @@ fn poll_once<P: Program + Drop>(
 
 /// The next wake: what is kept ready, or the next device of the round with frames due, or the next line that changes, or what the
 /// next poll finds. None if the system was not to be asked.
-pub(crate) fn next_wake<R: Clock, F: Read + Write + Drop, S: Spawner + Drop, P: Program + Drop>(
-    rt: &R,
+pub(crate) fn next_wake<C: ToldClock, F: Read + Write + Drop, S: Spawner + Drop, P: Program + Drop>(
+    clock: &mut C,
     more: bool,
     sockets: &mut Option<Sockets>,
     links: &mut HeldLinks,
@@ -145,10 +149,14 @@ pub(crate) fn next_wake<R: Clock, F: Read + Write + Drop, S: Spawner + Drop, P: 
     ensures opens { MatchOption result (KeepsOpen links.old links.new) (λ wake. Opens wake links.old links.new) }
     ensures pauses { PausesBy more step.new.is_late links.old (latest_poll sockets.old) (latest_poll sockets.new) }
     ensures links { LeadsLinks (latest_poll sockets.new).events result links.old links.new }
-    ensures round { LeadsRound result links.old (record { timer = timer.old; step = step.old }) devices.old.round
-        devices.old.attached links.new (record { timer = timer.new; step = step.new }) devices.new.round devices.new.attached }
+    ensures round { LeadsRound result
+        links.old (record { timer = timer.old; step = step.old; answers = C.answers clock.old })
+        devices.old.round devices.old.attached
+        links.new (record { timer = timer.new; step = step.new; answers = C.answers clock.new })
+        devices.new.round devices.new.attached }
     ensures lines { LeadsLines result links.old devices.old.round lines.old links.new devices.new.round lines.new }
     ensures rest { devices.new ≡ record devices.old { round = devices.new.round; attached = devices.new.attached } }
+    ensures own { StaysOwn sockets.old links.old sockets.new links.new }
 {
     let Some(sockets) = sockets else {
         return None;
@@ -156,7 +164,7 @@ pub(crate) fn next_wake<R: Clock, F: Read + Write + Drop, S: Spawner + Drop, P: 
     if let Some(wake) = links.take_ready() {
         return Some(wake);
     }
-    let nanos = reading(rt, &devices.round, sockets.has_links(), timer, step)?;
+    let nanos = reading(clock, &devices.round, sockets.has_links(), timer, step)?;
     if let Some((device, frames)) = devices.next_tick(nanos) {
         return Some(Wake::Ticked(device, frames));
     }
@@ -172,7 +180,9 @@ pub(crate) fn next_wake<R: Clock, F: Read + Write + Drop, S: Spawner + Drop, P: 
 fn watch_programs<F: Read + Write + Drop, S: Spawner + Drop, P: Program + Drop>(
     sockets: &mut Sockets,
     devices: &Devices<F, S, P>,
-) {
+)
+    ensures { sockets.new.streams ≡ sockets.old.streams }
+{
     if !devices.round.has_programs() {
         return;
     }

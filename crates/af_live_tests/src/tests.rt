@@ -2,6 +2,7 @@
 mod adapters;
 mod card_device;
 mod children;
+mod clock;
 mod codec_device;
 mod programs;
 mod world;

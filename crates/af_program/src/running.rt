@@ -15,6 +15,9 @@ use std::net::Net;
 use std::os::unix::net::UnixStream;
 use std::process::{Child, OpenProcess, Processes, Stdio};
 
+/// How many nanoseconds lie between two looks at whether a program has ended.
+const LOOK_NANOS: u64 = 1_000_000_000;
+
 /// A program that runs, with our ends of the sockets to its input and from its output. Contracts see which ways it has.
 #[derive(Drop)]
 pub(crate) struct Running<P: OpenProcess + Drop> {
@@ -22,6 +25,8 @@ pub(crate) struct Running<P: OpenProcess + Drop> {
     ways: Ways,
     input: Option<UnixStream>,
     output: Option<UnixStream>,
+    // the moment of the last look
+    looked: u64,
 }
 
 impl<P: OpenProcess + Drop> Model for Running<P> {
@@ -76,6 +81,17 @@ impl<P: OpenProcess + Drop> Running<P> {
         self.output.as_ref()
     }
 
+    /// Waits for it at most once a second, if it has ended, so that it is no zombie while another program holds its output.
+    pub(crate) fn look(&mut self, at: u64)
+        ensures { self.new ≡ self.old }
+    {
+        if at.saturating_sub(self.looked) >= LOOK_NANOS {
+            self.looked = at;
+            // the child keeps its status until that is asked for
+            let _ = self.child.try_wait();
+        }
+    }
+
     /// Closes its sockets.
     pub(crate) fn closed(self) -> Child<P> {
         self.child
@@ -105,6 +121,7 @@ pub(crate) fn start<R: Processes + Net>(
         ways,
         input: input.ours,
         output: output.ours,
+        looked: 0,
     })
 }
 
@@ -130,5 +147,14 @@ pub(crate) fn give<P: OpenProcess + Drop>(running: &mut Option<Running<P>>, byte
     match running {
         Some(running) => running.give(bytes),
         None => Took::Ended,
+    }
+}
+
+/// Looks whether a program has ended, if one runs.
+pub(crate) fn look<P: OpenProcess + Drop>(running: &mut Option<Running<P>>, at: u64)
+    ensures { running.new ≡ running.old }
+{
+    if let Some(running) = running {
+        running.look(at);
     }
 }

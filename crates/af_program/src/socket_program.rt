@@ -7,7 +7,7 @@ ghost use Rattle.af_program.specs.Acts.{launched, runs_after, GaveFits, TookFits
 ghost use Rattle.af_program.specs.Sockets.{is_given, is_giving};
 
 use crate::ending::{Ending, keep, tend};
-use crate::running::{Running, give, start, take};
+use crate::running::{Running, give, look, start, take};
 use crate::{Gave, Launched, Program, ProgramSockets, Took, Ways};
 use af_io::Reason;
 use af_process::Words;
@@ -205,6 +205,7 @@ impl<R: Processes + Net + Drop> Program for SocketProgram<R> {
         ensures once { IsSome self.old.ended → self.new.ended ≡ self.old.ended }
         ensures rest { self.new ≡ record self.old { ending = self.new.ending; ended = self.new.ended } }
     {
+        look(&mut self.running, at);
         let seen = tend(&mut self.ending, at);
         self.ended = self.ended.or(seen);
     }

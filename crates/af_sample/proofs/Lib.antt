@@ -10,6 +10,7 @@ pub mod LaneLemmas
 pub mod VectorLemmas
 pub mod SegmentTable
 pub mod RunLemmas
+pub mod ConstantRunLemmas
 pub mod FrameLemmas
 pub mod HeardLemmas
 pub mod SinglePlayLemmas

@@ -1,5 +1,5 @@
 // Samples between their bytes and 16 bits: one sample, and runs of them.
-ghost use Rattle.std.specs.Prelude.{◌≡◌, ◌*◌, length};
+ghost use Rattle.std.specs.Prelude.{◌≡◌, ◌*◌, ◌<◌, pos, length, get_or, replicate, true};
 ghost use Rattle.af_sample.specs.SampleTypes.{width_of};
 ghost use Rattle.af_sample.specs.Samples.{bytes_of, decoded, encoded, samples};
 
@@ -47,14 +47,36 @@ fn decode_each(ty: SampleType, bytes: &[u8], out: &mut [i16])
     }
 }
 
+// Whether a run has one byte throughout, as the captures of a device that hears nothing: each is the one before it.
+fn is_one_byte(run: &[u8]) -> bool
+    requires { 0 < length run.now }
+    ensures { result ≡ true → run.now ≡ replicate (length run.now) (get_or run.now 0 0) }
+{
+    run[1..] == run[..run.len() - 1]
+}
+
+// Decodes a run of a type with one byte for each sample, sample by sample unless all are the same.
+#[inline(always)]
+fn decode_law(ty: SampleType, bytes: &[u8], out: &mut [i16])
+    requires width { width_of ty ≡ 1 }
+    requires count { length bytes.now ≡ length out.old * width_of ty }
+    ensures { out.new ≡ samples ty bytes.now }
+{
+    if !bytes.is_empty() && is_one_byte(bytes) {
+        out.fill(decode(ty, &bytes[..1]));
+    } else {
+        decode_each(ty, bytes, out);
+    }
+}
+
 /// Decodes a run: a sample for each width bytes.
 pub fn convert_in(ty: SampleType, bytes: &[u8], out: &mut [i16])
     requires { length bytes.now ≡ length out.old * width_of ty }
     ensures { out.new ≡ samples ty bytes.now }
 {
     match ty {
-        SampleType::Mu255 => decode_each(SampleType::Mu255, bytes, out),
-        SampleType::Alaw => decode_each(SampleType::Alaw, bytes, out),
+        SampleType::Mu255 => decode_law(SampleType::Mu255, bytes, out),
+        SampleType::Alaw => decode_law(SampleType::Alaw, bytes, out),
         SampleType::Lin16 => decode_each(SampleType::Lin16, bytes, out),
         SampleType::Lin32 => decode_each(SampleType::Lin32, bytes, out),
     }
@@ -87,14 +109,38 @@ fn encode_each(ty: SampleType, samples: &[i16], out: &mut [u8])
     }
 }
 
+// Whether a run has one sample throughout, as what a device hands out while nobody plays.
+fn is_one_sample(run: &[i16]) -> bool
+    requires { 0 < length run.now }
+    ensures { result ≡ true → run.now ≡ replicate (length run.now) (get_or run.now 0 (pos 0)) }
+{
+    run[1..] == run[..run.len() - 1]
+}
+
+// Encodes a run in a type with one byte for each sample, sample by sample unless all are the same.
+#[inline(always)]
+fn encode_law(ty: SampleType, samples: &[i16], out: &mut [u8])
+    requires width { width_of ty ≡ 1 }
+    requires count { length out.old ≡ length samples.now * width_of ty }
+    ensures { out.new ≡ bytes_of ty samples.now }
+{
+    if !samples.is_empty() && is_one_sample(samples) {
+        let mut byte = [0];
+        encode(ty, samples[0], &mut byte);
+        out.fill(byte[0]);
+    } else {
+        encode_each(ty, samples, out);
+    }
+}
+
 /// Encodes a run: width bytes for each sample.
 pub fn convert_out(ty: SampleType, samples: &[i16], out: &mut [u8])
     requires { length out.old ≡ length samples.now * width_of ty }
     ensures { out.new ≡ bytes_of ty samples.now }
 {
     match ty {
-        SampleType::Mu255 => encode_each(SampleType::Mu255, samples, out),
-        SampleType::Alaw => encode_each(SampleType::Alaw, samples, out),
+        SampleType::Mu255 => encode_law(SampleType::Mu255, samples, out),
+        SampleType::Alaw => encode_law(SampleType::Alaw, samples, out),
         SampleType::Lin16 => encode_each(SampleType::Lin16, samples, out),
         SampleType::Lin32 => encode_each(SampleType::Lin32, samples, out),
     }

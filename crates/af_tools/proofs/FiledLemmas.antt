@@ -19,6 +19,7 @@ use Rattle.af_lib.specs.declared.fault.ConnFault.{ConnFault}
 use Rattle.af_lib.specs.Answers.{and_then, answer_to, value_or_bad}
 use Rattle.af_lib.specs.Calls.{answer_of, as_done, as_recorded, as_time, next_sequence, opcode_of, value_in, Recorded}
 use Rattle.af_cli.specs.Sizes.{block_frames}
+use Rattle.af_cli.specs.Lengths.{at_rate}
 use Rattle.af_cli.specs.declared.job.RecordJob.{RecordJob}
 use Rattle.af_toolkit.specs.declared.end.ToolEnd.{ToolEnd}
 use Rattle.af_toolkit.specs.declared.end.ToolEnd.TheVariants as end
@@ -210,17 +211,18 @@ unfolding arecord_trace
 is_recorded job devices w how s s' h h' followed way =
     let all = is_whole followed.ended way in
     let whole = λ (o : Outcome ToolDeeds (Unit {0} × ClientState) ConnFault). trace_of refused o (λ _. ends done) in
-    let d = on_device_done (slice_get devices job.device) (length devices) (λ device. whole (records_on job device w)) all.finish in
+    let d = on_device_done (slice_get devices job.device) (length devices) (λ device. whole (records_on (at_rate device.rate job) device w)) all.finish in
     let device = d.0 in
-    let r = recorded_on job device w (part_answered (records_on job device w).end (λ _. ends done) (ap (λ (c : Trace). c.finish) (sym d.2) ∙ all.finish)) in
+    let timed = at_rate device.rate job in
+    let r = recorded_on timed device w (part_answered (records_on timed device w).end (λ _. ends done) (ap (λ (c : Trace). c.finish) (sym d.2) ∙ all.finish)) in
     let is = d.2 ∙ ap whole r.is in
     let raw = as_raw job device in
-    let raw_is = ap (λ (o : Option DeviceInfo). on_device o (length devices) (λ device. whole (records_on raw device w))) d.1 ∙ ap whole r.raw_is in
+    let raw_is = ap (λ (o : Option DeviceInfo). on_device o (length devices) (λ device. whole (records_on (at_rate device.rate raw) device w))) d.1 ∙ ap whole r.raw_is in
     record {
       device = device;
       is_there = d.1;
       samples = (arecord_trace raw devices w).output;
       are_raw = refl;
       link = subst (λ (b : List ℕ). Appended s b s') (all.sent ∙ ap (λ (c : Trace). c.sends) is ∙ sym (ap (λ (c : Trace). c.sends) raw_is)) followed.link;
-      sink = subst (λ (b : List ℕ). Appended h b h') (all.wrote ∙ ap (λ (c : Trace). c.output) is ∙ append-nil (recording_of job device r.samples) ∙ ap (recording_of job device) (sym (ap (λ (c : Trace). c.output) raw_is ∙ append-nil r.samples))) followed.sink;
+      sink = subst (λ (b : List ℕ). Appended h b h') (all.wrote ∙ ap (λ (c : Trace). c.output) is ∙ append-nil (recording_of timed device r.samples) ∙ ap (recording_of timed device) (sym (ap (λ (c : Trace). c.output) raw_is ∙ append-nil r.samples))) followed.sink;
     }

@@ -9,6 +9,7 @@ use Rattle.af_toolkit.specs.Trace.{Trace, ClientState, done, ends, refused, trac
 use Rattle.af_toolkit.specs.ToolParts.{trace_of}
 use Rattle.af_toolkit.specs.Ends.{ObservedTrace, ToolRan}
 use Rattle.af_toolkit.proofs.ToolEndLemmas.{IsDoneOrRefused, part_finish, tool_ran}
+use Rattle.af_cli.specs.Lengths.{at_rate}
 use Rattle.af_cli.specs.declared.job.PlayJob.{PlayJob}
 use Rattle.af_cli.specs.declared.job.RecordJob.{RecordJob}
 use Rattle.af_cli.specs.declared.job.SetJob.{SetJob}
@@ -73,9 +74,9 @@ pub record IsOnDevice (trace : Trace) (number : ℕ) (devices : List DeviceInfo)
   pub is : trace ≡ with_job_device number devices each
   pub finish : (device : DeviceInfo) → IsDoneOrRefused (each device).finish
 
-pub arecord_on : (job : RecordJob) (devices : List DeviceInfo) (w : ClientState) → IsOnDevice (arecord_trace job devices w) job.device devices (λ device. trace_of refused (records_on job device w) (λ _. ends done))
+pub arecord_on : (job : RecordJob) (devices : List DeviceInfo) (w : ClientState) → IsOnDevice (arecord_trace job devices w) job.device devices (λ device. trace_of refused (records_on (at_rate device.rate job) device w) (λ _. ends done))
 unfolding arecord_trace
-arecord_on job devices w = record { is = refl; finish = λ device. part_finish (records_on job device w).end (λ _. ends done) (λ _. inl refl) }
+arecord_on job devices w = record { is = refl; finish = λ device. part_finish (records_on (at_rate device.rate job) device w).end (λ _. ends done) (λ _. inl refl) }
 
 pub aset_on : (job : SetJob) (devices : List DeviceInfo) (w : ClientState) →
     IsOnDevice (aset_trace job devices w) job.device devices (λ device. trace_of refused (sets_on job device w) (λ controls_report. writes_first (controls_report_text controls_report) (ends done)))

@@ -1,5 +1,5 @@
 -- If aplay is done, each block was played.
-use Rattle.std.proofs.Common.{◌≡◌, ℕ, ap₂, ◌+◌, ◌*◌, ◌/◌, ◌%◌, ◌^◌, ◌<◌, ◌≤◌, false, List, [], ◌∷◌, ◌++◌, length, map, slice_get, sym, ap, ◌∙◌, append-nil, subst, refl, arith, inl, inr, Result, Ok, Err, IsOk, flat_map, ok_or, Option, None, Some}
+use Rattle.std.proofs.Common.{◌≡◌, ℕ, ap₂, ◌+◌, ◌*◌, ◌/◌, ◌%◌, ◌^◌, ◌<◌, ◌≤◌, false, List, [], ◌∷◌, ◌++◌, length, map, slice_get, true, sym, ap, ◌∙◌, append-nil, subst, refl, arith, inl, inr, Result, Ok, Err, IsOk, flat_map, ok_or, Option, None, Some}
 use Rattle.std.proofs.lemmas.Bool.{cases_lt}
 use Rattle.af_time.specs.DeviceTime.{frames_lasting}
 use Rattle.af_time.specs.declared.DevTime.{DevTime}
@@ -9,23 +9,24 @@ use Rattle.af_request.specs.Replies.{IsDeviceInfo}
 use Rattle.af_cli.proofs.FrameSizeLemmas.{frame_size, some_frames}
 use Rattle.af_io.specs.Observed.{Appended}
 use Rattle.af_request.specs.declared.reply.DeviceInfo.{DeviceInfo}
-use Rattle.af_request.specs.Asked.{Asked, free_ac, get_time, play_run}
+use Rattle.af_request.specs.Asked.{Asked, free_ac, get_time, play_run, record_run}
 use Rattle.af_request.specs.Answer.{Answer}
 use Rattle.af_request.specs.Requests.{request_bytes}
 use Rattle.af_wire.specs.declared.order.Order.{Order}
-use Rattle.af_lib.specs.Calls.{as_done, as_time}
+use Rattle.af_lib.specs.Calls.{Recorded, as_done, as_recorded, as_time}
 use Rattle.af_toolkit.specs.declared.end.ToolEnd.{ToolEnd}
 use Rattle.af_toolkit.specs.declared.end.ToolEnd.TheVariants as end
 use Rattle.af_cli.specs.declared.job.PlayJob.{PlayJob}
-use Rattle.af_dialogue.specs.Parts.{Outcome, after_deeds, end_among, goes_on, has_value, outcome}
+use Rattle.af_dialogue.specs.Parts.{Outcome, after_deeds, end_among, goes_on, has_value, outcome, part_among}
 use Rattle.af_dialogue.proofs.PartLemmas.{first_ok, goes_by}
 use Rattle.af_lib.specs.declared.fault.ConnFault.{ConnFault}
 use Rattle.af_toolkit.specs.Trace.{Trace, ClientState, Finish, answer_on, after_reply, done, ends, no_device, sends_first, trace_by, writes_first}
-use Rattle.af_toolkit.specs.ToolParts.{ToolDeeds, asks, deeds, doing, trace_of}
+use Rattle.af_toolkit.specs.ToolParts.{ToolDeeds, ToolPart, asks, deeds, doing, trace_of}
 use Rattle.af_tools.specs.declared.player.Played.{Played}
 use Rattle.af_sound.specs.declared.head.Coding.{Coding}
 use Rattle.af_tools.specs.declared.sound.SourceSound.{SourceSound}
 use Rattle.af_tools.specs.Sounds.{most_bytes, as_served, reads_sound, source_width, stated_part, IsServedAs}
+use Rattle.af_tools.specs.Leaving.{drained, leaves, leaving_bytes}
 use Rattle.af_tools.specs.Play.{PlayFault, PlayPart, aplay_trace, blocks, frames_in, of_reply, of_source, play_asks, play_context, play_finish, played_text, played_frames, plays_on, plays, plays_sound, start_at, whole_frames, Block, play_of, played_whole, sent_blocks, IsPlayed}
 use Rattle.af_toolkit.specs.Ends.{ObservedTrace}
 use Rattle.af_tools.proofs.PlayBlockLemmas.{plays_block, plays_last, plays_long, plays_none}
@@ -86,6 +87,21 @@ plays_done coding width start frames given (block ∷ more) w ok = elim (cases_l
   ]
 ]
 
+-- aplay has left its device
+left_done : (frame : ℕ) (last : Option ℕ) (w : ClientState) → IsOk (end_among of_reply (leaves frame last w).end) →
+    (v : ClientState) × (part_among of_reply (leaves frame last) w ≡ outcome (deeds (leaving_bytes w.order frame last) []) (Ok (tt, v)))
+left_done frame None w ok =
+    let a = asks_answered (free_ac 1) as_done w (among_ok (asks (free_ac 1) as_done w).end ok) in
+    (after_reply w, ap (λ (o : Outcome ToolDeeds (Unit {0} × ClientState) ConnFault). outcome o.did (end_among of_reply o.end)) a.2)
+left_done frame (Some at) w ok =
+    let heard = record_run true 1 at frame in
+    let next : Recorded → ToolPart (Unit {0}) = λ _. asks (free_ac 1) as_done in
+    let whole = among_ok (goes_on doing (asks heard (as_recorded true frame)) next w).end ok in
+    let a = asks_answered heard (as_recorded true frame) w (first_ok doing (asks heard (as_recorded true frame)) next w whole) in
+    let more = goes_by doing (asks heard (as_recorded true frame)) next a.2 in
+    let b = asks_answered (free_ac 1) as_done (after_reply w) (subst (λ (o : Outcome ToolDeeds (Unit {0} × ClientState) ConnFault). IsOk o.end) more whole) in
+    (after_reply (after_reply w), ap (λ (o : Outcome ToolDeeds (Unit {0} × ClientState) ConnFault). outcome o.did (end_among of_reply o.end)) (more ∙ ap (after_deeds doing (deeds (request_bytes w.order heard) [])) b.2))
+
 from_none : (m n : ℕ) → m ≡ 0 + n → m ≡ n
 from_none m n is = omega arith
 
@@ -110,24 +126,29 @@ done_on job sound device bytes w served channels begun ok =
     let start = start_at job.time b.0.0 (frames_lasting device.rate job.lead) in
     let played : ℕ → Played = λ n. record { frames = n; start = record { 0 = start } } in
     let playing = plays_sound sound count start bytes in
-    let freeing = λ (n : ℕ). goes_on doing (play_asks (free_ac 1) as_done) (λ _. has_value doing (played n)) in
+    let frame = frame_bytes sound.ty sound.channels in
+    let leaving : ℕ → PlayPart (Unit {0}) = λ n. part_among of_reply (leaves frame (drained job.drain start n)) in
+    let freeing = λ (n : ℕ). goes_on doing (leaving n) (λ _. has_value doing (played n)) in
     let v = after_reply (after_reply w) in
     let p = plays_done coding width start 0 sound.head cut v (first_ok doing playing freeing v b.3) in
     let whole_p = goes_by doing playing freeing p.is in
-    let f = play_asked (free_ac 1) as_done (λ _. has_value doing (played p.count)) p.after (subst (λ (o : Outcome ToolDeeds (Played × ClientState) PlayFault). IsOk o.end) whole_p b.3) in
+    let freed = subst (λ (o : Outcome ToolDeeds (Played × ClientState) PlayFault). IsOk o.end) whole_p b.3 in
+    let f = left_done frame (drained job.drain start p.count) p.after (first_ok doing (leaving p.count) (λ _. has_value doing (played p.count)) p.after freed) in
+    let whole_f = goes_by doing (leaving p.count) (λ _. has_value doing (played p.count)) f.1 in
     let all : p.count ≡ length samples / frame_bytes sound.ty sound.channels = from_none p.count (frames_sent width cut) p.all ∙ frames_converted coding sound.ty sound.channels count part served channels some in
     let context : List ℕ = request_bytes w.order (play_context job sound.ty sound.channels) in
     let time : List ℕ = request_bytes w.order (get_time job.device) in
     let whole : List ℕ = flat_map (play_of w.order start) (sent_served coding width 0 cut) in
     let known : List ℕ = flat_map (play_of w.order start) (sent_blocks sound.ty sound.channels (played_frames job sound.ty sound.channels) samples) in
     let same : whole ≡ known = ap (flat_map (play_of w.order start)) (sent_converted coding sound.ty sound.channels count part served channels some) in
-    let end : List ℕ → List ℕ → ℕ → Outcome ToolDeeds (Played × ClientState) PlayFault = λ plays free n. outcome (deeds (context ++ (time ++ (plays ++ free))) []) (Ok (played n, after_reply p.after)) in (
+    let end : List ℕ → List ℕ → ℕ → Outcome ToolDeeds (Played × ClientState) PlayFault = λ plays free n. outcome (deeds (context ++ (time ++ (plays ++ free))) []) (Ok (played n, f.0)) in
+    let bytes_for : Order → ℕ → List ℕ = λ o n. leaving_bytes o frame (drained job.drain start n) in (
       b.0,
-      after_reply p.after,
+      f.0,
       b.1,
-      a.2 ∙ ap (after_deeds doing (deeds context [])) (b.2 ∙ ap (after_deeds doing (deeds time [])) (whole_p ∙ ap (after_deeds doing (deeds whole [])) f.2))
-          ∙ ap (λ (l : List ℕ). end whole l p.count) (append-nil (request_bytes p.after.order (free_ac 1)) ∙ ap (λ (o : Order). request_bytes o (free_ac 1)) p.order)
-          ∙ ap₂ (λ (l : List ℕ) (n : ℕ). end l (request_bytes w.order (free_ac 1)) n) same all,
+      a.2 ∙ ap (after_deeds doing (deeds context [])) (b.2 ∙ ap (after_deeds doing (deeds time [])) (whole_p ∙ ap (after_deeds doing (deeds whole [])) whole_f))
+          ∙ ap (λ (l : List ℕ). end whole l p.count) (append-nil (bytes_for p.after.order p.count) ∙ ap (λ (o : Order). bytes_for o p.count) p.order)
+          ∙ ap₂ (λ (l : List ℕ) (n : ℕ). end l (bytes_for w.order n) n) same all,
     )
 
 -- no cause for which playing ends early is that it is done

@@ -4,7 +4,7 @@ use Rattle.std.specs.Prelude.{⊤}
 use Rattle.std.proofs.lemmas.Bool.Decides.{nat_tests}
 use Rattle.af_dialogue.specs.Parts.{answered, end_among, followed, goes_on, has_value}
 use Rattle.af_request.specs.declared.reply.DeviceInfo.{DeviceInfo}
-use Rattle.af_request.specs.Asked.{Asked, free_ac, get_time, play_run}
+use Rattle.af_request.specs.Asked.{Asked, get_time, play_run}
 use Rattle.af_request.specs.Answer.{Answer}
 use Rattle.af_lib.specs.declared.fault.ConnFault.{ConnFault}
 use Rattle.af_lib.specs.Calls.{as_done, as_time}
@@ -16,7 +16,10 @@ use Rattle.af_sound.specs.declared.head.Coding.{Coding}
 use Rattle.af_tools.specs.declared.player.Played.{Played}
 use Rattle.af_tools.specs.declared.sound.SourceSound.{SourceSound}
 use Rattle.af_tools.specs.Sounds.{most_bytes, as_served, stated_part}
-use Rattle.af_tools.specs.Play.{PlayFault, PlayPart, block_time, blocks, cut_blocks, of_reply, of_source, play_asks, play_context, play_finish, plays_on, plays, plays_sound}
+use Rattle.af_tools.specs.Play.{PlayFault, PlayPart, block_time, blocks, cut_blocks, of_reply, of_source, play_asks, play_context, play_finish, plays_on, plays, plays_sound, start_at}
+use Rattle.af_tools.specs.Leaving.{drained, leaves}
+use Rattle.af_time.specs.DeviceTime.{frames_lasting}
+use Rattle.af_sample.specs.SampleTypes.{frame_bytes}
 
 -- a part of aplay does not end for the source
 abbrev IsFit : {X : Type 0} → Result X PlayFault → Type 0
@@ -34,6 +37,11 @@ fit_on part next w first more = fit_followed (part w).did (part w).end next firs
 fit_answered : {X : Type 0} (answer : Result X ConnFault) (v : ClientState) → IsFit (end_among of_reply (answered answer v))
 fit_answered (Ok x) v = tt
 fit_answered (Err f) v = tt
+
+-- a part of the tool alone never ends for its source
+fit_named : {X : Type 0} (end : Result X ConnFault) → IsFit (end_among of_reply end)
+fit_named (Ok x) = tt
+fit_named (Err f) = tt
 
 fit_asks : {X : Type 0} (asked : Asked) (value_of : Answer → Option X) (w : ClientState) → IsFit (play_asks asked value_of w).end
 unfolding asks
@@ -78,4 +86,4 @@ played_finish job sound device bytes w next within more =
     (fit_on _ _ w (fit_asks (play_context job sound.ty sound.channels) as_done w) (λ _ v.
     fit_on _ _ v (fit_asks (get_time job.device) as_time v) (λ now v.
     fit_on _ _ v (sound_fit sound _ _ bytes v within) (λ frames v.
-    fit_on _ _ v (fit_asks (free_ac 1) as_done v) (λ _ v. tt))))) more
+    fit_on _ _ v (fit_named (leaves (frame_bytes sound.ty sound.channels) (drained job.drain (start_at job.time now.0 (frames_lasting device.rate job.lead)) frames) v).end) (λ _ v. tt))))) more

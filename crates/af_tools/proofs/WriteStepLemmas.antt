@@ -11,6 +11,7 @@ use Rattle.af_request.specs.Asked.{Asked, free_ac, get_time, record_run}
 use Rattle.af_request.specs.Requests.{request_bytes}
 use Rattle.af_lib.specs.declared.fault.ConnFault.{ConnFault}
 use Rattle.af_lib.specs.Calls.{Recorded, as_done, as_recorded, as_time}
+use Rattle.af_cli.specs.Lengths.{at_rate}
 use Rattle.af_cli.specs.declared.job.RecordJob.{RecordJob}
 use Rattle.af_cli.specs.Sizes.{block_frames}
 use Rattle.af_sound.specs.declared.head.SoundForm.{SoundForm}
@@ -293,10 +294,10 @@ wrote_by {before = before} {a = a} {c} {h} {j} same s = (
   refl,
 )
 
--- the same of a device by another name, and for a weaker cause
-pub records_for : (job : RecordJob) {d device : DeviceInfo} {w : ClientState} {failed failed' : Type 0} {a c h j : Option (List ℕ)} → Some d ≡ Some device → (failed → failed') → RecordsInStep job d w failed a c h j → RecordsInStep job device w failed' a c h j
-records_for job {d} {device} {w} {failed} {failed'} {a} {c} {h} {j} same weaker steps = subst (λ (x : DeviceInfo). RecordsInStep job x w failed' a c h j) (let one : d ≡ device = cc in one) (by steps) where
-  by : RecordsInStep job d w failed a c h j → RecordsInStep job d w failed' a c h j
+-- the same of a device by another name, whose rate is that of the job, and for a weaker cause
+pub records_for : (job : RecordJob) {d device : DeviceInfo} {w : ClientState} {failed failed' : Type 0} {a c h j : Option (List ℕ)} → Some d ≡ Some device → (failed → failed') → RecordsInStep (at_rate d.rate job) d w failed a c h j → RecordsInStep (at_rate device.rate job) device w failed' a c h j
+records_for job {d} {device} {w} {failed} {failed'} {a} {c} {h} {j} same weaker steps = subst (λ (x : DeviceInfo). RecordsInStep (at_rate x.rate job) x w failed' a c h j) (let one : d ≡ device = cc in one) (by steps) where
+  by : RecordsInStep (at_rate d.rate job) d w failed a c h j → RecordsInStep (at_rate d.rate job) d w failed' a c h j
   by (inl begun) = inl begun
   by (inr s) = inr (record {
     taken = s.taken;

@@ -1,4 +1,5 @@
 pub mod Sounds
+pub mod Leaving
 pub mod Play
 pub mod Reading
 pub mod Steps

@@ -8,7 +8,7 @@ use Rattle.af_sample.specs.Channels.{IsChannelCount}
 use Rattle.af_sample.specs.SampleTypes.{code_of, frame_bytes}
 use Rattle.af_sound.specs.declared.head.Coding.{Coding}
 use Rattle.af_request.specs.declared.reply.DeviceInfo.{DeviceInfo}
-use Rattle.af_request.specs.Asked.{Asked, create_ac, free_ac, play_run, get_time}
+use Rattle.af_request.specs.Asked.{Asked, create_ac, play_run, get_time}
 use Rattle.af_request.specs.Fields.{flag_byte}
 use Rattle.af_lib.specs.Calls.{as_done, as_time}
 use Rattle.af_cli.specs.declared.job.PlayJob.{PlayJob}
@@ -19,6 +19,7 @@ use Rattle.af_lib.specs.declared.fault.ConnFault.{ConnFault}
 use Rattle.af_toolkit.specs.Trace.{Trace, ClientState, Finish, after_reply, answer_on}
 use Rattle.af_toolkit.specs.Trace.{done, ends, refused, too_long, trace_by, with_job_device, writes_first}
 use Rattle.af_toolkit.specs.ToolParts.{ToolDeeds, asks, doing, trace_of}
+use Rattle.af_tools.specs.Leaving.{drained, leaves, leaving_bytes}
 use Rattle.af_tools.specs.declared.player.Played.{Played}
 use Rattle.af_tools.specs.declared.sound.SourceSound.{SourceSound}
 use Rattle.af_tools.specs.Sounds.{most_bytes, as_served, reads_sound, source_width, stated_part, GivesSamples}
@@ -105,14 +106,15 @@ play_context job ty channels = create_ac job.device 1 (code_of ty) channels (fla
 abbrev pub played_frames : PlayJob → SampleType → (channels : ℕ) → ℕ
 played_frames job ty channels = block_frames job.block (frame_bytes ty channels)
 
--- a context is made, the device's time asked for, the blocks played, and the context freed: how many frames, and from when on
+-- a context is made, the device's time asked for, the blocks played, the last frame waited for where the job asks for it, and the
+-- context freed: how many frames, and from when on
 abbrev pub plays_on : PlayJob → SourceSound → DeviceInfo → List ℕ → PlayPart Played
 plays_on job sound device bytes =
     goes_on doing (play_asks (play_context job sound.ty sound.channels) as_done) (λ _.
     goes_on doing (play_asks (get_time job.device) as_time) (λ now.
     let start = start_at job.time now.0 (frames_lasting device.rate job.lead) in
     goes_on doing (plays_sound sound (played_frames job sound.ty sound.channels) start bytes) (λ frames.
-    goes_on doing (play_asks (free_ac 1) as_done) (λ _.
+    goes_on doing (part_among of_reply (leaves (frame_bytes sound.ty sound.channels) (drained job.drain start frames))) (λ _.
     has_value doing (record { frames = frames; start = record { 0 = start } })))))
 
 -- the trace of aplay: it reads a header, if the source has one, plays all, and then writes how much, and from when on
@@ -179,12 +181,13 @@ HeardAsIntended =
 abbrev pub play_of : Order → ℕ → Block → List ℕ
 play_of order start block = request_bytes order (play_run false 1 ((start + block.before) % 2 ^ 32) block.bytes)
 
--- what is sent: a context is made and the time asked for, each block of the samples is played, and the context is freed
+-- what is sent: a context is made and the time asked for, each block of the samples is played, the last frame is waited for where
+-- the job asks for it, and the context is freed
 abbrev pub played_whole : Order → PlayJob → SampleType → (channels : ℕ) → List ℕ → ℕ → List ℕ
 played_whole order job ty channels samples start =
     request_bytes order (play_context job ty channels) ++ (request_bytes order (get_time job.device)
     ++ (flat_map (play_of order start) (sent_blocks ty channels (played_frames job ty channels) samples)
-    ++ request_bytes order (free_ac 1)))
+    ++ leaving_bytes order (frame_bytes ty channels) (drained job.drain start (length samples / frame_bytes ty channels))))
 
 -- A job is done: the samples of the source were played from a start on, and a device that accepts the blocks plays all of them.
 pub record IsPlayed (job : PlayJob) (devices : List DeviceInfo) (bytes : List ℕ) (w : ClientState)

@@ -21,6 +21,7 @@ use Rattle.af_tools.specs.Sounds.{served_type}
 use Rattle.af_sample.specs.Samples.{samples}
 use Rattle.af_request.specs.Asked.{Asked, create_ac, free_ac, record_run}
 use Rattle.af_lib.specs.Calls.{as_done, as_recorded, ConnState}
+use Rattle.af_cli.specs.Lengths.{at_rate}
 use Rattle.af_cli.specs.Sizes.{block_frames}
 use Rattle.af_dialogue.specs.Parts.{goes_on, has_value}
 use Rattle.af_toolkit.specs.Trace.{Trace, ClientState, done, ends, refused, with_job_device}
@@ -160,12 +161,14 @@ records_on job device =
     goes_on doing (writes_recording job device (unwrap_or job.time now.0)) (λ _.
     asks (free_ac 1) as_done))
 
--- the trace of arecord, by the devices of the server and what the link gives
+-- the trace of arecord, by the devices of the server and what the link gives; seconds are those of the device
 unfoldable pub arecord_trace : RecordJob → List DeviceInfo → ClientState → Trace
 arecord_trace job devices w =
-    with_job_device job.device devices (λ device. trace_of refused (records_on job device w) (λ _. ends done))
+    with_job_device job.device devices (λ device.
+    trace_of refused (records_on (at_rate device.rate job) device w) (λ _. ends done))
 
--- A job is done: it sent the requests of a raw recording, and wrote that recording, as a sound file if it writes one.
+-- A job is done: it sent the requests of a raw recording, and wrote that recording, as a sound file if it writes one, whose
+-- header has the length in frames of the device.
 pub record IsRecorded (job : RecordJob) (devices : List DeviceInfo) (w : ClientState)
     (sent sent' held held' : Option (List ℕ)) : Type 0 where
   pub device : DeviceInfo
@@ -173,7 +176,7 @@ pub record IsRecorded (job : RecordJob) (devices : List DeviceInfo) (w : ClientS
   pub samples : List ℕ
   pub are_raw : samples ≡ (arecord_trace (as_raw job device) devices w).output
   pub link : Appended sent (arecord_trace (as_raw job device) devices w).sends sent'
-  pub sink : Appended held (recording_of job device samples) held'
+  pub sink : Appended held (recording_of (at_rate device.rate job) device samples) held'
 
 -- arecord, if it is done, over a connection whose link is observable
 abbrev pub LeavesRecording : {L K : Type 0} → (left sent : L → Option (List ℕ)) → (held : K → Option (List ℕ)) → RecordJob →

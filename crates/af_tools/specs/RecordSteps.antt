@@ -8,6 +8,7 @@ use Rattle.af_request.specs.Asked.{Asked, get_time}
 use Rattle.af_request.specs.Requests.{request_bytes}
 use Rattle.af_lib.specs.Calls.{ConnState}
 use Rattle.af_cli.specs.declared.job.RecordJob.{RecordJob}
+use Rattle.af_cli.specs.Lengths.{at_rate}
 use Rattle.af_cli.specs.Sizes.{block_frames}
 use Rattle.af_toolkit.specs.declared.end.ToolEnd.{ToolEnd}
 use Rattle.af_toolkit.specs.declared.end.ToolEnd.TheVariants as end
@@ -66,5 +67,5 @@ abbrev pub RunsWriting : {L K : Type 0} → (left sent : L → Option (List ℕ)
     ToolEnd → (conn conn' : ConnState L) → (sink sink' : K) → Type 0
 RunsWriting left sent held job how conn conn' sink sink' = (input : List ℕ) → left conn.link ≡ Some input →
     (device : DeviceInfo) → slice_get conn.devices job.device ≡ Some device →
-    RecordsInStep job device (client_of conn input) (how ≡ end.SinkFault) (sent conn.link) (sent conn'.link)
+    RecordsInStep (at_rate device.rate job) device (client_of conn input) (how ≡ end.SinkFault) (sent conn.link) (sent conn'.link)
     (held sink) (held sink')

@@ -8,6 +8,7 @@ use Rattle.af_wire.specs.Front.{setup_bytes}
 use Rattle.af_request.specs.declared.reply.DeviceInfo.{DeviceInfo}
 use Rattle.af_cli.specs.declared.job.Task.{Task}
 use Rattle.af_cli.specs.declared.job.Task.TheVariants as task
+use Rattle.af_cli.specs.Lengths.{at_rate}
 use Rattle.af_cli.specs.Words.{Job, one, relay}
 use Rattle.af_toolkit.specs.declared.end.ToolEnd.{ToolEnd}
 use Rattle.af_toolkit.specs.declared.end.ToolEnd.TheVariants as end
@@ -25,7 +26,7 @@ TaskSteps (task.Play job) devices bytes w how left' sent sent' held held' =
     AplaySteps job devices bytes w (how ≡ end.ReadFault) left' sent sent'
 TaskSteps (task.Record job) devices bytes w how left' sent sent' held held' =
     (device : DeviceInfo) → slice_get devices job.device ≡ Some device →
-    RecordsInStep job device w (how ≡ end.SinkFault) sent sent' held held'
+    RecordsInStep (at_rate device.rate job) device w (how ≡ end.SinkFault) sent sent' held held'
 TaskSteps (task.Set job) devices bytes w how left' sent sent' held held' = ⊤
 TaskSteps task.List devices bytes w how left' sent sent' held held' =
     ListsInStep devices w (how ≡ end.SinkFault) sent sent' held held'

@@ -4,6 +4,7 @@
 mod file;
 mod fill;
 pub mod laws;
+mod leave;
 mod memory;
 mod play;
 mod player;

@@ -15,6 +15,7 @@ ghost use Rattle.af_tools.specs.Sounds.{most_bytes, IsServedAs};
 ghost use Rattle.af_tools.specs.Steps.{PlaysInStep, RunsInStep};
 ghost use Rattle.af_cli.specs.Sizes.{greatest_block};
 
+use crate::leave::{GREATEST_FRAME, last_frame, leave};
 use crate::play::{Playback, play_blocks, read_early, read_first};
 use crate::report::report;
 use crate::sound::{SourceSound, sound_of};
@@ -24,9 +25,7 @@ use af_lib::Conn;
 use af_request::DeviceInfo;
 use af_sample::{Gain, SampleType};
 use af_time::DevTime;
-use af_toolkit::{
-    ToolContext, ToolEnd, device_time, device_with, finish, make_context, time_after_frames,
-};
+use af_toolkit::{ToolContext, ToolEnd, device_time, device_with, make_context, time_after_frames};
 
 // How many frames were played, and from when on.
 #[derive(Clone, Copy)]
@@ -135,7 +134,9 @@ fn play_on<L: Link + Drop, S: Source>(
         start,
     };
     let frames = play_blocks(conn, source, playback, first, room)?;
-    finish(conn)?;
+    let last = last_frame(job.drain, start, frames);
+    let mut heard = [0; GREATEST_FRAME];
+    leave(conn, last, sound.ty.frame_bytes(sound.channels), &mut heard)?;
     Ok(Played { frames, start })
 }
 

@@ -107,8 +107,8 @@ fn record_on<L: Link + Drop, K: Sink>(
     finish(conn)
 }
 
-/// Records n frames of a device in blocks, and writes each block to the sink, as samples or in a sound file. Enough quiet blocks
-/// in a row end it early. The connection is one that was just made; room for 16000 bytes is handed in.
+/// Records n frames of a device in blocks, or n seconds of it, and writes each block to the sink, as samples or in a sound file.
+/// Enough quiet blocks in a row end it early. The connection is one that was just made; room for 16000 bytes is handed in.
 pub fn arecord<L: Link + Drop, K: Sink>(
     job: &RecordJob,
     conn: &mut Conn<L>,
@@ -138,7 +138,7 @@ pub fn arecord<L: Link + Drop, K: Sink>(
         Ok(device) => device,
         Err(end) => return end,
     };
-    match record_on(job, device, conn, sink, room) {
+    match record_on(&job.at_rate(device.rate), device, conn, sink, room) {
         Ok(()) => ToolEnd::Done,
         Err(end) => end,
     }

@@ -1,8 +1,7 @@
 // The lines after that of the end, if details are wanted.
 use af_io::{Args, StdSink, StdSource};
-use afd_details::{
-    KeptSource, Shown, tell_config_fault, tell_reason, tell_script_fault, tell_usage,
-};
+use af_shown::Shown;
+use afd_details::{KeptSource, tell_config_fault, tell_reason, tell_script_fault, tell_usage};
 use afd_log::{ListenRefusal, Log};
 use afd_script::ScriptEnd;
 use afd_serve::LiveEnd;
@@ -17,7 +16,7 @@ pub(crate) fn tell_script<R: Read + Drop, W: Write + Drop>(
     sink: &StdSink<W>,
 ) {
     match (end, source.kept()) {
-        (ScriptEnd::Usage, _) => tell_usage(rt, words),
+        (ScriptEnd::Usage, _) => tell_usage(rt, rt.alloc(), words),
         (ScriptEnd::ScriptFault { line }, Some(text)) => tell_script_fault(rt, text, line),
         (ScriptEnd::ReadFault, _) => tell_reason(rt, "standard input", source.source().reason()),
         (ScriptEnd::SinkFault, _) => tell_reason(rt, "standard output", sink.reason()),
@@ -35,7 +34,7 @@ pub(crate) fn tell_live<R: Read + Drop>(
     log: &Log<'_>,
 ) {
     match (end, source.kept()) {
-        (LiveEnd::Usage, _) => tell_usage(rt, words),
+        (LiveEnd::Usage, _) => tell_usage(rt, rt.alloc(), words),
         (LiveEnd::ConfigFault { line }, Some(text)) => tell_config_fault(rt, text, line),
         (LiveEnd::ReadFault, _) => tell_reason(rt, "standard input", source.source().reason()),
         (LiveEnd::ListenFault, _) => tell_listen(rt, words, refusal),

@@ -10,12 +10,36 @@ use crate::ends::{report_live, report_script};
 use af_io::{
     Args, StdSink, StdSource, WordsFault, open_standard_streams, program_words, wants_details,
 };
-use afd_details::{KeptSource, tell_not_text};
+use af_version::{PageFault, write_page};
+use afd_details::{KeptSource, Page, page_asked, tell_not_text, tell_reason};
 use afd_log::{Log, logged_world};
 use afd_script::{ScriptEnd, afd_script};
-use afd_serve::{LiveEnd, afd_live};
+use afd_serve::{Endless, afd_live};
 use std::io;
 use std::process::ExitCode;
+
+// The page of help, or the version, to standard output.
+fn show(rt: &HostRuntime, page: Page) -> ExitCode {
+    let mut sink = StdSink::new(io::writer(rt));
+    let ended = match write_page(rt.alloc(), &page, &mut sink) {
+        Ok(()) => ended_script(rt, ScriptEnd::Done),
+        Err(PageFault::SinkFault) => ended_script(rt, ScriptEnd::SinkFault),
+        Err(PageFault::OutOfMemory) => ended_script(rt, ScriptEnd::OutOfMemory),
+    };
+    if wants_details(rt) {
+        tell_reason(rt, "standard output", sink.reason());
+    }
+    ended
+}
+
+// The command that the first word names.
+fn run_command(rt: &HostRuntime, endless: &dyn Endless, words: &Args) -> ExitCode {
+    match page_asked(words) {
+        Some(page) => show(rt, page),
+        None if words.word(0) == Some("serve") => run_server(rt, endless, words),
+        None => run_script(rt, words),
+    }
+}
 
 // A script or an exercise, over standard input and output.
 fn run_script(rt: &HostRuntime, words: &Args) -> ExitCode {
@@ -31,12 +55,12 @@ fn run_script(rt: &HostRuntime, words: &Args) -> ExitCode {
 }
 
 // The server, over standard input, sockets, files, child programs and the clock.
-fn run_server(rt: &HostRuntime, words: &Args) -> ExitCode {
+fn run_server(rt: &HostRuntime, endless: &dyn Endless, words: &Args) -> ExitCode {
     let details = wants_details(rt);
     let log = Log::new(rt, details);
     let mut world = logged_world(rt, &log);
     let mut source = KeptSource::new(rt.alloc(), StdSource::new(rt.reader()), details);
-    let end = afd_live(rt.alloc(), words, &mut source, &mut world);
+    let end = afd_live(rt.alloc(), endless, words, &mut source, &mut world);
     // if standard error takes nothing, the exit status still says how it ended
     let _ = report_live(rt, end);
     if details {
@@ -55,7 +79,7 @@ fn ended_script(rt: &HostRuntime, end: ScriptEnd) -> ExitCode {
 fn ended_not_text(rt: &HostRuntime) -> ExitCode {
     let ended = ended_script(rt, ScriptEnd::Usage);
     if wants_details(rt) {
-        tell_not_text(rt);
+        tell_not_text(rt, rt.alloc());
     }
     ended
 }
@@ -63,8 +87,7 @@ fn ended_not_text(rt: &HostRuntime) -> ExitCode {
 fn main(rt: HostRuntime) -> ExitCode {
     open_standard_streams(&rt);
     match program_words(rt.alloc(), &rt) {
-        Ok(words) if words.word(0) == Some("serve") => run_server(&rt, &words),
-        Ok(words) => run_script(&rt, &words),
+        Ok(words) => run_command(&rt, &rt, &words),
         Err(WordsFault::NotText) => ended_not_text(&rt),
         Err(WordsFault::OutOfMemory) => ended_script(&rt, ScriptEnd::OutOfMemory),
     }

@@ -1,8 +1,8 @@
 // The first word of a line that is wrong at its place, and what may stand there.
-use crate::Shown;
 use crate::slot::Slot;
 use af_config::{MOST_CARD_RESTARTS, MOST_RESTARTS};
 use af_limits::{LONGEST_SEND, LONGEST_TICK};
+use af_shown::Shown;
 use std::fmt;
 use std::fmt::{Formatter, Write};
 

@@ -6,14 +6,14 @@ mod config_line;
 mod finding;
 mod kept_source;
 mod line_words;
+mod page;
 mod script_line;
-mod shown;
 mod slot;
 mod stated;
 mod tell;
 mod usage;
 
 pub use kept_source::KeptSource;
-pub use shown::Shown;
+pub use page::{Page, page_asked};
 pub use tell::{tell_config_fault, tell_reason, tell_script_fault};
 pub use usage::{tell_not_text, tell_usage};

@@ -1,10 +1,10 @@
 // The lines after that of an end.
-use crate::Shown;
 use crate::config_line::config_finding;
 use crate::finding::Finding;
 use crate::script_line::script_finding;
 use crate::stated::line_numbered;
 use af_io::Reason;
+use af_shown::Shown;
 use std::str;
 
 /// Says what is wrong with a line of a configuration.

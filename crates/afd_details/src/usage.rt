@@ -1,26 +1,25 @@
 // What is wrong with the arguments of the server's program.
-use crate::Shown;
+use crate::page::{Page, tell_page};
 use af_io::Args;
 use af_limits::LONGEST_ADDRESS;
+use af_shown::Shown;
 use af_text::long_number_between;
+use std::alloc::Global;
 
 /// The most waits that may be asked for, and the most turns of an exercise.
-const MOST_WAITS: u64 = 9223372036854775807;
+pub(crate) const MOST_WAITS: u64 = 9223372036854775807;
 
 const MOST_TURNS: u64 = 10000;
 
 /// Says which of the words is wrong, and how the program is used; or, where that is asked for, which version it is.
-pub fn tell_usage(rt: &impl Eprint, words: &Args) {
+pub fn tell_usage(rt: &impl Eprint, alloc: Global, words: &Args) {
     match words.word(0) {
         None => {}
-        Some("--version") => {
-            let _ = eprintln!(rt; "afd: AudioFile, unreleased");
-            return;
-        }
+        Some("--version") => return tell_page(rt, alloc, Page::Version),
         Some(_) if asks_for_help(words) => {}
         Some("serve") => tell_serve(rt, words),
         Some("exercise") => tell_exercise(rt, words),
-        Some("script") => tell_excess(rt, words.word(1)),
+        Some("script" | "help" | "version") => tell_excess(rt, words.word(1)),
         Some(name) => {
             let _ = eprintln!(rt;
                 "afd: there is no command '{}'",
@@ -28,13 +27,13 @@ pub fn tell_usage(rt: &impl Eprint, words: &Args) {
             );
         }
     }
-    tell_commands(rt);
+    tell_page(rt, alloc, Page::Commands);
 }
 
 /// Says that a word is no text.
-pub fn tell_not_text(rt: &impl Eprint) {
+pub fn tell_not_text(rt: &impl Eprint, alloc: Global) {
     let _ = eprintln!(rt; "afd: a word is not UTF-8");
-    tell_commands(rt);
+    tell_page(rt, alloc, Page::Commands);
 }
 
 /// Whether a word asks for help.
@@ -45,22 +44,6 @@ fn asks_for_help(words: &Args) -> bool {
         }
     }
     false
-}
-
-/// The commands, each with its words.
-fn tell_commands(rt: &impl Eprint) {
-    let _ = eprintln!(rt; "afd: usage: afd COMMAND, with one of these commands:");
-    let _ = eprintln!(rt;
-        "afd:   serve ADDRESS WAITS   serves, with the configuration that standard input gives"
-    );
-    let _ = eprintln!(rt; "afd:   script                runs the script that standard input gives");
-    let _ = eprintln!(rt;
-        "afd:   exercise SEED TURNS   runs the script that a seed and a number of turns stand for"
-    );
-    let _ = eprintln!(rt;
-        "afd: ADDRESS is HOST:PORT, such as 127.0.0.1:1701; WAITS is 1 to {MOST_WAITS}"
-    );
-    let _ = eprintln!(rt; "afd: see afd(8)");
 }
 
 /// What is wrong with `serve ADDRESS WAITS`.
@@ -77,7 +60,7 @@ fn tell_serve(rt: &impl Eprint, words: &Args) {
         let _ = eprintln!(rt; "afd: ADDRESS has more than {LONGEST_ADDRESS} bytes");
         return;
     }
-    tell_number(rt, "WAITS", 1, MOST_WAITS, words.word(2));
+    tell_waits(rt, words.word(2));
     tell_excess(rt, words.word(3));
 }
 
@@ -86,6 +69,24 @@ fn tell_exercise(rt: &impl Eprint, words: &Args) {
     tell_number(rt, "SEED", 0, u64::MAX, words.word(1));
     tell_number(rt, "TURNS", 1, MOST_TURNS, words.word(2));
     tell_excess(rt, words.word(3));
+}
+
+/// What is wrong with the number of waits, if something is.
+fn tell_waits(rt: &impl Eprint, word: Option<&str>) {
+    match word {
+        None => {
+            let _ = eprintln!(rt; "afd: WAITS is missing: it is forever, or 1 to {MOST_WAITS}");
+        }
+        Some("forever") => {}
+        Some(word) => {
+            if long_number_between(1, MOST_WAITS, word.as_bytes()).is_none() {
+                let word = Shown::new(word.as_bytes());
+                let _ = eprintln!(rt;
+                    "afd: '{word}' is no WAITS: it is forever, or 1 to {MOST_WAITS}"
+                );
+            }
+        }
+    }
 }
 
 /// What is wrong with a number, if something is.

@@ -1,8 +1,8 @@
 // What a device is, in words.
 use af_process::Words;
 use af_sample::SampleType;
+use af_shown::Shown;
 use af_world::{CardKind, DeviceSpec, Kind};
-use afd_details::Shown;
 use std::fmt;
 use std::fmt::{Formatter, Write};
 

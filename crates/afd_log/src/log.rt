@@ -1,32 +1,36 @@
-// The lines of the log: at most 50 in a second, and none that standard error does not take at once.
-use crate::gate::Gate;
+// The lines of the log: at most 50 in a second, 25 of them on connections, and none that standard error does not take at once.
+use crate::outlet::Outlet;
+use crate::quota::Quota;
 use crate::refusal::Refusal;
 use af_io::Reason;
 use af_process::{Finished, Started};
+use af_shown::Shown;
 use af_world::Kind;
-use afd_details::Shown;
 use std::cell::{Cell, RefCell};
 use std::fmt;
 use std::fmt::{Display, Formatter, Write};
 use std::time::Clock;
 
-/// How many lines are written in a second.
+const NANOS_A_SECOND: u64 = 1_000_000_000;
+
+/// How many lines are written in a second, and how many of them on connections: many clients hide nothing of a device.
 const MOST_LINES: u32 = 50;
 
-const NANOS_A_SECOND: u64 = 1_000_000_000;
+const MOST_CONNECTION_LINES: u32 = 25;
 
 /// The log of a server. It is written where details are wanted, by whoever holds a reference to it; and it keeps why the system
 /// refused something last, wanted or not.
 #[derive(Drop)]
 pub struct Log<'a> {
     rt: &'a HostRuntime,
-    gate: RefCell<Option<Gate>>,
+    outlet: RefCell<Outlet>,
     is_wanted: bool,
-    /// The second of the clock that it is, and how many lines were written in it.
-    second: Cell<u64>,
-    lines: Cell<u32>,
-    /// How many lines were left out since the last that says so.
+    /// All lines of a second, and those on connections.
+    lines: Cell<Quota>,
+    connection_lines: Cell<Quota>,
+    /// How many lines were left out since the last that says so, and a second of the clock: in a later one that is to be told.
     left_out: Cell<u64>,
+    left_out_second: Cell<u64>,
     reason: Cell<Option<Reason>>,
     refusal: RefCell<Option<Refusal>>,
     /// The device that is attached now, the one with a codec, and how many starts its program has left.
@@ -42,18 +46,19 @@ pub struct Log<'a> {
 impl<'a> Log<'a> {
     /// A log without lines. All its memory is taken here. If there is none, lines are written nevertheless.
     pub fn new(rt: &'a HostRuntime, is_wanted: bool) -> Log<'a> {
-        let gate = if is_wanted {
-            Gate::new(rt, rt.alloc()).ok()
+        let outlet = if is_wanted {
+            Outlet::new(rt)
         } else {
-            None
+            Outlet::Plain
         };
         Log {
             rt,
-            gate: RefCell::new(gate),
+            outlet: RefCell::new(outlet),
             is_wanted,
-            second: Cell::new(0),
-            lines: Cell::new(0),
+            lines: Cell::new(Quota::new(MOST_LINES)),
+            connection_lines: Cell::new(Quota::new(MOST_CONNECTION_LINES)),
             left_out: Cell::new(0),
+            left_out_second: Cell::new(0),
             reason: Cell::new(None),
             refusal: RefCell::new(None),
             attaching: Cell::new(0),
@@ -69,23 +74,53 @@ impl<'a> Log<'a> {
         self.is_wanted
     }
 
-    /// Writes a line, if lines are wanted, this second has room for it, and standard error takes it.
+    /// Writes a line, if lines are wanted. One for which this second or standard error has no room is left out, and counted.
     pub fn line<D: Display + Drop>(&self, text: D) {
-        if !self.is_wanted {
-            return;
-        }
-        self.begin_second();
-        if self.lines.get() < MOST_LINES {
-            self.put(text);
-        } else {
+        if self.is_wanted && !self.try_line(text) {
             self.leave_out();
         }
     }
 
-    /// Says how many lines were left out, once another second has begun.
+    /// Writes a line on a connection, as `line` does.
+    pub(crate) fn connection_line<D: Display + Drop>(&self, text: D) {
+        if self.is_wanted && !self.try_connection_line(text) {
+            self.leave_out();
+        }
+    }
+
+    /// Writes a line, if this second and standard error have room for it. Whether it was written. One that was not is to be told
+    /// later by who wanted it.
+    pub(crate) fn try_line<D: Display + Drop>(&self, text: D) -> bool {
+        let second = self.second();
+        self.tell_left_out(second);
+        let mut quota = self.lines.get();
+        if !quota.has_room(second) || !self.put(text) {
+            return false;
+        }
+        quota.count(second);
+        self.lines.set(quota);
+        true
+    }
+
+    /// Writes a line on connections, as `try_line` does.
+    pub(crate) fn try_connection_line<D: Display + Drop>(&self, text: D) -> bool {
+        let second = self.second();
+        let mut quota = self.connection_lines.get();
+        if !quota.has_room(second) || !self.try_line(text) {
+            return false;
+        }
+        quota.count(second);
+        self.connection_lines.set(quota);
+        true
+    }
+
+    /// Writes the rest of a line of which a part was taken, and says how many lines were left out.
     pub fn catch_up(&self) {
+        if let Ok(mut outlet) = self.outlet.try_borrow_mut() {
+            outlet.catch_up();
+        }
         if self.left_out.get() > 0 {
-            self.begin_second();
+            self.tell_left_out(self.second());
         }
     }
 
@@ -181,7 +216,7 @@ impl<'a> Log<'a> {
 
     /// Tells how late device time is, at most once a second.
     pub(crate) fn tell_late(&self, millis: u64) {
-        let second = self.nanos() / NANOS_A_SECOND;
+        let second = self.second();
         if second != self.late_second.get() {
             self.late_second.set(second);
             self.line(format_args!("late by {millis} milliseconds"));
@@ -203,53 +238,37 @@ impl<'a> Log<'a> {
         }
     }
 
-    /// Begins another second, if there is one, by saying how many lines were left out before it.
-    fn begin_second(&self) {
-        let second = match self.rt.monotonic() {
-            Ok(shown) => shown.as_secs(),
-            Err(_) => return,
-        };
-        if second == self.second.get() {
-            return;
-        }
-        self.second.set(second);
-        self.lines.set(0);
+    /// The second of the clock that it is, or zero if it cannot be read.
+    fn second(&self) -> u64 {
+        self.nanos() / NANOS_A_SECOND
+    }
+
+    /// Says how many lines were left out, at most once in a second. If that finds no room, they are still to be told.
+    fn tell_left_out(&self, second: u64) {
         let count = self.left_out.get();
-        if count > 0 {
-            self.left_out.set(0);
-            let before = self.left_out.get();
-            self.put(format_args!("{count} lines left out"));
-            // if this line was not taken, they are still to be told
-            if self.left_out.get() != before {
-                self.left_out.set(count);
+        if count > 0 && second != self.left_out_second.get() {
+            self.left_out_second.set(second);
+            if self.put(format_args!("{count} lines left out")) {
+                self.left_out.set(0);
             }
         }
     }
 
-    /// Writes a line, if standard error takes it.
-    fn put<D: Display + Drop>(&self, text: D) {
-        if self.is_open() {
-            self.lines.set(self.lines.get().saturating_add(1));
-            let _ = eprintln!(self.rt; "afd: {text}");
-        } else {
-            self.leave_out();
+    /// Writes a line, if standard error takes it. Whether it did.
+    fn put<D: Display + Drop>(&self, text: D) -> bool {
+        match self.outlet.try_borrow_mut() {
+            Ok(mut outlet) => outlet.put(self.rt, text),
+            Err(_) => false,
         }
     }
 
-    /// A line is left out.
+    /// A line is left out. That is told in a later second.
     fn leave_out(&self) {
-        self.left_out.set(self.left_out.get().saturating_add(1));
-    }
-
-    /// Whether standard error takes a line now.
-    fn is_open(&self) -> bool {
-        match self.gate.try_borrow_mut() {
-            Ok(mut gate) => match &mut *gate {
-                Some(gate) => gate.is_open(),
-                None => true,
-            },
-            Err(_) => true,
+        let count = self.left_out.get();
+        if count == 0 {
+            self.left_out_second.set(self.second());
         }
+        self.left_out.set(count.saturating_add(1));
     }
 }
 

@@ -78,9 +78,13 @@ impl<'a, W: World + Live + Drop, V: Sight<W> + Drop> Logged<'a, W, V> {
         self.log.catch_up();
         let turned_away = self.sight.turned_away(&self.world);
         let count = turned_away.saturating_sub(self.turned_away);
-        if count > 0 {
+        // those for whom the log has no room now are told with the next ones
+        if count > 0
+            && self.log.try_connection_line(format_args!(
+                "{count} turned away: all 32 connections are in use"
+            ))
+        {
             self.turned_away = turned_away;
-            self.log.line(format_args!("{count} turned away: all 32 connections are in use"));
         }
     }
 
@@ -268,8 +272,8 @@ fn tell_opened<W, V: Sight<W>>(world: &W, sight: &V, log: &Log<'_>, link: u8) {
         return;
     }
     match sight.peer(world, link) {
-        Some(peer) => log.line(format_args!("connection {link} from {peer}")),
-        None => log.line(format_args!("connection {link} from a peer that is gone")),
+        Some(peer) => log.connection_line(format_args!("connection {link} from {peer}")),
+        None => log.connection_line(format_args!("connection {link} from a peer that is gone")),
     }
 }
 
@@ -282,7 +286,7 @@ fn tell_closed(log: &Log<'_>, link: u8, why: Why) {
         Why::LinkFault => "reading from it or writing to it failed",
         Why::Overrun => "too many events waited for it",
     };
-    log.line(format_args!("connection {link} closed: {cause}"));
+    log.connection_line(format_args!("connection {link} closed: {cause}"));
 }
 
 /// Tells why a device has died.

@@ -118,33 +118,34 @@ impl ToldLoss {
         is_closed_told: false,
     };
 
-    /// Tells how many frames a card had no room for since the last time, or that it takes no sound any more.
+    /// Tells how many frames a card had no room for since the last time, and that it takes no sound any more.
     fn tell(&mut self, log: &Log<'_>, device: u8, card: &Card<WatchedProgram<'_>>) {
         let frames = card.lost();
-        if card.runs() && !card.takes() {
-            self.frames = frames;
-            self.tell_closed(log, device);
-            return;
-        }
-        self.closed_at = None;
-        self.is_closed_told = false;
         if frames != self.frames {
             self.tell_frames(log, device, frames);
         }
+        if card.runs() && !card.takes() {
+            self.tell_closed(log, device);
+        } else {
+            self.closed_at = None;
+            self.is_closed_told = false;
+        }
     }
 
-    /// Tells how many frames were lost since the last time, unless that was less than a second ago.
+    /// Tells how many frames were lost since the last time, unless that was less than a second ago. Those for which the log has
+    /// no room now are told with the next ones.
     fn tell_frames(&mut self, log: &Log<'_>, device: u8, frames: u64) {
         let now = log.nanos();
         if now < self.next {
             return;
         }
         let lost = frames.saturating_sub(self.frames);
-        self.frames = frames;
-        self.next = now.saturating_add(NANOS_A_SECOND);
-        log.line(format_args!(
+        if log.try_line(format_args!(
             "device {device}: its program had no room, and {lost} frames were lost"
-        ));
+        )) {
+            self.frames = frames;
+            self.next = now.saturating_add(NANOS_A_SECOND);
+        }
     }
 
     /// Tells that a program takes no sound any more, a second after that was seen: one that ends meanwhile is told of by its end.

@@ -13,11 +13,14 @@ use Rattle.af_config.specs.Stating.{Settings}
 use Rattle.af_config.specs.Configuration.{config_of}
 use Rattle.afd_serve.specs.declared.live.LiveEnd.{LiveEnd}
 use Rattle.afd_serve.specs.declared.live.LiveEnd.TheVariants as end
-use Rattle.afd_serve.specs.Words.{ServeJob, serve_job_of}
+use Rattle.af_world.specs.declared.script.DeviceSpec.{DeviceSpec}
+use Rattle.afd_serve.specs.declared.words.Waits.{Waits}
+use Rattle.afd_serve.specs.declared.words.Waits.TheVariants as waits
+use Rattle.afd_serve.specs.Words.{AsksForever, ServeJob, job_at, serve_job_of}
 use Rattle.afd_serve.specs.Serving.{start_entries}
 use Rattle.afd_serve.specs.Starting.{IsReadEnd, IsReadFrom, StartedUntil}
 use Rattle.afd_serve.specs.Rounds.{ServedUntil}
-use Rattle.afd_serve.specs.Ends.{EndsWell, FailedAt, IsFaultyConfig, IsTold, ServerRan, StartedInPart, Unheard, last_entry}
+use Rattle.afd_serve.specs.Ends.{EndsWell, FailedAt, IsCount, IsFaultyConfig, IsTold, ServerRan, StartedInPart, Unheard, last_entry}
 use Rattle.afd_serve.proofs.ServeRoundLemmas.{served_after}
 
 -- A good configuration is read
@@ -84,3 +87,22 @@ module _ (words : List (List ℕ)) (left left' : Option (List ℕ)) (job : Serve
     count = s.count;
     served = served_after settings.config (start_entries job.address settings) (last_entry ended) s.asked log log1 log2 lifecycle lifecycle1 lifecycle2 quiet appended s.served;
   }
+
+-- A server that is to go on forever does not end for want of waits
+
+-- this is what the arguments ask of it
+pub asks_on : (words : List (List ℕ)) (job : ServeJob) → Some job ≡ serve_job_of words → AsksForever words → job.waits ≡ waits.Forever
+asks_on words job asks forever =
+    let same : Some job ≡ Some (job_at forever.0 waits.Forever) = asks ∙ forever.1 in
+    let job_is : job ≡ job_at forever.0 waits.Forever = cc in
+    ap (λ (j : ServeJob). j.waits) job_is
+
+pub read_unspent : (ended : LiveEnd) → IsReadEnd ended → ended ≡ end.WaitsSpent → ⊥
+read_unspent ended is e = subst IsReadEnd e is
+
+pub start_unspent : (ended : LiveEnd) (address : List ℕ) (settings : Settings) (lifecycle lifecycle' : Option (List Lifecycle)) → StartedUntil ended address settings lifecycle lifecycle' → ended ≡ end.WaitsSpent → ⊥
+start_unspent ended address settings lifecycle lifecycle' s e = subst (λ x. StartedUntil x address settings lifecycle lifecycle') e s
+
+pub on_unspent : (config : List DeviceSpec) (ended : LiveEnd) (most : Waits) (log log' : Option Log) (lifecycle lifecycle' : Option (List Lifecycle)) → ServedUntil config ended most log log' lifecycle lifecycle' → most ≡ waits.Forever → ended ≡ end.WaitsSpent → ⊥
+on_unspent config ended most log log' lifecycle lifecycle' s on e =
+    subst (λ x. IsCount x (length s.asked) waits.Forever) e (subst (λ w. IsCount ended (length s.asked) w) on s.count)

@@ -1,5 +1,5 @@
 -- A server that waits and takes turns: the turns so far are a run, and each is that of its wait.
-use Rattle.std.proofs.Common.{◌≡◌, ◌≢◌, ℕ, ◌+◌, ◌<◌, Bool, true, List, [], ◌∷◌, ◌++◌, length, map, IfSome, refl, sym, ap, ◌∙◌, subst, append_assoc, append-nil, arith, if◌then◌else◌}
+use Rattle.std.proofs.Common.{◌≡◌, ◌≢◌, ℕ, ◌+◌, Bool, true, List, [], ◌∷◌, ◌++◌, length, map, IfSome, refl, sym, ap, ◌∙◌, subst, append_assoc, append-nil, arith, if◌then◌else◌}
 use Rattle.std.specs.declared.option.Option.{Option}
 use Rattle.af_world.specs.declared.happening.Happening.TheVariants.{Woke}
 use Rattle.af_world.specs.declared.happening.Wake.{Wake}
@@ -23,8 +23,10 @@ use Rattle.af_io.proofs.AppendedLemmas.{appended_none, appended_on, appended_sta
 use Rattle.afd_serve.specs.declared.live.LiveEnd.{LiveEnd}
 use Rattle.afd_serve.specs.declared.live.LiveEnd.TheVariants as end
 use Rattle.afd_serve.specs.Serving.{WaitMade, IsTurnOf, Served, Serves, entry_of, wake_taken_as}
-use Rattle.afd_serve.specs.Ends.{IsCount, comes_to_wait, last_entry}
-use Rattle.afd_serve.specs.Rounds.{ServedUntil}
+use Rattle.afd_serve.specs.declared.words.Waits.{Waits}
+use Rattle.afd_serve.specs.declared.words.Waits.TheVariants as waits
+use Rattle.afd_serve.specs.Ends.{IsCount, IsFewer, comes_to_wait, last_entry}
+use Rattle.afd_serve.specs.Rounds.{AsksRightly, ServedUntil, TookTurn, WaitEnds}
 
 -- One turn more
 
@@ -49,6 +51,27 @@ length-more (y ∷ xs) x = let e = length-more xs x in omega arith
 same_outline : (kept : Kept) (s : State) → Stands kept s → outline s ≡ outline_of kept
 same_outline kept s stands =
     ap (λ lines. outline_with lines (links_of s.slots)) (same_lines kept.devices s.devices stands.kept.devices) ∙ ap (λ l. outline_with (kept_lines kept.devices) l) stands.kept.links
+
+-- a wait and the turn of its wake
+pub took_turn : (kept kept' : Kept) (log log1 log2 : Option Log) (lifecycle lifecycle1 lifecycle2 : Option (List Lifecycle)) (more : Bool) (w : Wake) → AsksRightly kept more → w ≢ wake.Stop → Unchanged log log1 → Appended lifecycle (noted.Waited more w ∷ []) lifecycle1 →
+    Turns log1 log2 (if fits (outline_of kept) w then w else wake.Idle) kept kept' → Unchanged lifecycle1 lifecycle2 → TookTurn kept kept' log log2 lifecycle lifecycle2
+took_turn kept kept' log log1 log2 lifecycle lifecycle1 lifecycle2 more w asks goes_on quiet entry turns apart = record {
+  more = more;
+  gave = w;
+  asked = asks;
+  goes_on = goes_on;
+  told = appended_stays lifecycle lifecycle1 lifecycle2 (noted.Waited more w ∷ []) entry apart;
+  turns = record {
+    devices = turns.devices;
+    links = turns.links;
+    part = turns.part;
+    told = stays_appended log log1 log2 turns.part quiet turns.told;
+    rest = turns.rest;
+    begins = turns.begins;
+    only = turns.only;
+    each = turns.each;
+  };
+}
 
 -- Rounds
 
@@ -81,16 +104,17 @@ module _ (config : List DeviceSpec) where
   }
 
   -- one more wait and its turn
-  pub runs_more : (kept kept' : Kept) (n : ℕ) (log log1 log2 log3 : Option Log) (lifecycle lifecycle1 lifecycle2 lifecycle3 : Option (List Lifecycle)) (more : Bool) (w : Wake) → Runs config kept n log log1 lifecycle lifecycle1 →
-      ((s : State) → Stands kept s → more ≡ has_more s) → w ≢ wake.Stop → Unchanged log1 log2 → Appended lifecycle1 (noted.Waited more w ∷ []) lifecycle2 →
-      Turns log2 log3 (if fits (outline_of kept) w then w else wake.Idle) kept kept' → Unchanged lifecycle2 lifecycle3 → Runs config kept' (n + 1) log log3 lifecycle lifecycle3
-  runs_more kept kept' n log log1 log2 log3 lifecycle lifecycle1 lifecycle2 lifecycle3 more w r asks goes_on quiet entry turns apart =
-      let wait : WaitMade = record { more = more; wake = w } in
+  pub runs_more : (kept kept' : Kept) (n : ℕ) (log log1 log2 : Option Log) (lifecycle lifecycle1 lifecycle2 : Option (List Lifecycle)) → Runs config kept n log log1 lifecycle lifecycle1 → TookTurn kept kept' log1 log2 lifecycle1 lifecycle2 →
+      Runs config kept' (n + 1) log log2 lifecycle lifecycle2
+  runs_more kept kept' n log log1 log2 lifecycle lifecycle1 lifecycle2 r took =
+      let w : Wake = took.gave in
+      let wait : WaitMade = record { more = took.more; wake = w } in
+      let turns = took.turns in
       let from = turns.each r.state r.stands in
       let taken : wake_taken_as r.state w ≡ (if fits (outline_of kept) w then w else wake.Idle) = ap (λ o. if fits o w then w else wake.Idle) (same_outline kept r.state r.stands) in
       let turn : IsTurnOf r.state wait turns.part from.next = record {
-        asked = asks r.state r.stands;
-        goes_on = goes_on;
+        asked = took.asked r.state r.stands;
+        goes_on = took.goes_on;
         tail = turns.rest;
         begins = turns.begins ∙ ap (λ x. Woke x ∷ turns.rest) (sym taken);
         only = turns.only;
@@ -104,8 +128,8 @@ module _ (config : List DeviceSpec) where
         count = length-more r.waits wait ∙ omega (arith, count);
         parts = r.parts ++ turns.part ∷ [];
         state = from.next;
-        added = subst (λ l. Appended log l log3) (sym (log_of_parts-more r.parts turns.part)) (appended_on log log1 log3 (log_of_parts r.parts) turns.part r.added (stays_appended log1 log2 log3 turns.part quiet turns.told));
-        told = subst (λ l. Appended lifecycle l lifecycle3) (sym (map-more entry_of r.waits wait)) (appended_on lifecycle lifecycle1 lifecycle3 (map entry_of r.waits) (entry_of wait ∷ []) r.told (appended_stays lifecycle1 lifecycle2 lifecycle3 (entry_of wait ∷ []) entry apart));
+        added = subst (λ l. Appended log l log2) (sym (log_of_parts-more r.parts turns.part)) (appended_on log log1 log2 (log_of_parts r.parts) turns.part r.added turns.told);
+        told = subst (λ l. Appended lifecycle l lifecycle2) (sym (map-more entry_of r.waits wait)) (appended_on lifecycle lifecycle1 lifecycle2 (map entry_of r.waits) (entry_of wait ∷ []) r.told took.told);
         serves = subst (λ l. Serves (opening_state config) (r.waits ++ wait ∷ []) l from.next) (sym (log_of_parts-more r.parts turns.part)) (serves_more (opening_state config) r.state from.next r.waits (log_of_parts r.parts) wait turns.part r.serves turn);
         turns = turns_more (opening_state config) r.state from.next r.parts turns.part r.turns (record { is_turn = from.is_turn; one = one });
         stands = from.stands;
@@ -113,12 +137,12 @@ module _ (config : List DeviceSpec) where
       }
 
   -- the end of it all, after a last entry or none
-  runs_end : (kept : Kept) (n most : ℕ) (end : LiveEnd) (log log1 log2 : Option Log) (lifecycle lifecycle1 lifecycle2 : Option (List Lifecycle)) (r : Runs config kept n log log1 lifecycle lifecycle1) → comes_to_wait end ≡ true → IsCount end (length r.waits) most →
+  runs_end : (kept : Kept) (n : ℕ) (most : Waits) (end : LiveEnd) (log log1 log2 : Option Log) (lifecycle lifecycle1 lifecycle2 : Option (List Lifecycle)) (r : Runs config kept n log log1 lifecycle lifecycle1) → comes_to_wait end ≡ true → IsCount end n most →
       Unchanged log1 log2 → Appended lifecycle1 (last_entry end r.state) lifecycle2 → ServedUntil config end most log log2 lifecycle lifecycle2
   runs_end kept n most end log log1 log2 lifecycle lifecycle1 lifecycle2 r is_end count quiet last = record {
     is_end = is_end;
     asked = r.waits;
-    count = count;
+    count = subst (λ m. IsCount end m most) (sym r.count) count;
     served = record {
       added = log_of_parts r.parts;
       appended = appended_stays log log1 log2 (log_of_parts r.parts) r.added quiet;
@@ -130,25 +154,21 @@ module _ (config : List DeviceSpec) where
     };
   }
 
-  -- a wait gave Stop
-  pub runs_done : (kept : Kept) (n most : ℕ) (log log1 log2 : Option Log) (lifecycle lifecycle1 lifecycle2 : Option (List Lifecycle)) (more : Bool) (w : Wake) → Runs config kept n log log1 lifecycle lifecycle1 → n < most →
-      ((s : State) → Stands kept s → more ≡ has_more s) → w ≡ wake.Stop → Unchanged log1 log2 → Appended lifecycle1 (noted.Waited more w ∷ []) lifecycle2 → ServedUntil config end.Done most log log2 lifecycle lifecycle2
-  runs_done kept n most log log1 log2 lifecycle lifecycle1 lifecycle2 more w r fewer asks stops quiet last =
+  -- a wait gave Stop, or failed
+  pub runs_ended : (kept : Kept) (n : ℕ) (most : Waits) (end : LiveEnd) (log log1 log2 : Option Log) (lifecycle lifecycle1 lifecycle2 : Option (List Lifecycle)) → Runs config kept n log log1 lifecycle lifecycle1 → IsFewer n most → Unchanged log1 log2 →
+      WaitEnds end kept lifecycle1 lifecycle2 → ServedUntil config end most log log2 lifecycle lifecycle2
+  runs_ended kept n most end.Done log log1 log2 lifecycle lifecycle1 lifecycle2 r fewer quiet stop =
       let entry : Lifecycle = noted.Waited (has_more r.state) wake.Stop in
-      let same : noted.Waited more w ≡ entry = ap (λ b. noted.Waited b w) (asks r.state r.stands) ∙ ap (λ x. noted.Waited (has_more r.state) x) stops in
-      runs_end kept n most end.Done log log1 log2 lifecycle lifecycle1 lifecycle2 r refl (subst (λ m. m < most) (sym r.count) fewer) quiet
-      (subst (λ e. Appended lifecycle1 (e ∷ []) lifecycle2) same last)
-
-  -- a wait failed
-  pub runs_failed : (kept : Kept) (n most : ℕ) (log log1 log2 : Option Log) (lifecycle lifecycle1 lifecycle2 : Option (List Lifecycle)) → Runs config kept n log log1 lifecycle lifecycle1 → n < most →
-      Unchanged log1 log2 → Appended lifecycle1 [] lifecycle2 → ServedUntil config end.WaitFault most log log2 lifecycle lifecycle2
-  runs_failed kept n most log log1 log2 lifecycle lifecycle1 lifecycle2 r fewer quiet last =
-      runs_end kept n most end.WaitFault log log1 log2 lifecycle lifecycle1 lifecycle2 r refl (subst (λ m. m < most) (sym r.count) fewer) quiet last
+      let same : noted.Waited stop.more wake.Stop ≡ entry = ap (λ b. noted.Waited b wake.Stop) (stop.asked r.state r.stands) in
+      runs_end kept n most end.Done log log1 log2 lifecycle lifecycle1 lifecycle2 r refl fewer quiet (subst (λ e. Appended lifecycle1 (e ∷ []) lifecycle2) same stop.told)
+  runs_ended kept n most end.WaitFault log log1 log2 lifecycle lifecycle1 lifecycle2 r fewer quiet none =
+      runs_end kept n most end.WaitFault log log1 log2 lifecycle lifecycle1 lifecycle2 r refl fewer quiet none
+  runs_ended kept n most _ log log1 log2 lifecycle lifecycle1 lifecycle2 r fewer quiet ended = absurd ended
 
   -- all waits had their turns
-  pub runs_spent : (kept : Kept) (n most : ℕ) (log log1 : Option Log) (lifecycle lifecycle1 : Option (List Lifecycle)) → Runs config kept n log log1 lifecycle lifecycle1 → n ≡ most → ServedUntil config end.WaitsSpent most log log1 lifecycle lifecycle1
+  pub runs_spent : (kept : Kept) (n most : ℕ) (log log1 : Option Log) (lifecycle lifecycle1 : Option (List Lifecycle)) → Runs config kept n log log1 lifecycle lifecycle1 → n ≡ most → ServedUntil config end.WaitsSpent (waits.Number most) log log1 lifecycle lifecycle1
   runs_spent kept n most log log1 lifecycle lifecycle1 r all =
-      runs_end kept n most end.WaitsSpent log log1 log1 lifecycle lifecycle1 lifecycle1 r refl (r.count ∙ all) (stays_same log1) (appended_none lifecycle1)
+      runs_end kept n (waits.Number most) end.WaitsSpent log log1 log1 lifecycle lifecycle1 lifecycle1 r refl all (stays_same log1) (appended_none lifecycle1)
 
 -- the same after a start
 pub served_after : (config : List DeviceSpec) (front : List Lifecycle) (last : State → List Lifecycle) (waits : List WaitMade) (log log1 log2 : Option Log) (lifecycle lifecycle1 lifecycle2 : Option (List Lifecycle)) →

@@ -19,7 +19,7 @@ use Rattle.af_config.specs.Stating.{Settings, LineProgram}
 use Rattle.afd_serve.specs.declared.live.LiveEnd.{LiveEnd}
 use Rattle.afd_serve.specs.declared.live.LiveEnd.TheVariants as end
 use Rattle.afd_serve.specs.Serving.{all_attached, all_lines, line_entry, attached_from, start_entries}
-use Rattle.afd_serve.specs.Starting.{AttachFailed, AttachedUntil, AppendedInPart, DevicesUntil, LineFailed, LinesUntil, StartedUntil}
+use Rattle.afd_serve.specs.Starting.{AttachedUntil, AppendedInPart, DevicesUntil, LineFailed, LinesUntil, StartedUntil}
 
 take_next : {A : Type 0} (xs : List A) (n : ℕ) (x : A) → slice_get xs n ≡ Some x → take (suc n) xs ≡ take n xs ++ x ∷ []
 take_next [] n x e = absurd cc

@@ -1,5 +1,5 @@
 -- How the server ends: what was read, what was asked of the world, and what of that is observable.
-use Rattle.std.specs.Prelude.{◌≡◌, ◌≢◌, ℕ, ◌<◌, ◌≤◌, ◌⊎◌, ⊤, Bool, true, false, List, [], ◌∷◌, ◌++◌, length, take, Ok, Err}
+use Rattle.std.specs.Prelude.{◌≡◌, ◌≢◌, ℕ, ◌<◌, ◌≤◌, ◌⊎◌, ⊤, Bool, true, false, List, [], ◌∷◌, ◌++◌, length, Ok, Err}
 use Rattle.std.specs.declared.option.Option.{Option}
 use Rattle.std.specs.declared.option.Option.TheVariants.{None, Some}
 use Rattle.af_limits.specs.Limits.{longest_config}
@@ -16,6 +16,8 @@ use Rattle.af_model.specs.State.{State}
 use Rattle.af_model.specs.More.{has_more}
 use Rattle.afd_serve.specs.declared.live.LiveEnd.{LiveEnd}
 use Rattle.afd_serve.specs.declared.live.LiveEnd.TheVariants as end
+use Rattle.afd_serve.specs.declared.words.Waits.{Waits}
+use Rattle.afd_serve.specs.declared.words.Waits.TheVariants as waits
 use Rattle.afd_serve.specs.Words.{ServeJob, serve_job_of}
 use Rattle.afd_serve.specs.Serving.{WaitMade, Served, start_entries}
 use Rattle.afd_serve.specs.Starting.{AttachFailed}
@@ -73,11 +75,21 @@ pub record CountsFaults {W : Type 0} (link_faults device_faults listen_faults wa
   pub listen : CountsFault (ends end.ListenFault) (listen_faults before) (listen_faults after)
   pub wait : CountsFault (ends end.WaitFault) (wait_faults before) (wait_faults after)
 
--- how many waits had their turn, of so many at most: all if they are spent, and fewer if one gave Stop or failed
-abbrev pub IsCount : LiveEnd → ℕ → ℕ → Type 0
-IsCount end.Done n most = n < most
-IsCount end.WaitFault n most = n < most
-IsCount end.WaitsSpent n most = n ≡ most
+-- so many waits are fewer than were asked for
+abbrev pub IsFewer : ℕ → Waits → Type 0
+IsFewer n (waits.Number most) = n < most
+IsFewer n waits.Forever = ⊤
+
+-- so many waits are all that were asked for
+abbrev pub IsAll : ℕ → Waits → Type 0
+IsAll n (waits.Number most) = n ≡ most
+IsAll n waits.Forever = ⊥
+
+-- how many waits had their turn, of those that were asked for: all if they are spent, and fewer if one gave Stop or failed
+abbrev pub IsCount : LiveEnd → ℕ → Waits → Type 0
+IsCount end.Done n most = IsFewer n most
+IsCount end.WaitFault n most = IsFewer n most
+IsCount end.WaitsSpent n most = IsAll n most
 IsCount _ n most = ⊤
 
 -- the entry of a last wait that gave Stop, and had no turn

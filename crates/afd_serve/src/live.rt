@@ -1,10 +1,11 @@
 // The server's command over a world on real time.
-ghost use Rattle.std.specs.Prelude.{◌≡◌, ◌↔◌, true};
+ghost use Rattle.std.specs.Prelude.{◌≡◌, ◌≢◌, ◌↔◌, true};
 ghost use Rattle.std.specs.declared.option.Option.TheVariants.{None};
 ghost use Rattle.af_io.specs.Observed.{CountsFault, NoFault};
-ghost use Rattle.afd_serve.specs.Words.{serve_job_of};
+ghost use Rattle.afd_serve.specs.Words.{serve_job_of, AsksForever};
 ghost use Rattle.afd_serve.specs.Ends.{CountsFaults, EndsBeforeWaits, EndsWell, IsGoodConfig, ServeLeavesAlone, ServerRan, ConfigReadAs, comes_to_wait, live_status};
 
+use crate::Endless;
 use crate::serve::serve;
 use crate::start::{read_setting, start};
 use crate::words::asked_for;
@@ -53,9 +54,11 @@ pub fn status_of(end: LiveEnd) -> u8
 
 /// The server. With the words `serve ADDRESS WAITS` it reads the source to its end, as its configuration. It listens at the
 /// address, attaches the devices in order, and then waits, and takes a turn for each wake, until a wait gives Stop or so many
-/// waits had their turn. It takes memory before its first wait alone. It may wait, so what is promised of it holds if it returns.
+/// waits had their turn; WAITS may be `forever`. It takes memory before its first wait alone. It may wait, so what is promised of
+/// it holds if it returns.
 pub fn afd_live<S: Source, W: Live>(
     alloc: Global,
+    endless: &dyn Endless,
     words: &Args,
     config: &mut S,
     world: &mut W,
@@ -74,6 +77,9 @@ pub fn afd_live<S: Source, W: Live>(
     ensures served { comes_to_wait result ≡ true → ServerRan result words.now (S.left config.old) (S.left config.new)
         (W.World.log world.old) (W.World.log world.new) (W.lifecycle world.old) (W.lifecycle world.new) }
 
+    // if it is asked to go on forever, it does not end for want of waits
+    ensures forever { AsksForever words.now → result ≢ LiveEnd.WaitsSpent }
+
     // a good configuration is served, if there is memory and the devices can be attached
     ensures complete { IsGoodConfig words.now (S.left config.old) (S.left config.new) → NoFault S.faults config.old config.new →
         NoFault W.listen_faults world.old world.new → NoFault W.wait_faults world.old world.new → EndsWell result }
@@ -89,5 +95,5 @@ pub fn afd_live<S: Source, W: Live>(
         Ok(core) => core,
         Err(end) => return end,
     };
-    serve(&mut core, command.waits, world)
+    serve(endless, &mut core, command.waits, world)
 }

@@ -86,6 +86,7 @@ fn a_server_alone_has_the_defaults(rt: HostRuntime) -> Result<(), Fail> {
         lead: 100,
         time: None,
         preempt: false,
+        drain: false,
     };
     ask_task(&rt, rt.alloc(), &["aplay", "h:1"], Task::Play(job))
 }
@@ -101,6 +102,7 @@ fn a_sound_file_is_named_by_its_form(rt: HostRuntime) -> Result<(), Fail> {
         lead: 100,
         time: None,
         preempt: false,
+        drain: false,
     };
     ask_task(
         &rt,
@@ -120,11 +122,70 @@ fn a_recording_is_named_by_its_form(rt: HostRuntime) -> Result<(), Fail> {
         block: 1000,
         time: None,
         frames: 9,
+        seconds: None,
         stop_peak: 0,
         stop_blocks: 1,
     };
     let words = ["arecord", "h:1", "--file=au", "--type=lin32", "--frames=9"];
     ask_task(&rt, rt.alloc(), &words, Task::Record(job))
+}
+
+// A recording of these frames, or of these seconds.
+fn recording(frames: u32, seconds: Option<u32>) -> RecordJob {
+    RecordJob {
+        device: 0,
+        form: None,
+        ty: None,
+        gain: Gain::default(),
+        block: 1000,
+        time: None,
+        frames,
+        seconds,
+        stop_peak: 0,
+        stop_blocks: 1,
+    }
+}
+
+#[test]
+fn a_recording_is_stated_in_frames_or_in_seconds(rt: HostRuntime) -> Result<(), Fail> {
+    let alloc = rt.alloc();
+    for (length, frames, seconds) in [
+        ("--frames=1", 1, None),
+        ("--frames=2147483647", 2147483647, None),
+        ("--seconds=1", 0, Some(1)),
+        ("--seconds=2147483", 0, Some(2147483)),
+    ] {
+        let wanted = Task::Record(recording(frames, seconds));
+        ask_task(&rt, alloc, &["arecord", "h:1", length], wanted)?;
+    }
+    ask_nothing(&rt, alloc, &["arecord", "h:1"])?;
+    for length in [
+        "--frames=0",
+        "--frames=2147483648",
+        "--seconds=0",
+        "--seconds=2147484",
+    ] {
+        ask_nothing(&rt, alloc, &["arecord", "h:1", length])?;
+    }
+    let both = ["arecord", "h:1", "--frames=8000", "--seconds=1"];
+    ask_nothing(&rt, alloc, &both)
+}
+
+#[test]
+fn seconds_are_frames_at_the_rate_of_a_device(rt: HostRuntime) -> Result<(), Fail> {
+    for (seconds, rate, frames) in [
+        (1, 8000, 8000),
+        (2, 11025, 22050),
+        (44739, 48000, 2147472000),
+        (44740, 48000, 2147483647),
+        (2147483, 48000, 2147483647),
+    ] {
+        let timed = recording(0, Some(seconds)).at_rate(rate);
+        holds(&rt, "the frames", timed == recording(frames, None));
+    }
+    let stated = recording(9, None);
+    holds(&rt, "stated frames", stated.at_rate(8000) == stated);
+    Ok(())
 }
 
 #[test]
@@ -138,6 +199,7 @@ fn values_stand_after_a_sign_or_a_blank(rt: HostRuntime) -> Result<(), Fail> {
         lead: 100,
         time: Some(7),
         preempt: true,
+        drain: true,
     };
     let words = [
         "aplay",
@@ -147,6 +209,7 @@ fn values_stand_after_a_sign_or_a_blank(rt: HostRuntime) -> Result<(), Fail> {
         "4000",
         "--time=7",
         "--preempt",
+        "--drain",
     ];
     ask_task(&rt, rt.alloc(), &words, Task::Play(job))
 }

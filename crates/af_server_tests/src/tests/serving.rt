@@ -4,12 +4,14 @@ use af_io::{Args, MemSink, MemSource};
 use af_outside::{DeviceSpec, Happening, Lifecycle, LifecycleFaults, Tape, ToldKind, Wake};
 use af_script::{Script, print_log, read_script};
 use afd_log::{Log, Logged, NoSight};
-use afd_serve::{LiveEnd, afd_live, status_of};
+use afd_serve::{Endless, LiveEnd, afd_live, status_of};
 use std::alloc::Global;
 use std::process::Abort;
 use std::test::Fail;
 
 const NINE: &[&str] = &["serve", "x", "9"];
+
+const FOREVER: &[&str] = &["serve", "x", "forever"];
 
 const DEVICE: &[u8] = b"device lin16 8000 0 silent";
 
@@ -41,13 +43,14 @@ fn args(alloc: Global, words: &[&str]) -> Result<Args, Fail> {
 // How the server ends over a configuration, which comes in pieces of 7 bytes and whose listed reads fail, and a tape.
 fn run_to_end(
     alloc: Global,
+    endless: &dyn Endless,
     words: &Args,
     config: &[u8],
     fails: &[u64],
     tape: &mut Tape,
 ) -> LiveEnd {
     let mut source = MemSource::new(config, 7, fails);
-    afd_live(alloc, words, &mut source, tape)
+    afd_live(alloc, endless, words, &mut source, tape)
 }
 
 // The arguments of a server, a configuration whose listed reads fail, and calls that fail; then its end and its status.
@@ -65,13 +68,14 @@ struct Ending<'a> {
 fn assert_ends(
     rt: &impl Abort,
     alloc: Global,
+    endless: &dyn Endless,
     script: &Script,
     case: &Ending<'_>,
 ) -> Result<(), Fail> {
     let words = args(alloc, case.words)?;
     let steps = script.steps.as_slice();
     let mut tape = Tape::new(alloc, &script.config, steps, case.faults)?;
-    let end = run_to_end(alloc, &words, case.config, case.fails, &mut tape);
+    let end = run_to_end(alloc, endless, &words, case.config, case.fails, &mut tape);
     holds(rt, case.what, end == case.end);
     holds(rt, case.what, status_of(end) == case.status);
     Ok(())
@@ -88,15 +92,20 @@ fn script_of(alloc: Global, text: &[u8]) -> Result<Script, Fail> {
     }
 }
 
-fn assert_all_end(rt: &impl Abort, alloc: Global, cases: &[Ending<'_>]) -> Result<(), Fail> {
+fn assert_all_end(
+    rt: &impl Abort,
+    alloc: Global,
+    endless: &dyn Endless,
+    cases: &[Ending<'_>],
+) -> Result<(), Fail> {
     let script = script_of(alloc, TIME)?;
     for case in cases {
-        assert_ends(rt, alloc, &script, case)?;
+        assert_ends(rt, alloc, endless, &script, case)?;
     }
     Ok(())
 }
 
-static OUTSIDE: [Ending<'static>; 6] = [
+static OUTSIDE: [Ending<'static>; 8] = [
     Ending {
         what: "a wait gave Stop",
         words: NINE,
@@ -105,6 +114,28 @@ static OUTSIDE: [Ending<'static>; 6] = [
         faults: NONE,
         end: LiveEnd::Done,
         status: 0,
+    },
+    Ending {
+        what: "a wait gave Stop to a server that was to go on forever",
+        words: FOREVER,
+        config: DEVICE,
+        fails: &[],
+        faults: NONE,
+        end: LiveEnd::Done,
+        status: 0,
+    },
+    Ending {
+        what: "a wait that fails of a server that was to go on forever",
+        words: FOREVER,
+        config: DEVICE,
+        fails: &[],
+        faults: LifecycleFaults {
+            listen: false,
+            attach: None,
+            wait: Some(0),
+        },
+        end: LiveEnd::WaitFault,
+        status: 10,
     },
     Ending {
         what: "the one wait is spent",
@@ -167,13 +198,14 @@ static OUTSIDE: [Ending<'static>; 6] = [
 
 #[test]
 fn each_end_has_its_cause(rt: HostRuntime) -> Result<(), Fail> {
-    assert_all_end(&rt, rt.alloc(), &OUTSIDE)
+    assert_all_end(&rt, rt.alloc(), &rt, &OUTSIDE)
 }
 
 // The server ends so over this configuration.
 fn assert_config(
     rt: &impl Abort,
     alloc: Global,
+    endless: &dyn Endless,
     what: &str,
     config: &[u8],
     end: LiveEnd,
@@ -187,17 +219,18 @@ fn assert_config(
         end,
         status: if end == LiveEnd::TooLong { 4 } else { 3 },
     };
-    assert_all_end(rt, alloc, &[case])
+    assert_all_end(rt, alloc, endless, &[case])
 }
 
 #[test]
 fn a_configuration_that_is_none_ends_it(rt: HostRuntime) -> Result<(), Fail> {
     let alloc = rt.alloc();
     let first = LiveEnd::ConfigFault { line: 1 };
-    assert_config(&rt, alloc, "an empty one", b"", first)?;
+    assert_config(&rt, alloc, &rt, "an empty one", b"", first)?;
     assert_config(
         &rt,
         alloc,
+        &rt,
         "no such rate",
         b"device lin16 8001 0 silent",
         first,
@@ -209,16 +242,19 @@ fn a_configuration_has_65536_bytes_at_most(rt: HostRuntime) -> Result<(), Fail> 
     let alloc = rt.alloc();
     let long = vec![in alloc; b'#'; 65537]?;
     let second = LiveEnd::ConfigFault { line: 2 };
-    assert_config(&rt, alloc, "one byte more", &long, LiveEnd::TooLong)?;
-    assert_config(&rt, alloc, "as many as may be", &long[1..], second)
+    assert_config(&rt, alloc, &rt, "one byte more", &long, LiveEnd::TooLong)?;
+    assert_config(&rt, alloc, &rt, "as many as may be", &long[1..], second)
 }
 
-static NO_WORDS: [&[&str]; 11] = [
+static NO_WORDS: [&[&str]; 14] = [
     &[],
     &["script"],
     &["serve", "x"],
     &["serve", "x", "1", "1"],
     &["serve", "x", "0"],
+    &["serve", "x", "Forever"],
+    &["serve", "x", "forever 1"],
+    &["serve", "x", "forever", "1"],
     &["serve", "x", "+1"],
     &["serve", "x", ""],
     &["serve", "x", "9223372036854775808"],
@@ -243,7 +279,7 @@ fn other_words_are_usage(rt: HostRuntime) -> Result<(), Fail> {
             end: LiveEnd::Usage,
             status: 2,
         };
-        assert_all_end(&rt, rt.alloc(), &[case])?;
+        assert_all_end(&rt, rt.alloc(), &rt, &[case])?;
     }
     Ok(())
 }
@@ -337,6 +373,7 @@ struct Served<'a> {
 fn assert_served(
     rt: &impl Abort,
     alloc: Global,
+    endless: &dyn Endless,
     log: &Log<'_>,
     case: &Served<'_>,
 ) -> Result<(), Fail> {
@@ -346,7 +383,7 @@ fn assert_served(
     let tape = Tape::new(alloc, &script.config, steps, case.faults)?;
     let mut world = Logged::new(tape, NoSight, log);
     let mut source = MemSource::new(case.config, 7, &[]);
-    let end = afd_live(alloc, &words, &mut source, &mut world);
+    let end = afd_live(alloc, endless, &words, &mut source, &mut world);
     holds(rt, case.what, end == case.end);
     let tape = world.world();
     assert_calls(rt, case.what, tape.lifecycle(), case.calls);
@@ -355,7 +392,24 @@ fn assert_served(
     Ok(())
 }
 
-static SERVED: [Served<'static>; 7] = [
+static SERVED: [Served<'static>; 8] = [
+    Served {
+        what: "each wait has its turn, and a server that was to go on forever ends by Stop alone",
+        words: FOREVER,
+        config: DEVICE,
+        script: TIME,
+        faults: NONE,
+        end: LiveEnd::Done,
+        calls: &[
+            Called::Listen("x"),
+            Called::Attach(0, 8000, false, None),
+            Called::Wait(false, Wake::Opened(0)),
+            Called::Wait(false, Wake::Readable(0)),
+            Called::Wait(true, Wake::Stop),
+        ],
+        turns: &[Wake::Opened(0), Wake::Readable(0)],
+        printed: "link 0 010000000000000500010000000000010201000000001f4000007d00010200010000000100000000\n",
+    },
     Served {
         what: "a link is ready until a read of it gives nothing: there is more to do before the last wait",
         words: NINE,
@@ -488,7 +542,7 @@ static SERVED: [Served<'static>; 7] = [
 fn what_is_asked_of_the_world_is_told(rt: HostRuntime) -> Result<(), Fail> {
     let log = Log::new(&rt, false);
     for case in &SERVED {
-        assert_served(&rt, rt.alloc(), &log, case)?;
+        assert_served(&rt, rt.alloc(), &rt, &log, case)?;
     }
     Ok(())
 }

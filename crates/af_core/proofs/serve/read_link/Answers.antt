@@ -1,4 +1,7 @@
-use Rattle.std.proofs.Common.{◌≡◌, ◌<◌, ◌≤◌, ◌∙◌, ap, ◌++◌, length, length-take-le, take, refl, arith, rules, true, false}
+use Rattle.std.proofs.Common.{◌≡◌, ◌<◌, ◌≤◌, ◌∙◌, ap, ℕ, List, [], ◌∷◌, length, take, refl, sym, subst, arith, rules, true, false}
+use Rattle.std.proofs.lemmas.List.{length-take, with_items_is}
+use Rattle.af_io.specs.Observed.{Appended}
+use Rattle.af_world.specs.declared.happening.Happening.TheVariants.{Read}
 use Rattle.af_limits.specs.Limits.{longest_frame, longest_read}
 use Rattle.af_world.specs.declared.happening.ReadGot.TheVariants.{Given, NotYet, Ended, Failed}
 use Rattle.af_world.specs.declared.happening.Why.TheVariants as why
@@ -9,29 +12,36 @@ use Rattle.af_model.specs.Turn.{wants_read}
 use Rattle.af_model.proofs.BoolTestLemmas.{both-true}
 use Rattle.af_state.specs.Deferrals.{has_waiting}
 use Rattle.af_state.specs.SharedState.{KeptSharedState}
-use Rattle.af_state.proofs.DeferralLemmas.{leaves_others_dropped, leaves_others_grown, leaves_others_nothing}
+use Rattle.af_state.proofs.DeferralLemmas.{leaves_others_dropped, leaves_others_grown, leaves_others_nothing, only_queues_on}
 use Rattle.af_core.proofs.LinkPhaseLemmas.{absorbed, reads, reads_nothing, at_open_link, at_update, given_fits}
 use Rattle.af_core.proofs.serve.read_link.Goals as goal
 
-pub take_in-requires : goal.take_in-requires
-take_in-requires g c =
+pub receive-requires-clause-room : goal.receive-requires-clause-room
+receive-requires-clause-room g c =
     let waits = has_waiting c.args.shared.now.waits c.args.number in
     let wants : wants_read waits c.args.link.now ≡ true = search rules in
     let short : length c.args.link.now.rest < longest_frame = c.requires.link.settled.short (both-true c.args.link.now.is_ready (takes_more waits c.args.link.now) wants).1 in
-    let room : length c.read.new.into ≡ longest_read = omega arith in
-    let within : c.in-Bytes.n ≤ length c.read.new.into = c.in-Bytes.ensures.bound.1 in
-    let taken = length-take-le c.in-Bytes.n c.read.new.into within in
-    omega (arith, short, room, within, taken)
+    let few : c.in-Bytes.n ≤ longest_read = c.in-Bytes.ensures.bound.1 in
+    let taken = length-take c.in-Bytes.n c.deref.result.now in
+    omega (arith, short, few, taken)
+
+pub receive-requires-clause-takes : goal.receive-requires-clause-takes
+receive-requires-clause-takes g c =
+    let waits = has_waiting c.args.shared.now.waits c.args.number in
+    let wants : wants_read waits c.args.link.now ≡ true = search rules in
+    (both-true c.args.link.now.is_ready (takes_more waits c.args.link.now) wants).1
 
 pub returns-then-not-wants_read-clause-simulates : goal.returns-then-not-wants_read-clause-simulates
 returns-then-not-wants_read-clause-simulates g c = reads_nothing _ _ c.args.shared.now _ (search rules)
 
 pub returns-in-Bytes-clause-simulates : goal.returns-in-Bytes-clause-simulates
 returns-in-Bytes-clause-simulates g c =
-    let taken : c.take_in.new.self ≡ record c.args.link.now { rest = c.args.link.now.rest ++ take c.in-Bytes.n c.read.new.into } = search rules in
-    reads _ _ c.args.number c.args.shared.now _ c.args.link.now _ (Given (take c.in-Bytes.n c.read.new.into)) (search rules) (given_fits _ _ c.in-Bytes.ensures.bound.0 c.in-Bytes.ensures.bound.1 (omega arith)) c.in-Bytes.ensures.log
-    (at_open_link _ _ _ _ (λ p. absorb c.args.number (take c.in-Bytes.n c.read.new.into) p)
-    (absorbed c.args.number c.args.shared.now _ c.args.link.now _ _ (take c.in-Bytes.n c.read.new.into) (search rules) taken c.advance.ensures.step))
+    let got = take c.in-Bytes.n c.deref.result.now in
+    let is : c.deref.result.now ≡ c.read_input.new.input = c.deref.ensures.value ∙ with_items_is c.scratch.inside.input c.read_input.new.input (search rules) in
+    let log = subst (λ (xs : List ℕ). Appended (g.W.World.log c.args.world.now) (Read c.args.number (Given (take c.in-Bytes.n xs)) ∷ []) (g.W.World.log c.read_input.new.world)) (sym is) c.in-Bytes.ensures.log in
+    reads _ _ c.args.number c.args.shared.now _ c.args.link.now _ (Given got) (search rules) (given_fits _ _ c.in-Bytes.ensures.bound.0 c.in-Bytes.ensures.bound.1 (search rules)) log
+    (at_open_link _ _ _ _ (λ p. absorb c.args.number got p)
+    (absorbed c.args.number c.args.shared.now _ _ c.args.link.now _ _ got (search rules) c.receive.ensures.on c.advance.ensures.step))
 
 pub returns-in-NotYet-clause-simulates : goal.returns-in-NotYet-clause-simulates
 returns-in-NotYet-clause-simulates g c =
@@ -51,7 +61,7 @@ pub returns-then-not-wants_read-clause-link : goal.returns-then-not-wants_read-c
 returns-then-not-wants_read-clause-link g c = record { settled = c.requires.link.settled; leaves_others = leaves_others_nothing c.args.number c.args.shared.now.waits }
 
 pub returns-in-Bytes-clause-link : goal.returns-in-Bytes-clause-link
-returns-in-Bytes-clause-link g c = record { settled = c.advance.ensures.settled; leaves_others = leaves_others_grown _ _ _ c.advance.ensures.only_queues }
+returns-in-Bytes-clause-link g c = record { settled = c.advance.ensures.settled; leaves_others = leaves_others_grown _ _ _ (only_queues_on _ _ _ _ c.receive.ensures.only_queues c.advance.ensures.only_queues) }
 
 pub returns-in-NotYet-clause-link : goal.returns-in-NotYet-clause-link
 returns-in-NotYet-clause-link g c = record { settled = search rules; leaves_others = leaves_others_nothing c.args.number c.args.shared.now.waits }

@@ -1,8 +1,7 @@
-use Rattle.std.proofs.Common.{◌≡◌, ◌≤◌, ◌<◌, ◌+◌, ℕ, max, length, arith, rules, subst, ◌∙◌}
+use Rattle.std.proofs.Common.{◌≡◌, ◌<◌, ℕ, max, arith, rules, subst}
 use Rattle.std.proofs.Math.Nat.{le_refl}
-use Rattle.std.proofs.lemmas.List.{length-set}
 use Rattle.af_lines.specs.HeldLines.{LinesAsked}
-use Rattle.af_lines.proofs.LinesLemmas.{none_asked, one_asked, this_one_changes}
+use Rattle.af_lines.proofs.LinesLemmas.{none_asked}
 use Rattle.af_lines.proofs.lines.first_change.Goals as goal
 
 pub offset_bounds-held-device : goal.offset_bounds-held-device

@@ -1,6 +1,7 @@
 use Rattle.mio.specs.Events.{items}
 use Rattle.af_lines.proofs.LinesLemmas.{change_fits}
-use Rattle.af_live.proofs.WakingLemmas.{kept_lines, kept_links, kept_round, last_stays, nothing_kept, polled_lines, polled_links}
+use Rattle.af_live.proofs.StreamsLemmas.{kept_stays, nothing_stays, waited_stays}
+use Rattle.af_live.proofs.WakingLemmas.{kept_fits, kept_lines, kept_links, kept_round, last_stays, nothing_kept, polled_lines, polled_links}
 use Rattle.af_live.proofs.waking.next_wake.Goals as goal
 
 pub returns-in-Some-take_ready-clause-links : goal.returns-in-Some-take_ready-clause-links
@@ -41,3 +42,31 @@ pub returns-clause-lines : goal.returns-clause-lines
 returns-clause-lines g c =
     polled_lines c.poll_once.result _ _ _ _ _ _ _ _ c.poll_once.ensures.fits
     (c.in_ok-nanos.nanos, last_stays c.poll_once.result _ _ _ c.poll_once.ensures.round c.in_default-next_tick.ensures.on.0.last, c.in_default-next_change.ensures.over) c.poll_once.ensures.lines
+
+pub returns-in-Some-take_ready-clause-own : goal.returns-in-Some-take_ready-clause-own
+returns-in-Some-take_ready-clause-own g c =
+    kept_stays c.args.sockets.now c.in-Some.sockets c.args.links.now c.take_ready.new.self c.take_ready.result c.in-Some.is c.take_ready.ensures.first
+
+pub returns-clause-own : goal.returns-clause-own
+returns-clause-own g c =
+    waited_stays c.args.sockets.now c.in-Some.sockets c.watch_programs.new.sockets c.poll_once.new.sockets c.args.links.now c.take_ready.new.self c.poll_once.new.links c.take_ready.result
+    c.in-Some.is c.take_ready.ensures.first c.watch_programs.ensures c.poll_once.ensures.own
+
+pub returns-in_default-clause-own : goal.returns-in_default-clause-own
+returns-in_default-clause-own g c = nothing_stays c.args.sockets.now c.args.links.now
+
+pub returns-in-Some-take_ready-clause-fits : goal.returns-in-Some-take_ready-clause-fits
+returns-in-Some-take_ready-clause-fits g c =
+    kept_fits c.in-Some-take_ready.wake _ c.args.devices.now.round c.args.lines.now c.in-Some-take_ready.ensures.fits
+
+pub returns-in_err-nanos-clause-own : goal.returns-in_err-nanos-clause-own
+returns-in_err-nanos-clause-own g c =
+    kept_stays c.args.sockets.now c.in-Some.sockets c.args.links.now c.take_ready.new.self c.take_ready.result c.in-Some.is c.take_ready.ensures.first
+
+pub returns-in-Some-next_tick-clause-own : goal.returns-in-Some-next_tick-clause-own
+returns-in-Some-next_tick-clause-own g c =
+    kept_stays c.args.sockets.now c.in-Some.sockets c.args.links.now c.take_ready.new.self c.take_ready.result c.in-Some.is c.take_ready.ensures.first
+
+pub returns-in-Some-next_change-clause-own : goal.returns-in-Some-next_change-clause-own
+returns-in-Some-next_change-clause-own g c =
+    kept_stays c.args.sockets.now c.in-Some.sockets c.args.links.now c.take_ready.new.self c.take_ready.result c.in-Some.is c.take_ready.ensures.first

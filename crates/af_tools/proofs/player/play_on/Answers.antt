@@ -13,6 +13,8 @@ use Rattle.af_toolkit.specs.Trace.{refused}
 use Rattle.af_tools.proofs.SourceFrameLemmas.{size_fits}
 use Rattle.af_tools.proofs.InStepLemmas.{not_failed, shown, unfilled}
 use Rattle.af_tools.proofs.BegunLemmas.{begun, early_read, played_step, same_failed, sent_request, told_some}
+use Rattle.af_sample.specs.SampleTypes.{frame_bytes}
+use Rattle.af_cli.proofs.FrameSizeLemmas.{by_size, frame_size}
 use Rattle.af_tools.proofs.player.play_on.Goals as goal
 
 pub returns-in_err-make_play_context-clause-goes : goal.returns-in_err-make_play_context-clause-goes
@@ -70,20 +72,20 @@ returns-in_err-frames-clause-takes g c =
     let first = (c.in_ok-first.ensures.fills (g.S.Source.left c.args.source.now) c.in_ok-early.ensures.early).had in
     takes_end (search rules) (takes_first first c.in_err-frames.ensures.takes)
 
-pub returns-in_err-finish-clause-goes : goal.returns-in_err-finish-clause-goes
-returns-in_err-finish-clause-goes g c bytes held is tells =
+pub returns-in_err-leave-clause-goes : goal.returns-in_err-leave-clause-goes
+returns-in_err-leave-clause-goes g c bytes held is tells =
     let e = c.in_ok-frames.ensures in
     let first = (c.in_ok-first.ensures.fills (g.S.Source.left c.args.source.now) c.in_ok-early.ensures.early).had in
     let k = first_known is first e.takes tells in
     goes_through is_play _ (play_goes (c.in_ok-make_play_context.ensures.goes held))
     (goes_through is_play _ (play_goes (c.in_ok-now.ensures.goes held))
     (rw (k.2, ← c.block_of-block.ensures.value, ← c.start_of-start.ensures)
-    (goes_through is_play _ (e.goes k.0 held k.1 tells) (goes_stop is_play _ (search rules) (play_goes (c.in_err-finish.ensures.goes held))))))
+    (goes_through is_play _ (e.goes k.0 held k.1 tells) (goes_stop is_play _ (search rules) (play_goes (rw (c.frame_bytes.ensures, c.last_frame-last.ensures) at (c.in_err-leave.ensures.goes held)))))))
 
-pub returns-in_err-finish-clause-takes : goal.returns-in_err-finish-clause-takes
-returns-in_err-finish-clause-takes g c =
+pub returns-in_err-leave-clause-takes : goal.returns-in_err-leave-clause-takes
+returns-in_err-leave-clause-takes g c =
     let first = (c.in_ok-first.ensures.fills (g.S.Source.left c.args.source.now) c.in_ok-early.ensures.early).had in
-    takes_link (search rules) (takes_within (takes_first first c.in_ok-frames.ensures.takes)) c.in_err-finish.ensures.end
+    takes_link (search rules) (takes_within (takes_first first c.in_ok-frames.ensures.takes)) c.in_err-leave.ensures.end
 
 pub returns-clause-goes : goal.returns-clause-goes
 returns-clause-goes g c bytes held is tells =
@@ -93,12 +95,19 @@ returns-clause-goes g c bytes held is tells =
     goes_through is_play _ (play_goes (c.in_ok-make_play_context.ensures.goes held))
     (goes_through is_play _ (play_goes (c.in_ok-now.ensures.goes held))
     (rw (k.2, ← c.block_of-block.ensures.value, ← c.start_of-start.ensures)
-    (goes_through is_play _ (e.goes k.0 held k.1 tells) (goes_through is_play _ (play_goes (c.in_ok-finish.ensures.goes held)) (goes_value is_play _)))))
+    (goes_through is_play _ (e.goes k.0 held k.1 tells) (goes_through is_play _ (play_goes (rw (c.frame_bytes.ensures, c.last_frame-last.ensures) at (c.in_ok-leave.ensures.goes held))) (goes_value is_play _)))))
 
 pub returns-clause-takes : goal.returns-clause-takes
 returns-clause-takes g c =
     let first = (c.in_ok-first.ensures.fills (g.S.Source.left c.args.source.now) c.in_ok-early.ensures.early).had in
     takes_value (takes_first first c.in_ok-frames.ensures.takes)
+
+pub leave-requires-clause-room : goal.leave-requires-clause-room
+leave-requires-clause-room g c =
+    let sound = c.args.plan.sound in
+    let small = by_size (λ (w : ℕ). w ≤ 8) (omega arith) (omega arith) (omega arith) (omega arith) (frame_bytes sound.ty sound.channels) (frame_size sound.ty sound.channels c.requires.count) in
+    let same = c.frame_bytes.ensures in
+    (omega arith, omega arith)
 
 pub play_blocks-requires-clause-first : goal.play_blocks-requires-clause-first
 play_blocks-requires-clause-first g c = (c.in_ok-first.ensures.fills (g.S.Source.left c.args.source.now) c.in_ok-early.ensures.early).had.next
@@ -143,14 +152,14 @@ returns-in_err-frames-clause-step g c input told =
     inr (played_step p.job p.sound p.device (c.in_ok-make_play_context.ensures.goes None) (input, told, refl) g.L.Link.left g.L.Link.sent c.device_time.new.conn (c.in_ok-now.ensures.goes None) c.block_of-block.ensures.value c.start_of-start.ensures first
     (λ bad. same_failed (search rules) bad.0) c.in_err-frames.ensures.step (λ _. appended_none _) [] (appended_none _))
 
-pub returns-in_err-finish-clause-step : goal.returns-in_err-finish-clause-step
-returns-in_err-finish-clause-step g c input told =
+pub returns-in_err-leave-clause-step : goal.returns-in_err-leave-clause-step
+returns-in_err-leave-clause-step g c input told =
     let p = c.args.plan in
-    let e = c.in_err-finish.ensures in
+    let e = c.in_err-leave.ensures in
     let first = (c.in_ok-first.ensures.fills (g.S.Source.left c.args.source.now) c.in_ok-early.ensures.early).had in
     let tells = told_some _ (c.in_ok-frames.ensures.holds.tells (c.in_ok-now.ensures.holds.tells (c.in_ok-make_play_context.ensures.holds.tells (rw told refl)))) in
     let more = shown refused (Err _) (e.goes None) (tells.0, tells.1, refl) in
-    let same : c.from_residual-in_err-finish.result ≡ Err c.in_err-finish.field-0.0 = search rules in
+    let same : c.from_residual-in_err-leave.result ≡ Err c.in_err-leave.field-0.0 = search rules in
     let other = not_failed same e.end in
     inr (played_step p.job p.sound p.device (c.in_ok-make_play_context.ensures.goes None) (input, told, refl) g.L.Link.left g.L.Link.sent c.device_time.new.conn (c.in_ok-now.ensures.goes None) c.block_of-block.ensures.value c.start_of-start.ensures first
     (λ bad. absurd (other bad.0)) c.in_ok-frames.ensures.step (λ bad. absurd (other bad.0)) more.0 more.1)
@@ -158,7 +167,7 @@ returns-in_err-finish-clause-step g c input told =
 pub returns-clause-step : goal.returns-clause-step
 returns-clause-step g c input told =
     let p = c.args.plan in
-    let e = c.in_ok-finish.ensures in
+    let e = c.in_ok-leave.ensures in
     let first = (c.in_ok-first.ensures.fills (g.S.Source.left c.args.source.now) c.in_ok-early.ensures.early).had in
     let tells = told_some _ (c.in_ok-frames.ensures.holds.tells (c.in_ok-now.ensures.holds.tells (c.in_ok-make_play_context.ensures.holds.tells (rw told refl)))) in
     let more = shown refused (Ok _) (e.goes None) (tells.0, tells.1, refl) in

@@ -23,7 +23,7 @@ pub returns-in-Ok-record_on-clause-ran : goal.returns-in-Ok-record_on-clause-ran
 returns-in-Ok-record_on-clause-ran g c input told =
     let w = client_of c.args.conn.now input in
     there_ran _ _ _ _ (arecord_on c.args.job.now c.args.conn.now.devices w) c.in-Ok.device _ _ _ _ _ (is_there _ _ _ c.in-Ok.ensures.value)
-    (trace_goes_on refused (λ _. ends done) (input, told, refl) c.in-Ok-record_on.ensures.goes (followed_end done refl))
+    (trace_goes_on refused (λ _. ends done) (input, told, refl) (rw c.at_rate.ensures at c.in-Ok-record_on.ensures.goes) (followed_end done refl))
 
 pub returns-in-Ok-record_on-clause-no_device : goal.returns-in-Ok-record_on-clause-no_device
 returns-in-Ok-record_on-clause-no_device g c n = there_iff _ _ _ _ (is_there _ _ c.in-Ok.device c.in-Ok.ensures.value) (λ n e. cc) n
@@ -32,7 +32,7 @@ pub returns-in-Err-record_on-clause-ran : goal.returns-in-Err-record_on-clause-r
 returns-in-Err-record_on-clause-ran g c input told =
     let w = client_of c.args.conn.now input in
     there_ran _ _ _ _ (arecord_on c.args.job.now c.args.conn.now.devices w) c.in-Ok.device _ _ _ _ _ (is_there _ _ _ c.in-Ok.ensures.value)
-    (trace_stops refused (λ _. ends done) (input, told, refl) c.in-Err-record_on.ensures.goes)
+    (trace_stops refused (λ _. ends done) (input, told, refl) (rw c.at_rate.ensures at c.in-Err-record_on.ensures.goes))
 
 pub returns-in-Err-record_on-clause-no_device : goal.returns-in-Err-record_on-clause-no_device
 returns-in-Err-record_on-clause-no_device g c n = there_iff _ _ _ _ (is_there _ _ c.in-Ok.device c.in-Ok.ensures.value) (λ k. never is_of_link_or_sink _ (end.NoDevice k) c.in-Err-record_on.ensures.end refl) n
@@ -55,7 +55,7 @@ returns-in-Err-record_on-clause-recorded g c input told way =
 pub record_on-requires-clause-channels : goal.record_on-requires-clause-channels
 record_on-requires-clause-channels g c =
     let there = is_there c.args.conn.now.devices c.args.job.now.device c.in-Ok.device c.in-Ok.ensures.value in
-    ap channels_or_one there.get
+    rw c.at_rate.ensures (ap channels_or_one there.get)
 
 pub returns-in-Err-clause-step : goal.returns-in-Err-clause-step
 returns-in-Err-clause-step g c input told device there = inl (record { front = []; rest = _; whole = refl; appended = appended_none _ })
@@ -63,9 +63,9 @@ returns-in-Err-clause-step g c input told device there = inl (record { front = [
 pub returns-in-Ok-record_on-clause-step : goal.returns-in-Ok-record_on-clause-step
 returns-in-Ok-record_on-clause-step g c input told device there =
     let t = is_there c.args.conn.now.devices c.args.job.now.device c.in-Ok.device c.in-Ok.ensures.value in
-    records_for c.args.job.now (sym t.get ∙ there) (λ bad. cc bad) (c.in-Ok-record_on.ensures.step input told)
+    records_for c.args.job.now (sym t.get ∙ there) (λ bad. cc bad) (rw c.at_rate.ensures at (c.in-Ok-record_on.ensures.step input told))
 
 pub returns-in-Err-record_on-clause-step : goal.returns-in-Err-record_on-clause-step
 returns-in-Err-record_on-clause-step g c input told device there =
     let t = is_there c.args.conn.now.devices c.args.job.now.device c.in-Ok.device c.in-Ok.ensures.value in
-    records_for c.args.job.now (sym t.get ∙ there) (λ bad. cc bad) (c.in-Err-record_on.ensures.step input told)
+    records_for c.args.job.now (sym t.get ∙ there) (λ bad. cc bad) (rw c.at_rate.ensures at (c.in-Err-record_on.ensures.step input told))

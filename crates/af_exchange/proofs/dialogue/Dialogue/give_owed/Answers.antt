@@ -10,7 +10,7 @@ use Rattle.af_exchange.proofs.dialogue.Dialogue.give_owed.Goals as goal
 
 pub returns-clause-fits : goal.returns-clause-fits
 returns-clause-fits g c =
-    subst (λ r. Accounts (record (the_view c.self.inside) { running = Some r; owed = c.give_from-took.new.queue }) (g.P.Program.acts c.give_from-took.new.program)) (sym c.after_give.ensures)
+    subst (λ r. Accounts (record (the_view c.self.inside) { running = Some r; owed = c.give_from-took.new.queue }) (g.P.Program.acts c.give_from-took.new.program)) (sym c.after_give.ensures.state)
     (Accounts-given (the_view c.self.inside) c.in-Some.running c.give_from-took.result c.give_from-took.new.queue _ _ c.in-Some.is
     c.give_from-took.ensures (subst (λ d. Accounts d (g.P.Program.acts c.args.program.now)) (sym c.self.view_is) c.requires.fits))
 
@@ -23,7 +23,7 @@ returns-clause-offers g c =
     subst (λ d. OffersOwed d (record (the_view c.self.inside) { running = Some c.after_give.result; owed = c.give_from-took.new.queue }) (g.P.Program.acts c.args.program.now) (g.P.Program.acts c.give_from-took.new.program))
     c.self.view_is
     (subst (λ r. OffersOwed (the_view c.self.inside) (record (the_view c.self.inside) { running = Some r; owed = c.give_from-took.new.queue }) (g.P.Program.acts c.args.program.now) (g.P.Program.acts c.give_from-took.new.program))
-    (sym c.after_give.ensures)
+    (sym c.after_give.ensures.state)
     (offers-given (the_view c.self.inside) c.in-Some.running c.give_from-took.result c.give_from-took.new.queue _ _ c.in-Some.is c.if-running.false
     (subst (λ xs. 0 < length xs) c.as_slice.ensures.bytes some) c.give_from-took.ensures))
 

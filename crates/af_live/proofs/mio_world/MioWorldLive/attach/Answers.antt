@@ -26,8 +26,8 @@ returns g c = record {
     done = subst (λ (s : RealState). c.args.device < most_devices → is_attached s.round c.args.device ≡ false → codec_allows s.codec c.args.kind ≡ true → may_be_refused c.args.kind ≡ false → c.attach-attached.result ≡ Done) c.self.view_is c.attach-attached.ensures.done;
     backends = subst (λ (s : RealState). AttachesAt c.attach-attached.result c.args.kind c.args.device c.args.spec.now (moment_of c.moment.new.self.shown) s.backends c.attach-attached.new.self.attached) c.self.view_is
         (subst (λ (at : ℕ). AttachesAt c.attach-attached.result c.args.kind c.args.device c.args.spec.now at c.self.inside.devices.attached c.attach-attached.new.self.attached) c.moment.ensures.moment c.attach-attached.ensures.attached);
-    clock = subst (λ (s : RealState). AsksClock s.clock (record { timer = c.moment.new.self; step = c.self.inside.step })) c.self.view_is
-        (c.moment.new.self.shown, c.moment.ensures.asks, refl);
+    clock = subst (λ (s : RealState). AsksClock s.clock (record { timer = c.moment.new.self; step = c.self.inside.step; answers = g.R.ToldClock.answers c.moment.new.clock })) c.self.view_is
+        (c.moment.new.self.shown, record { once = c.moment.ensures.asks; told = c.moment.ensures.told }, refl);
     codec = subst (λ (s : RealState). c.attach-attached.new.self.codec ≡ codec_after c.attach-attached.result c.args.kind s.codec) c.self.view_is c.attach-attached.ensures.codec;
     lines = subst (λ (s : RealState). c.note_attach.new.self ≡ lines_after c.attach-attached.result c.args.device c.args.spec.now.line s.lines) c.self.view_is c.note_attach.ensures;
     rest = search rules;

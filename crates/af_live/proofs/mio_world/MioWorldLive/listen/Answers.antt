@@ -20,3 +20,6 @@ returns g c = record {
     });
   };
 }
+
+pub invariant_of-self : goal.invariant_of-self
+invariant_of-self g c = c.begin_to_listen-listened.ensures.own c.self.inside.links c.self.invariant

@@ -11,6 +11,7 @@ use Rattle.af_live.specs.Readings.{PausesBy}
 use Rattle.af_live.specs.RealWorld.{RealState, given_wake, GivesKept, LeadsLines, LeadsRound, LosesNoFrame, WakeFits}
 use Rattle.af_live.proofs.PollsLemmas.{waits_take_least}
 use Rattle.af_live.proofs.RoundLemmas.{waits_lose_none}
+use Rattle.af_live.proofs.StreamsLemmas.{apart_of, stays_on}
 use Rattle.af_live.proofs.mio_world.MioWorldLive.wait.Goals as goal
 
 pub returns : goal.returns
@@ -30,12 +31,13 @@ returns g c = record {
     links = subst (λ (s : RealState). LeadsLinks (latest_poll c.next_wake-next.new.sockets).events (given_wake c.answer-waited.result) s.links c.next_wake-next.new.links) c.self.view_is
         (subst (λ (o : Option Wake). LeadsLinks (latest_poll c.next_wake-next.new.sockets).events o c.self.inside.links c.next_wake-next.new.links) (sym c.answer-waited.ensures.given) c.next_wake-next.ensures.links);
     least = subst (λ (s : RealState). TakesLeast s.links c.next_wake-next.new.links) c.self.view_is (waits_take_least (latest_poll c.next_wake-next.new.sockets).events _ _ _ c.next_wake-next.ensures.links);
-    round = subst (λ (s : RealState). LeadsRound (given_wake c.answer-waited.result) s.links s.clock s.round s.backends c.next_wake-next.new.links (record { timer = c.next_wake-next.new.timer; step = c.next_wake-next.new.step }) c.next_wake-next.new.devices.round c.next_wake-next.new.devices.attached) c.self.view_is
-        (subst (λ (o : Option Wake). LeadsRound o c.self.inside.links (record { timer = c.self.inside.timer; step = c.self.inside.step }) c.self.inside.devices.round c.self.inside.devices.attached c.next_wake-next.new.links (record { timer = c.next_wake-next.new.timer; step = c.next_wake-next.new.step }) c.next_wake-next.new.devices.round c.next_wake-next.new.devices.attached) (sym c.answer-waited.ensures.given) c.next_wake-next.ensures.round);
+    round = subst (λ (s : RealState). LeadsRound (given_wake c.answer-waited.result) s.links s.clock s.round s.backends c.next_wake-next.new.links (record { timer = c.next_wake-next.new.timer; step = c.next_wake-next.new.step; answers = g.R.ToldClock.answers c.next_wake-next.new.clock }) c.next_wake-next.new.devices.round c.next_wake-next.new.devices.attached) c.self.view_is
+        (subst (λ (o : Option Wake). LeadsRound o c.self.inside.links (record { timer = c.self.inside.timer; step = c.self.inside.step; answers = g.R.ToldClock.answers c.self.inside.rt }) c.self.inside.devices.round c.self.inside.devices.attached c.next_wake-next.new.links (record { timer = c.next_wake-next.new.timer; step = c.next_wake-next.new.step; answers = g.R.ToldClock.answers c.next_wake-next.new.clock }) c.next_wake-next.new.devices.round c.next_wake-next.new.devices.attached) (sym c.answer-waited.ensures.given) c.next_wake-next.ensures.round);
     frames = subst (λ (s : RealState). LosesNoFrame (given_wake c.answer-waited.result) s.round c.next_wake-next.new.devices.round) c.self.view_is
         (subst (λ (o : Option Wake). LosesNoFrame o c.self.inside.devices.round c.next_wake-next.new.devices.round) (sym c.answer-waited.ensures.given) (waits_lose_none _ _ _ _ _ _ _ _ _ c.next_wake-next.ensures.round));
     lines = subst (λ (s : RealState). LeadsLines (given_wake c.answer-waited.result) s.links s.round s.lines c.next_wake-next.new.links c.next_wake-next.new.devices.round c.next_wake-next.new.lines) c.self.view_is
         (subst (λ (o : Option Wake). LeadsLines o c.self.inside.links c.self.inside.devices.round c.self.inside.lines c.next_wake-next.new.links c.next_wake-next.new.devices.round c.next_wake-next.new.lines) (sym c.answer-waited.ensures.given) c.next_wake-next.ensures.lines);
+    apart = apart_of c.next_wake-next.new.sockets c.next_wake-next.new.links (stays_on c.self.inside.sockets c.next_wake-next.new.sockets c.self.inside.links c.next_wake-next.new.links c.next_wake-next.ensures.own c.self.invariant);
     rest = search rules;
     counts = (let v = c.self.view_is in record {
       links = subst (λ (s : RealState). s.link_faults ≤ c.self.inside.link_faults) v (le_refl c.self.inside.link_faults);
@@ -45,3 +47,6 @@ returns g c = record {
     });
   };
 }
+
+pub invariant_of-self : goal.invariant_of-self
+invariant_of-self g c = stays_on c.self.inside.sockets c.next_wake-next.new.sockets c.self.inside.links c.next_wake-next.new.links c.next_wake-next.ensures.own c.self.invariant

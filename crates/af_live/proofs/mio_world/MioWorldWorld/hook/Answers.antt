@@ -27,7 +27,7 @@ pub returns-clause-step : goal.returns-clause-step
 returns-clause-step g c = record {
   faults = subst (λ (s : RealState). CountsOne (c.hook-put.result ≡ Failed) s.device_faults c.count_put.new.faults) c.self.view_is c.count_put.ensures;
   hooks = subst (λ (s : RealState). HooksAt c.args.device c.args.off c.hook-put.result s.lines c.hook-put.new.self) c.self.view_is c.hook-put.ensures;
-  clock = subst (λ (s : RealState). AsksClock s.clock (record { timer = c.moment-at.new.self; step = c.self.inside.step })) c.self.view_is
-      (c.moment-at.new.self.shown, c.moment-at.ensures.asks, refl);
+  clock = subst (λ (s : RealState). AsksClock s.clock (record { timer = c.moment-at.new.self; step = c.self.inside.step; answers = g.R.ToldClock.answers c.moment-at.new.clock })) c.self.view_is
+      (c.moment-at.new.self.shown, record { once = c.moment-at.ensures.asks; told = c.moment-at.ensures.told }, refl);
   rest = search rules;
 }

@@ -6,6 +6,7 @@ use Rattle.af_backend.specs.Backends.{all_without_bytes}
 use Rattle.af_live.specs.Counting.{CountsOne}
 use Rattle.af_lines.specs.HeldLines.{all_line_orders}
 use Rattle.af_live.specs.RealWorld.{RealState}
+use Rattle.af_live.proofs.StreamsLemmas.{apart_of, read_own}
 use Rattle.af_live.proofs.mio_world.MioWorldWorld.read.Goals as goal
 
 pub returns-clause-leads : goal.returns-clause-leads
@@ -21,6 +22,10 @@ returns-clause-leads g c = let v = c.self.view_is in record {
   wait_faults = ap (λ (s : RealState). s.wait_faults) v;
 }
 
+pub invariant_of-self : goal.invariant_of-self
+invariant_of-self g c =
+    read_own c.self.inside.sockets c.read_link-got.new.sockets c.self.inside.links c.read_link-got.new.links _ _ _ c.read_link-got.ensures.streams c.read_link-got.ensures.after c.self.invariant
+
 pub returns-clause-step : goal.returns-clause-step
 returns-clause-step g c = record {
   faults = subst (λ (s : RealState). CountsOne (c.read_link-got.result ≡ Failed) s.link_faults c.count_got.new.faults) c.self.view_is c.count_got.ensures;
@@ -28,5 +33,6 @@ returns-clause-step g c = record {
   unheld = subst (λ (s : RealState). is_free (link_at s.links c.args.link) ≡ true → c.read_link-got.result ≡ Failed) c.self.view_is c.read_link-got.ensures.unheld;
   drained = subst (λ (s : RealState). s.listens ≡ true → is_drained (link_at s.links c.args.link) ≡ true → c.read_link-got.result ≡ NotYet) c.self.view_is c.read_link-got.ensures.drained;
   after = search rules;
+  apart = apart_of c.read_link-got.new.sockets c.read_link-got.new.links (read_own c.self.inside.sockets c.read_link-got.new.sockets c.self.inside.links c.read_link-got.new.links _ _ _ c.read_link-got.ensures.streams c.read_link-got.ensures.after c.self.invariant);
   rest = search rules;
 }

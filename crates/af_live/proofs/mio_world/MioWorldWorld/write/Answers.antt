@@ -6,6 +6,7 @@ use Rattle.af_backend.specs.Backends.{all_without_bytes}
 use Rattle.af_live.specs.Counting.{CountsOne}
 use Rattle.af_lines.specs.HeldLines.{all_line_orders}
 use Rattle.af_live.specs.RealWorld.{RealState}
+use Rattle.af_live.proofs.StreamsLemmas.{apart_of, write_own}
 use Rattle.af_live.proofs.mio_world.MioWorldWorld.write.Goals as goal
 
 pub returns-clause-leads : goal.returns-clause-leads
@@ -21,11 +22,16 @@ returns-clause-leads g c = let v = c.self.view_is in record {
   wait_faults = ap (λ (s : RealState). s.wait_faults) v;
 }
 
+pub invariant_of-self : goal.invariant_of-self
+invariant_of-self g c =
+    write_own c.self.inside.sockets c.write_link-took.new.sockets c.self.inside.links c.write_link-took.new.links _ _ _ c.write_link-took.ensures.streams c.write_link-took.ensures.after c.self.invariant
+
 pub returns-clause-step : goal.returns-clause-step
 returns-clause-step g c = record {
   faults = subst (λ (s : RealState). CountsOne (c.write_link-took.result ≡ Failed) s.link_faults c.count_took.new.faults) c.self.view_is c.count_took.ensures;
   keeps_open = subst (λ (s : RealState). KeepsOpen s.links c.write_link-took.new.links) c.self.view_is c.write_link-took.ensures.open;
   unheld = subst (λ (s : RealState). is_free (link_at s.links c.args.link) ≡ true → c.write_link-took.result ≡ Failed) c.self.view_is c.write_link-took.ensures.unheld;
   after = search rules;
+  apart = apart_of c.write_link-took.new.sockets c.write_link-took.new.links (write_own c.self.inside.sockets c.write_link-took.new.sockets c.self.inside.links c.write_link-took.new.links _ _ _ c.write_link-took.ensures.streams c.write_link-took.ensures.after c.self.invariant);
   rest = search rules;
 }

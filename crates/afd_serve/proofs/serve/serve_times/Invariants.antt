@@ -4,7 +4,7 @@ use Rattle.af_model.specs.State.{opening_state}
 use Rattle.af_core.specs.Stands.{Stands}
 use Rattle.afd_serve.specs.Ends.{CountsFaults}
 use Rattle.afd_serve.proofs.ServeRoundLemmas.{Runs}
-use Rattle.afd_serve.proofs.serve.serve.Given as goal
+use Rattle.afd_serve.proofs.serve.serve_times.Given as goal
 
 abbrev pub invariant-loop-number : goal.invariant-loop-number
 invariant-loop-number g l = record {

@@ -1,0 +1,27 @@
+use Rattle.std.proofs.Common.{rules, ◌≡◌, true, false}
+use Rattle.af_cli.specs.Words.{is_spelled}
+use Rattle.af_answer.specs.AnswerWords.{is_answer_spelled, names_answer}
+use Rattle.af_environment.proofs.JudgedLemmas.{machine_asks, machine_invalid, tool_asks, tool_invalid}
+use Rattle.af_environment.proofs.judged.judged.Goals as goal
+
+pub returns-in-Ok-clause-asks : goal.returns-in-Ok-clause-asks
+returns-in-Ok-clause-asks c =
+    let named : names_answer c.args.words.now ≡ true = search rules in
+    machine_asks c.args.words.now _ named c.in-Ok.ensures.ok
+
+pub returns-in-Err-clause-usage : goal.returns-in-Err-clause-usage
+returns-in-Err-clause-usage c = λ e.
+    let named : names_answer c.args.words.now ≡ true = search rules in
+    let unspelled : is_answer_spelled c.args.words.now ≡ false = search rules in
+    machine_invalid c.args.words.now named unspelled
+
+pub returns-in-Ok-call_of-clause-asks : goal.returns-in-Ok-call_of-clause-asks
+returns-in-Ok-call_of-clause-asks c =
+    let named : names_answer c.args.words.now ≡ false = search rules in
+    tool_asks c.args.words.now _ named c.in-Ok-call_of.ensures.ok
+
+pub returns-in-Err-call_of-clause-usage : goal.returns-in-Err-call_of-clause-usage
+returns-in-Err-call_of-clause-usage c = λ e.
+    let named : names_answer c.args.words.now ≡ false = search rules in
+    let unspelled : is_spelled c.args.words.now ≡ false = search rules in
+    tool_invalid c.args.words.now named unspelled

@@ -1,0 +1,35 @@
+-- The words of a tool that states no server, with the server of the environment.
+use Rattle.std.specs.Prelude.{◌≡◌, ℕ, Bool, true, false, List, [], ◌∷◌, ◌||◌, if◌then◌else◌, codes, bytes_eq, is_some, Option, Some}
+use Rattle.af_cli.specs.Words.{is_spelled, job}
+use Rattle.af_answer.specs.AnswerWords.{answer_words, is_answer_spelled, names_answer}
+
+-- the tools that have one server
+abbrev pub is_tool_of_one : List ℕ → Bool
+is_tool_of_one name = bytes_eq name (codes "aplay") || bytes_eq name (codes "arecord") || bytes_eq name (codes "aset")
+    || bytes_eq name (codes "list") || bytes_eq name (codes "answer")
+
+-- the first word names such a tool
+abbrev pub has_one_server : List (List ℕ) → Bool
+has_one_server [] = false
+has_one_server (name ∷ words) = is_tool_of_one name
+
+-- the words with a server after the name of the tool
+abbrev pub with_server : List ℕ → List (List ℕ) → List (List ℕ)
+with_server server [] = []
+with_server server (name ∷ words) = name ∷ server ∷ words
+
+-- the words ask for something: for calls to be answered, or for the job of a tool
+unfoldable pub asks : List (List ℕ) → Bool
+asks words = if names_answer words then is_some (answer_words words) else is_some (job words)
+
+-- the words are valid, so that they are never Usage
+unfoldable pub is_valid : List (List ℕ) → Bool
+is_valid words = if names_answer words then is_answer_spelled words else is_spelled words
+
+-- these words were run: the stated ones with the text of the variable put in, and they ask for something
+pub record IsPutIn (server : Option (List ℕ)) (words run : List (List ℕ)) : Type 0 where
+  pub text : List ℕ
+  pub set : server ≡ Some text
+  pub of_one : has_one_server words ≡ true
+  pub put : run ≡ with_server text words
+  pub asked : asks run ≡ true

@@ -1,0 +1,26 @@
+// What a tool makes of its words, before it does anything.
+ghost use Rattle.std.specs.Prelude.{◌≡◌, true, false, Err, IfOk};
+ghost use Rattle.af_environment.specs.Completed.{asks, is_valid};
+
+use af_answer::names_answer;
+use af_cli::OptionsFault;
+use af_io::Args;
+use std::alloc::Global;
+
+/// Whether a tool takes these words: they ask for something, or are Usage, which valid words never are.
+pub(crate) fn judged(alloc: Global, words: &Args) -> Result<(), OptionsFault>
+    ensures asks { IfOk result (λ _. asks words.now ≡ true) }
+    ensures usage { result ≡ Err OptionsFault.Usage → is_valid words.now ≡ false }
+{
+    if names_answer(words) {
+        match af_answer::call_of(alloc, words) {
+            Ok(_) => Ok(()),
+            Err(fault) => Err(fault),
+        }
+    } else {
+        match af_cli::call_of(alloc, words) {
+            Ok(_) => Ok(()),
+            Err(fault) => Err(fault),
+        }
+    }
+}

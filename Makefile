@@ -23,6 +23,9 @@ build: kit ## proves everything, and leaves the programs bin/afd and bin/af: som
 	rt all check && mkdir -p bin && cd crates/afd && rt run -- script < stdin > /dev/null && cp out/afd ../../bin/afd
 	cd crates/af && rm -f out/af && { rt run -- arecord 127.0.0.1:1 --frames=1 2> /dev/null; cp out/af ../../bin/af; }
 
+check: kit ## the quick check: layout, pages, and all worked cases by programs without a proof: three minutes on four processors
+	@tools/check
+
 check-scripts: ## the worked scripts and exercises of tests/, by the proved program: seconds
 	@tools/check-scripts
 
@@ -67,11 +70,13 @@ BASH_COMPLETIONS = $(SHARE)/bash-completion/completions
 ZSH_COMPLETIONS = $(call shell_word,$(DESTDIR)$(ZSH))
 PAGES = $(SHARE)/doc/audiofile
 DISSECTORS = $(call shell_word,$(DESTDIR)$(WIRESHARK))
+SYSTEM_UNITS = afd.service audiofile-relay@.service audiofile-answer.service
 UNIT_EDIT = $(call shell_word,s|/usr/local/bin|$(call sed_text,$(call unit_word,$(PREFIX)/bin))|)
-ADAPTERS = $(wildcard contrib/audiofile-*-card contrib/audiofile-card-run contrib/audiofile-phone-*) contrib/audiofile-status
-# what audiofile-status needs: the modules, and the page
+ADAPTERS = $(wildcard contrib/audiofile-*-card contrib/audiofile-card-run contrib/audiofile-phone-*) contrib/audiofile-status \
+  contrib/audiofile-playlist contrib/audiofile-meter
+# what audiofile-status, audiofile-playlist and audiofile-meter need: the modules, and the page
 STATUS = $(wildcard contrib/python/audiofile*.py) contrib/audiofile-status.html
-EXAMPLES = $(wildcard contrib/*.conf) contrib/asoundrc $(wildcard examples/*.script examples/*.py) contrib/python/audiofile.py
+EXAMPLES = $(wildcard contrib/*.conf) contrib/asoundrc $(wildcard examples/*.script examples/*.py examples/*.sh) contrib/python/audiofile.py
 DISSECTOR = $(wildcard contrib/audiofile.lua)
 
 # Refuses a path that cannot work, or that may not be the one that is meant. Make reads all lines of a recipe before it runs one,
@@ -99,14 +104,15 @@ install: ## puts programs, manual pages, units, completions, examples and dissec
 	install -m 755 -- $(ADAPTERS) $(PROGRAMS)
 	install -m 644 -- $(STATUS) $(SHARE)/audiofile
 	install -m 644 -- man/af.1 $(MANUALS)/man1/af.1
-	install -m 644 -- man/audiofile-status.1 $(MANUALS)/man1/audiofile-status.1
+	install -m 644 -- man/audiofile-status.1 man/audiofile-playlist.1 man/audiofile-meter.1 $(MANUALS)/man1
 	install -m 644 -- man/afd-script.5 $(MANUALS)/man5/afd-script.5
 	install -m 644 -- man/audiofile-protocol.7 $(MANUALS)/man7/audiofile-protocol.7
 	install -m 644 -- man/afd.8 $(MANUALS)/man8/afd.8
-	sed $(UNIT_EDIT) contrib/afd.service > $(UNITS)/afd.service && chmod 644 -- $(UNITS)/afd.service
+	for unit in $(SYSTEM_UNITS); do sed $(UNIT_EDIT) contrib/$$unit > $(UNITS)/$$unit && chmod 644 -- $(UNITS)/$$unit || exit; done
 	sed $(UNIT_EDIT) contrib/afd-user.service > $(USER_UNITS)/afd.service && chmod 644 -- $(USER_UNITS)/afd.service
 	install -m 644 -- contrib/completions/audiofile.bash $(BASH_COMPLETIONS)/af
 	ln -sf -- af $(BASH_COMPLETIONS)/afd
+	ln -sf -- af $(BASH_COMPLETIONS)/audiofile-meter
 	install -m 644 -- contrib/completions/_audiofile $(ZSH_COMPLETIONS)/_audiofile
 	install -m 644 -- $(EXAMPLES) $(PAGES)/examples
 	install -m 644 -- LICENSE $(PAGES)/copyright
@@ -115,9 +121,10 @@ install: ## puts programs, manual pages, units, completions, examples and dissec
 uninstall: ## takes away what install put there, with the same PREFIX and DESTDIR, and leaves configuration and sound
 	@$(refused)
 	rm -f -- $(PROGRAMS)/afd $(PROGRAMS)/af $(addprefix $(PROGRAMS)/,$(notdir $(ADAPTERS)))
-	rm -f -- $(UNITS)/afd.service $(USER_UNITS)/afd.service $(PAGES)/copyright
-	rm -f -- $(BASH_COMPLETIONS)/af $(BASH_COMPLETIONS)/afd $(ZSH_COMPLETIONS)/_audiofile
-	rm -f -- $(addprefix $(SHARE)/audiofile/,$(notdir $(STATUS))) $(MANUALS)/man1/audiofile-status.1
+	rm -f -- $(addprefix $(UNITS)/,$(SYSTEM_UNITS)) $(USER_UNITS)/afd.service $(PAGES)/copyright
+	rm -f -- $(BASH_COMPLETIONS)/af $(BASH_COMPLETIONS)/afd $(BASH_COMPLETIONS)/audiofile-meter $(ZSH_COMPLETIONS)/_audiofile
+	rm -f -- $(addprefix $(SHARE)/audiofile/,$(notdir $(STATUS))) $(MANUALS)/man1/audiofile-status.1 $(MANUALS)/man1/audiofile-playlist.1
+	rm -f -- $(MANUALS)/man1/audiofile-meter.1
 	rm -f -- $(MANUALS)/man1/af.1 $(MANUALS)/man5/afd-script.5 $(MANUALS)/man7/audiofile-protocol.7 $(MANUALS)/man8/afd.8
 	rm -f -- $(addprefix $(PAGES)/examples/,$(notdir $(EXAMPLES))) $(addprefix $(DISSECTORS)/,$(notdir $(DISSECTOR)))
 	rm -f -- $(PAGES)/examples/__pycache__/audiofile.*.pyc
@@ -127,4 +134,4 @@ uninstall: ## takes away what install put there, with the same PREFIX and DESTDI
 check-install: ## tries install and uninstall in a temporary folder, and the manual pages: half a minute at most
 	@tools/check-install
 
-.PHONY: help demo script kit build install uninstall check-install check-scripts test fmt
+.PHONY: help demo script kit build install uninstall check check-install check-scripts test fmt

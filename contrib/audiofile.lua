@@ -2,10 +2,14 @@
 --
 --   tshark -X lua_script:audiofile.lua -r FILE          and Wireshark reads it from its folder of personal plugins
 --
--- A connection is known by its port (1701, or what the preferences say) or by the setup that its client sends first, so any
--- port will do where a capture has that. The setup also says in which order numbers are; without it the preferences do. Fields
--- are those of the protocol: `audiofile.time`, `audiofile.context`; a display filter such as `audiofile.error` or
--- `audiofile.opcode == 6` finds messages.
+-- A connection is known by its port (1701, or what the preferences say) or by the good setup that its client sends first. So any
+-- port will do where a capture has that in one segment, and nothing else is taken for a connection there. The setup also says in
+-- which order numbers are; without it the preferences do. Fields are those of the protocol: `audiofile.time`,
+-- `audiofile.context`; a display filter such as `audiofile.error` or `audiofile.opcode == 6` finds messages.
+
+-- where it lies in a folder of plugins, and is named by a command too, it is read twice
+local can_ask, is_read = pcall(Dissector.get, "audiofile")
+if can_ask and is_read then return end
 
 local audiofile = Proto("audiofile", "AudioFile")
 
@@ -14,8 +18,13 @@ audiofile.prefs.little = Pref.bool("Little-endian without a setup", false, "Whet
 
 -- how a setup begins, and whether the numbers of its link are little-endian. Samples are big-endian on every link
 local ORDERS = { [0x41464200] = false, [0x41466c00] = true }
+local VERSION = 1
 local LONGEST_FRAME = 4096
 
+local SWITCHES = { [0] = "off", [1] = "on" }
+local HOOKS = { [0] = "on hook", [1] = "off hook" }
+-- the bits of the mask of SetControls
+local CONTROLS = { input_gain = 1, output_gain = 2, input_on = 4, output_on = 8 }
 local TYPES = { [0] = "mu255", [1] = "alaw", [2] = "lin16", [3] = "lin32" }
 local KINDS = { [0] = "error", [1] = "reply", [2] = "event" }
 local EVENTS = { [1] = "Ring", [2] = "Hook", [4] = "Current", [8] = "Digit" }
@@ -99,11 +108,11 @@ local fields = {
     quiet = ProtoField.bool("audiofile.quiet", "No reply is wanted", 8, nil, 1),
     waits = ProtoField.bool("audiofile.waits", "Waits for all samples", 8, nil, 1),
     events = ProtoField.uint32("audiofile.events", "Events", base.HEX),
-    input_on = ProtoField.uint8("audiofile.input_on", "Input on"),
-    output_on = ProtoField.uint8("audiofile.output_on", "Output on"),
+    input_on = ProtoField.uint8("audiofile.input_on", "Input", base.DEC, SWITCHES),
+    output_on = ProtoField.uint8("audiofile.output_on", "Output", base.DEC, SWITCHES),
     input_gain = ProtoField.int16("audiofile.input_gain", "Input gain (dB)"),
     output_gain = ProtoField.int16("audiofile.output_gain", "Output gain (dB)"),
-    off = ProtoField.uint32("audiofile.off", "Off hook"),
+    off = ProtoField.uint32("audiofile.off", "Hook", base.DEC, HOOKS),
     value = ProtoField.uint32("audiofile.value", "Value"),
     devices = ProtoField.uint32("audiofile.devices", "Devices"),
     has_line = ProtoField.uint8("audiofile.has_line", "Telephone line"),
@@ -171,8 +180,13 @@ local function add(stream, tree, name, range)
     return tree:add(fields[name], range)
 end
 
-local function add_all(stream, tree, layout, tvb)
-    for _, each in ipairs(layout) do add(stream, tree, each[1], tvb(each[2], each[3])) end
+-- the fields of a layout; of controls those that a mask leaves out are said to stay
+local function add_all(stream, tree, layout, tvb, mask)
+    for _, each in ipairs(layout) do
+        local item = add(stream, tree, each[1], tvb(each[2], each[3]))
+        local bit = mask and CONTROLS[each[1]]
+        if bit and mask % (2 * bit) < bit then item:append_text(", which is not set") end
+    end
 end
 
 local function padded(size)
@@ -195,12 +209,28 @@ local function say(pinfo, tree, text, more)
     pinfo.cols.info:fence()
 end
 
--- what is told of some requests and replies beside their names: times, and how much sound
-local function more_of(layout, stream, tvb)
+-- how a field is told in the list of packets, by its value. Others are not told there
+local TOLD = {
+    context = function(value) return "context " .. value end,
+    time = function(value) return "time " .. value end,
+    count = function(value) return value .. " bytes" end,
+    input_on = function(value) return "input " .. (SWITCHES[value] or value) end,
+    output_on = function(value) return "output " .. (SWITCHES[value] or value) end,
+    input_gain = function(value) return "input gain " .. value .. " dB" end,
+    output_gain = function(value) return "output gain " .. value .. " dB" end,
+    off = function(value) return HOOKS[value] or "hook " .. value end,
+}
+
+-- what is told of some requests and replies beside their names: times, how much sound, controls and hooks. Of controls those that
+-- a mask leaves out are not told
+local function more_of(layout, stream, tvb, mask)
     local parts = {}
     for _, each in ipairs(layout) do
-        local value = (each[1] == "context" or each[1] == "time" or each[1] == "count") and number_at(stream, tvb(each[2], each[3]))
-        if value then parts[#parts + 1] = each[1] == "count" and value .. " bytes" or each[1] .. " " .. value end
+        local tell, bit = TOLD[each[1]], mask and CONTROLS[each[1]]
+        if tell and not (bit and mask % (2 * bit) < bit) then
+            local range = tvb(each[2], each[3])
+            parts[#parts + 1] = tell((each[3] == 2 and signed_at or number_at)(stream, range))
+        end
     end
     return #parts > 0 and " (" .. table.concat(parts, ", ") .. ")" or ""
 end
@@ -230,7 +260,7 @@ local function setup(stream, tvb, pinfo, tree)
         table.insert(stream.setups, { frame = pinfo.number, little = stream.little })
     end
     local major = number_at(stream, tvb(4, 2))
-    if major ~= 1 then return is_bad(pinfo, tree, "a setup of version " .. major) end
+    if major ~= VERSION then return is_bad(pinfo, tree, "a setup of version " .. major) end
     say(pinfo, tree, "setup", stream.little and " (little-endian)")
 end
 
@@ -259,8 +289,9 @@ local function request(stream, tvb, pinfo, tree)
     if words == 0 or words > LONGEST_FRAME then return is_bad(pinfo, tree, "a frame of " .. words .. " words") end
     if not layout then return is_bad(pinfo, tree, "opcode " .. opcode .. ", which is no request") end
     if words ~= request_words(layout, stream, tvb) then return is_bad(pinfo, tree, "a " .. layout.name .. " of " .. words .. " words") end
+    local mask = opcode == 9 and tvb(4, 1):uint() or nil
     if layout.detail then add(stream, tree, layout.detail, tvb(1, 1)) end
-    add_all(stream, tree, layout, tvb)
+    add_all(stream, tree, layout, tvb, mask)
     if opcode == 8 then
         for bit in pairs(EVENTS) do add(stream, tree, "event_" .. bit, tvb(4, 4)) end
     end
@@ -269,7 +300,7 @@ local function request(stream, tvb, pinfo, tree)
     local number = request_number(stream, tvb, pinfo)
     if number then tree:add(fields.number, number):set_generated() end
     if number and opcode == 6 and not pinfo.visited then stream.starts[number] = number_at(stream, tvb(8, 4)) end
-    say(pinfo, tree, layout.name .. (number and " " .. number or ""), more_of(layout, stream, tvb))
+    say(pinfo, tree, layout.name .. (number and " " .. number or ""), more_of(layout, stream, tvb, mask))
 end
 
 -- what a server sends
@@ -425,6 +456,12 @@ local function is_setup(tvb)
     return tvb:len() >= 4 and ORDERS[tvb(0, 4):uint()] ~= nil
 end
 
+-- whether a segment begins with a whole setup of this version; the minor version is ignored, and ours is 0
+local function is_good_setup(tvb)
+    if tvb:len() < 8 or not is_setup(tvb) then return false end
+    return tvb(6, 2):uint() == 0 and number_at({ little = ORDERS[tvb(0, 4):uint()] }, tvb(4, 2)) == VERSION
+end
+
 local function dissect(tvb, pinfo, tree)
     local stream = stream_of(pinfo)
     stream.little = is_little_in(stream, pinfo.number)
@@ -441,10 +478,10 @@ end
 
 audiofile.dissector = dissect
 
--- a client that sends a setup first, to whatever port. Here the function is called, and not the dissector: called through
--- Wireshark it could not ask for the next segment
+-- a client that sends a good setup first, to whatever port: eight bytes with which nothing else begins. Here the function is
+-- called, and not the dissector: called through Wireshark it could not ask for the next segment
 audiofile:register_heuristic("tcp", function(tvb, pinfo, tree)
-    if not is_setup(tvb) then return false end
+    if not is_good_setup(tvb) then return false end
     pinfo.conversation = audiofile
     dissect(tvb, pinfo, tree)
     return true

@@ -1,8 +1,8 @@
-# Completions of af and afd for bash. tools/make-completions writes this file from what the programs tell: change it there.
+# Completions for bash. tools/make-completions writes this file from what the programs tell: change it there.
 
 _audiofile() {
     local program=${1##*/} word=${COMP_WORDS[COMP_CWORD]} before=${COMP_WORDS[COMP_CWORD - 1]}
-    local words='' option='' start='' each index
+    local words='' option='' start='' each index first=2 place=$COMP_CWORD
 
     # after < and > a file is meant: sound is read from standard input, and written to standard output
     if [[ $word == *[\<\>] || $before == *[\<\>\|] ]]; then
@@ -10,22 +10,33 @@ _audiofile() {
         return
     fi
 
-    if ((COMP_CWORD == 1)); then
+    # a colon, as in an address, is a word of its own unless COMP_WORDBREAKS lacks it
+    for ((index = 1; index < COMP_CWORD; index++)); do
+        [[ ${COMP_WORDS[index]} == : ]] && ((place -= 2))
+    done
+
+    # a program without commands has its options at once
+    [[ $program == audiofile-* ]] && first=1
+    if ((COMP_CWORD < first)); then
         case $program in
-        af) words='aplay arecord aset apass answer list' ;;
-        afd) words='serve script exercise' ;;
+        af) words='aplay arecord aset apass answer list help version' ;;
+        afd) words='serve script exercise help version' ;;
         esac
         mapfile -t COMPREPLY < <(compgen -W "$words" -- "$word")
         return
     fi
 
     # each option as the program lists it, with what its value may be
-    case "$program ${COMP_WORDS[1]}" in
+    ((first == 2)) && program+=" ${COMP_WORDS[1]}"
+    case $program in
+    audiofile-meter)
+        words='--device=NUMBER'
+        ;;
     "af aplay")
-        words='--device=0..7 --file=raw|au|wave --type=mu255|alaw|lin16|lin32 --gain=-30..30 --block=1..4000 --lead=0..60000 --time=0..4294967295 --preempt --order=big|little'
+        words='--device=0..7 --file=raw|au|wave --type=mu255|alaw|lin16|lin32 --gain=-30..30 --block=1..4000 --lead=0..60000 --time=0..4294967295 --preempt --drain --order=big|little'
         ;;
     "af arecord")
-        words='--frames=1..2147483647 --device=0..7 --file=raw|au|wave --type=mu255|alaw|lin16|lin32 --gain=-30..30 --block=1..4000 --time=0..4294967295 --stop-peak=0..32768 --stop-blocks=1..1000000 --order=big|little'
+        words='--frames=1..2147483647 --seconds=1..2147483 --device=0..7 --file=raw|au|wave --type=mu255|alaw|lin16|lin32 --gain=-30..30 --block=1..4000 --time=0..4294967295 --stop-peak=0..32768 --stop-blocks=1..1000000 --order=big|little'
         ;;
     "af aset")
         words='--device=0..7 --input=on|off --input-gain=-30..30 --output=on|off --output-gain=-30..30 --hook=on|off --order=big|little'
@@ -38,6 +49,12 @@ _audiofile() {
         ;;
     "af list")
         words='--order=big|little'
+        ;;
+    "af help")
+        ((place == 2)) && words='aplay arecord aset apass answer list'
+        ;;
+    "afd serve")
+        ((place == 3)) && words='forever'
         ;;
     esac
 
@@ -64,14 +81,14 @@ _audiofile() {
         return
     fi
 
-    # each option is given at most once, and none after --
-    for ((index = 2; index < ${#COMP_WORDS[@]}; index++)); do
+    # each option of a command is given at most once, and none after --
+    for ((index = first; index < ${#COMP_WORDS[@]}; index++)); do
         ((index == COMP_CWORD)) && continue
         if [[ ${COMP_WORDS[index]} == -- ]] && ((index < COMP_CWORD)); then
             return
         fi
         for each in $words; do
-            if [[ ${COMP_WORDS[index]%%=*} == "${each%%=*}" ]]; then
+            if [[ $first == 2 && ${COMP_WORDS[index]%%=*} == "${each%%=*}" ]]; then
                 words=" $words "
                 words=${words/" $each "/ }
             fi
@@ -88,4 +105,4 @@ _audiofile() {
     fi
 }
 
-complete -F _audiofile af afd
+complete -F _audiofile af afd audiofile-meter

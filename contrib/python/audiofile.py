@@ -7,10 +7,14 @@
 
 Sound is bytes, frame after frame. A frame has one sample for each channel of the device, the left one first. A sample has the
 type of its context: "mu255" or "alaw" (one byte), "lin16" (two) or "lin32" (four, of which the upper 16 bits count). Samples have
-their highest byte first in both orders of a connection. The server converts between types, and does not resample.
+their highest byte first in both orders of a connection. `samples_of` gives the numbers of "lin16", and `octets_of` their bytes.
+The server converts between types, and does not resample.
 
 A time counts the sample periods of a device, from 0 to 2^32 - 1, and wraps: `later` and `difference` reckon with times. Gains are
 whole decibels from -30 to 30. A device is stated by its number, or by its entry of `devices`.
+
+`Connection.times`, `plays` and `records` send several requests at once, and wait once for the way to the server and back. If some
+are refused, the others are performed all the same, and then the first refusal is raised.
 
 One thread at a time uses a connection. Each call that speaks to the server may raise:
 
@@ -20,12 +24,15 @@ One thread at a time uses a connection. Each call that speaks to the server may 
 - `ValueError`: a value is no type, or does not fit its field of the request. Nothing was sent.
 """
 
+import array
 import collections
 import enum
 import io
 import itertools
+import os
 import socket
 import struct
+import sys
 from time import monotonic
 
 WIDTHS = {"mu255": 1, "alaw": 1, "lin16": 2, "lin32": 4}
@@ -85,12 +92,33 @@ def difference(a, b):
     return (a - b + (1 << 31)) % (1 << 32) - (1 << 31)
 
 
-def connect(address, order="big", timeout=None):
+def samples_of(octets):
+    """The samples of bytes of "lin16", as an array of numbers from -32768 to 32767."""
+    found = array.array("h", octets)
+    if sys.byteorder == "little":
+        found.byteswap()
+    return found
+
+
+def octets_of(samples):
+    """The bytes of "lin16" for such numbers."""
+    made = array.array("h", samples)
+    if sys.byteorder == "little":
+        made.byteswap()
+    return made.tobytes()
+
+
+def connect(address=None, order="big", timeout=None):
     """A connection to the server at "HOST:PORT", or "[HOST]:PORT" for IPv6.
 
-    The order of numbers on the wire, "big" or "little", changes nothing for the caller. Connecting takes at most `timeout`
-    seconds, and so does the setup. Raises OSError if there is no connection, and `Ended` if the server has no place left.
+    Without an address it is that of the variable AUDIOFILE_SERVER. The order of numbers on the wire, "big" or "little", changes
+    nothing for the caller. Connecting takes at most `timeout` seconds, and so does the setup. Raises OSError if there is no
+    connection, `Ended` if the server has no place left, and ValueError for an address that is none.
     """
+    if address is None:
+        address = os.environ.get("AUDIOFILE_SERVER", "")
+        if not address:
+            raise ValueError("no address is stated, and AUDIOFILE_SERVER names none")
     host, _, port = address.rpartition(":")
     if not (host and port.isdecimal() and int(port) < 65536):
         raise ValueError("an address is HOST:PORT, and not %r" % address)
@@ -154,6 +182,31 @@ class Connection:
     def time(self, device):
         """The time of a device now."""
         return self._unpack("I", self._ask(GET_TIME, _number(device)))[0]
+
+    def times(self):
+        """The times of all devices, by their numbers: those of one moment, however slow the network is."""
+        bodies = self._ask_all(GET_TIME, [self._request(GET_TIME, device.number) for device in self.devices])
+        return [self._unpack("I", body)[0] for body in bodies]
+
+    def plays(self, plays):
+        """Plays by several contexts of this connection. Each play is a context, a time and samples, as for `Context.play`.
+
+        Returns the times of their devices, each once its play was taken.
+        """
+        requests = [self._request(PLAY, 0, *context._to_play(time, octets)) for context, time, octets in plays]
+        return [self._unpack("I", body)[0] for body in self._ask_all(PLAY, requests)]
+
+    def records(self, records, wait=True):
+        """Records by several contexts of this connection. Each record is a context, a time and a number of frames.
+
+        Returns for each what `Context.record` returns. If they wait, each waits for the one before it, too. If not, they give
+        what was captured up to one moment.
+        """
+        records = [(context, time, frames * context.frame) for context, time, frames in records]
+        requests = [
+            self._request(RECORD, bool(wait), "III", context.number, time, wanted) for context, time, wanted in records]
+        bodies = self._ask_all(RECORD, requests)
+        return [self._recorded(body, context.frame, wanted, wait) for body, (context, _, wanted) in zip(bodies, records)]
 
     def context(self, device, type=None, play_gain=0, record_gain=0, preempt=False, channels=None):
         """A new `Context` on a device, of the device's type if none is stated. A connection has 16 at most.
@@ -251,31 +304,48 @@ class Connection:
         """Sends a request whose reply is empty."""
         self._check(not self._ask(*request), "a body where none is due")
 
-    def _ask(self, opcode, detail=0, form="", *fields, data=b"", is_answered=True):
+    def _ask(self, opcode, detail=0, form="", *fields, is_answered=True):
         """Sends a request, and gives the body of its reply."""
+        return self._ask_all(opcode, [self._request(opcode, detail, form, *fields)], is_answered)[0]
+
+    def _request(self, opcode, detail=0, form="", *fields):
+        """The bytes of a request."""
         try:
-            body = struct.pack(self._letter + form, *fields) + data
+            body = struct.pack(self._letter + form, *fields)
             body += bytes(-len(body) % 4)
-            request = struct.pack(self._letter + "BBH", opcode, detail, 1 + len(body) // 4) + body
+            return struct.pack(self._letter + "BBH", opcode, detail, 1 + len(body) // 4) + body
         except struct.error as fault:
             raise ValueError("a value does not fit: %s" % fault) from None
+
+    def _ask_all(self, opcode, requests, is_answered=True):
+        """Sends requests of one kind at once, and gives the bodies of their replies."""
         try:
-            self._call(self._link.sendall, None, request)
-            self._number = (self._number + 1) % 65536
-            if is_answered:
-                # numbers wrap: one of these may be that of a play before
-                self._unanswered.discard(self._number)
-                return self._answer(opcode)
-            self._unanswered.add(self._number)
-            # takes what is there, since the server does not serve a client that reads nothing
-            while self._take(monotonic()):
-                pass
-        except Refused:
-            raise
+            self._call(self._link.sendall, None, b"".join(requests))
+            answers = [self._answered(opcode, is_answered) for _ in requests]
         except BaseException:
-            # also if the caller is interrupted: the answer would be met by the next request
+            # also if the caller is interrupted: the answers would be met by the next request
             self.close()
             raise
+        for answer in answers:
+            if isinstance(answer, Refused):
+                raise answer
+        return answers
+
+    def _answered(self, opcode, is_answered):
+        """The body of the reply to the next request of those that were sent, or its refusal. None if it has no answer."""
+        self._number = (self._number + 1) % 65536
+        if is_answered:
+            # numbers wrap: one of these may be that of a play before
+            self._unanswered.discard(self._number)
+            try:
+                return self._answer(opcode)
+            except Refused as refusal:
+                return refusal
+        self._unanswered.add(self._number)
+        # takes what is there, since the server does not serve a client that reads nothing
+        while self._take(monotonic()):
+            pass
+        return None
 
     def _answer(self, opcode, deadline=None):
         """The body of the reply to the last request."""
@@ -314,6 +384,13 @@ class Connection:
         else:
             return False
         return True
+
+    def _recorded(self, body, frame, wanted, wait):
+        """The time and the bytes of the reply to a record of so many bytes."""
+        now, count = self._unpack("II", body[:8])
+        is_good = count == wanted if wait else count <= wanted and count % frame == 0
+        self._check(is_good and body[8 + count:] == bytes(-count % 4), "a record of other bytes")
+        return now, body[8:8 + count]
 
     def _refusal(self, code, body):
         value, opcode, zeros = self._unpack("IB3s", body)
@@ -393,24 +470,16 @@ class Context:
 
         Frames for times before that came too late, and are not heard. A play that ends more than the horizon ahead waits.
         """
-        samples = memoryview(samples).tobytes()
-        if len(samples) > MOST_PLAYED:
-            raise ValueError("a play has at most %d bytes, and not %d" % (MOST_PLAYED, len(samples)))
-        fields = self.number, time, len(samples)
-        body = self.connection._ask(PLAY, not reply, "III", *fields, data=samples, is_answered=reply)
-        return self.connection._unpack("I", body)[0] if reply else None
+        if reply:
+            return self.connection.plays([(self, time, samples)])[0]
+        self.connection._ask(PLAY, True, *self._to_play(time, samples), is_answered=False)
 
     def record(self, time, frames, wait=True):
         """Records frames from a time on, 16000 bytes at most. Returns the device's time, and the bytes.
 
         It waits until the last frame was captured. If it shall not, it gives those that were: fewer then, or none.
         """
-        wanted = frames * self.frame
-        body = self.connection._ask(RECORD, bool(wait), "III", self.number, time, wanted)
-        now, count = self.connection._unpack("II", body[:8])
-        is_good = count == wanted if wait else count <= wanted and count % self.frame == 0
-        self.connection._check(is_good and body[8 + count:] == bytes(-count % 4), "a record of other bytes")
-        return now, body[8:8 + count]
+        return self.connection.records([(self, time, frames)], wait)[0]
 
     def change(self, play_gain=None, record_gain=None, preempt=None):
         """Changes what is stated, for plays and records from now on."""
@@ -420,6 +489,13 @@ class Context:
     def free(self):
         """Takes the context away. What was played by it stays."""
         self.connection._do(FREE_AC, 0, "I", self.number)
+
+    def _to_play(self, time, samples):
+        """What a request to play these samples has in it."""
+        samples = memoryview(samples).tobytes()
+        if len(samples) > MOST_PLAYED:
+            raise ValueError("a play has at most %d bytes, and not %d" % (MOST_PLAYED, len(samples)))
+        return "III%ds" % len(samples), self.number, time, len(samples), samples
 
 
 def _number(device):

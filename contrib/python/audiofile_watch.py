@@ -1,5 +1,6 @@
 """Watches an AudioFile server as a client that only listens: its devices, levels, clocks, controls and lines, and what its log
-says. It stands on the module `audiofile` beside it. contrib/audiofile-status shows what it finds.
+says. It stands on the module `audiofile` beside it. contrib/audiofile-status shows what it finds, and contrib/audiofile-meter the
+levels.
 
     watch = audiofile_watch.Watch("127.0.0.1:1701")
     watch.start()
@@ -131,10 +132,14 @@ class DeviceWatch:
             self.frames += passed
             self.time = now
             self.clock.take(self.frames, moment)
-            self.level.take(peaks_of(octets, self.device.channels), moment)
+            self.take(octets, moment)
             is_lost = waiting > self.device.horizon
             self.next = now if is_lost else audiofile.later(self.next, count)
             is_whole = is_lost or count < most
+
+    def take(self, octets, moment):
+        """Takes a piece of what was captured."""
+        self.level.take(peaks_of(octets, self.device.channels), moment)
 
     def ask(self):
         """Takes the controls, and the flags of the line."""

@@ -22,6 +22,7 @@ kit:
 build: kit ## proves everything, and leaves the programs bin/afd and bin/af: some two hours of processor time, once
 	rt all check && mkdir -p bin && cd crates/afd && rt run -- script < stdin > /dev/null && cp out/afd ../../bin/afd
 	cd crates/af && rm -f out/af && { rt run -- arecord 127.0.0.1:1 --frames=1 2> /dev/null; cp out/af ../../bin/af; }
+	tools/stamp write bin/afd bin/af
 
 check: kit ## the quick check: layout, pages, and all worked cases by programs without a proof: three minutes on four processors
 	@tools/check
@@ -76,7 +77,7 @@ ADAPTERS = $(wildcard contrib/audiofile-*-card contrib/audiofile-card-run contri
   contrib/audiofile-playlist contrib/audiofile-meter
 # what audiofile-status, audiofile-playlist and audiofile-meter need: the modules, and the page
 STATUS = $(wildcard contrib/python/audiofile*.py) contrib/audiofile-status.html
-EXAMPLES = $(wildcard contrib/*.conf) contrib/asoundrc $(wildcard examples/*.script examples/*.py examples/*.sh) contrib/python/audiofile.py
+EXAMPLES = $(wildcard contrib/*.conf examples/*.conf) contrib/asoundrc $(wildcard examples/*.script examples/*.py examples/*.sh) contrib/python/audiofile.py
 DISSECTOR = $(wildcard contrib/audiofile.lua)
 
 # Refuses a path that cannot work, or that may not be the one that is meant. Make reads all lines of a recipe before it runs one,
@@ -101,6 +102,8 @@ install: ## puts programs, manual pages, units, completions, examples and dissec
 	install -d -- $(PAGES)/examples $(DISSECTORS) $(BASH_COMPLETIONS) $(ZSH_COMPLETIONS) $(SHARE)/audiofile
 	install -m 755 -- $(call shell_word,$(AFD)) $(PROGRAMS)/afd
 	install -m 755 -- $(call shell_word,$(AF)) $(PROGRAMS)/af
+	[ ! -f $(call shell_word,$(AFD).stamp) ] || install -m 644 -- $(call shell_word,$(AFD).stamp) $(SHARE)/audiofile/afd.stamp
+	[ ! -f $(call shell_word,$(AF).stamp) ] || install -m 644 -- $(call shell_word,$(AF).stamp) $(SHARE)/audiofile/af.stamp
 	install -m 755 -- $(ADAPTERS) $(PROGRAMS)
 	install -m 644 -- $(STATUS) $(SHARE)/audiofile
 	install -m 644 -- man/af.1 $(MANUALS)/man1/af.1
@@ -123,6 +126,7 @@ uninstall: ## takes away what install put there, with the same PREFIX and DESTDI
 	rm -f -- $(PROGRAMS)/afd $(PROGRAMS)/af $(addprefix $(PROGRAMS)/,$(notdir $(ADAPTERS)))
 	rm -f -- $(addprefix $(UNITS)/,$(SYSTEM_UNITS)) $(USER_UNITS)/afd.service $(PAGES)/copyright
 	rm -f -- $(BASH_COMPLETIONS)/af $(BASH_COMPLETIONS)/afd $(BASH_COMPLETIONS)/audiofile-meter $(ZSH_COMPLETIONS)/_audiofile
+	rm -f -- $(SHARE)/audiofile/afd.stamp $(SHARE)/audiofile/af.stamp
 	rm -f -- $(addprefix $(SHARE)/audiofile/,$(notdir $(STATUS))) $(MANUALS)/man1/audiofile-status.1 $(MANUALS)/man1/audiofile-playlist.1
 	rm -f -- $(MANUALS)/man1/audiofile-meter.1
 	rm -f -- $(MANUALS)/man1/af.1 $(MANUALS)/man5/afd-script.5 $(MANUALS)/man7/audiofile-protocol.7 $(MANUALS)/man8/afd.8

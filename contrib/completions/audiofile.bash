@@ -19,7 +19,7 @@ _audiofile() {
     [[ $program == audiofile-* ]] && first=1
     if ((COMP_CWORD < first)); then
         case $program in
-        af) words='aplay arecord aset apass answer list help version' ;;
+        af) words='aplay arecord aset apass answer events meter list help version' ;;
         afd) words='serve script exercise help version' ;;
         esac
         mapfile -t COMPREPLY < <(compgen -W "$words" -- "$word")
@@ -33,25 +33,31 @@ _audiofile() {
         words='--device=NUMBER'
         ;;
     "af aplay")
-        words='--device=0..7 --file=raw|au|wave --type=mu255|alaw|lin16|lin32 --gain=-30..30 --block=1..4000 --lead=0..60000 --time=0..4294967295 --preempt --drain --order=big|little'
+        words='--device=0..7 --file=raw|au|wave --type=mu255|alaw|lin16|lin32 --gain=-30..30 --block=1..4000 --lead=0..60000 --time=0..4294967295 --ahead=20..4000 --preempt --drain --strict --order=big|little --wait=0..3600'
         ;;
     "af arecord")
-        words='--frames=1..2147483647 --seconds=1..2147483 --device=0..7 --file=raw|au|wave --type=mu255|alaw|lin16|lin32 --gain=-30..30 --block=1..4000 --time=0..4294967295 --stop-peak=0..32768 --stop-blocks=1..1000000 --order=big|little'
+        words='--frames=1..2147483647 --seconds=1..2147483 --device=0..7 --file=raw|au|wave --type=mu255|alaw|lin16|lin32 --gain=-30..30 --block=1..4000 --time=0..4294967295 --stop-peak=0..32768 --stop-blocks=1..1000000 --true-header --strict --order=big|little --wait=0..3600'
         ;;
     "af aset")
-        words='--device=0..7 --input=on|off --input-gain=-30..30 --output=on|off --output-gain=-30..30 --hook=on|off --order=big|little'
+        words='--device=0..7 --input=on|off --input-gain=-30..30 --output=on|off --output-gain=-30..30 --hook=on|off --order=big|little --wait=0..3600'
         ;;
     "af apass")
-        words='--blocks=1..1000000 --from-device=0..7 --to-device=0..7 --type=mu255|alaw|lin16|lin32 --gain=-30..30 --block=1..4000 --delay=0..3000 --slack=0..3000 --order=big|little'
+        words='--blocks=1..1000000 --from-device=0..7 --to-device=0..7 --type=mu255|alaw|lin16|lin32 --gain=-30..30 --block=1..4000 --delay=0..3000 --slack=0..3000 --follow --order=big|little --wait=0..3600'
         ;;
     "af answer")
-        words='--calls=1..1000 --greeting=COMMAND --message=COMMAND --device=0..7 --rings=1..20'
+        words='--calls=1..1000 --greeting=COMMAND --message=COMMAND --device=0..7 --rings=1..20 --wait=0..3600'
+        ;;
+    "af events")
+        words='--device=0..7|all --kinds=ring,digit,loop,hook --count=1..1000000 --order=big|little --wait=0..3600'
+        ;;
+    "af meter")
+        words='--device=0..7 --every=1..60000 --count=1..1000000 --below=1..32768 --for=1..3600000 --order=big|little --wait=0..3600'
         ;;
     "af list")
-        words='--order=big|little'
+        words='--order=big|little --wait=0..3600'
         ;;
     "af help")
-        ((place == 2)) && words='aplay arecord aset apass answer list'
+        ((place == 2)) && words='aplay arecord aset apass answer events meter list'
         ;;
     "afd serve")
         ((place == 3)) && words='forever'

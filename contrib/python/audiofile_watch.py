@@ -164,7 +164,7 @@ class Journal(threading.Thread):
         self.rows = (
             (r"listening at ", self.begin), (r"connection (\d{1,9}) from (.*)", self.connect),
             (r"connection (\d{1,9}) closed", self.close), (r"device (\d): .*?\b(\d{1,9}) frames were lost", self.lose),
-            (r"device (\d) failed, (.*)", self.fail), (r"(\d{1,9}) turned away", self.turn_away),
+            (r"device (\d) failed and (.*)", self.fail), (r"(\d{1,9}) turned away", self.turn_away),
             (r"(\d{1,9}) lines left out", self.leave_out))
 
     def run(self):

@@ -1,7 +1,10 @@
 """Trials of tools/try-cards: cards whose clocks differ, that stand still, and that take nothing for a while. What is captured and
 what is handed out is compared frame by frame, and the time of a device with the frames that its program gave."""
 
+import os
+import re
 import signal
+import struct
 import subprocess
 import threading
 import time
@@ -15,6 +18,8 @@ WATCHED = 20
 MOST_DELAY = 0.25
 # how long a relay runs, in seconds, and the slacks of some, in milliseconds. A thousandth of a second is a millisecond
 RELAYED, SLACKS = 60, (15, 20, 30)
+# how long relays follow a clock, in seconds, and by how many frames what they make up for may differ from the drift
+FOLLOWED, MOST_APART = 25, 60
 # how late the time of a device may be after what its program gave, in seconds, and how many of a hundred may be later
 BEHIND, MOST_BEHIND = 0.1, 2
 
@@ -209,6 +214,44 @@ def relay(trial):
         trial.holds("each card was started once", fast.told(1) == even.told(1) == [])
         trial.ends(near)
         trial.ends(far)
+
+
+def follows(trial):
+    """Relays each way between servers whose cards differ by a thousandth: they follow the clock, and each frame is heard."""
+    fast, even = Card("fast", "lin16", 8000, speed=1.001, period=2), Card("even", "lin16", 8000, period=2)
+    with trial.serve(fast) as near, trial.serve(even) as far:
+        time.sleep(1)
+        ways = [(near, far, even, 1), (far, near, fast, -1)]
+        relays = [subprocess.Popen(
+            [trial.af, "apass", one.address, other.address, "--follow", "--blocks=%d" % (FOLLOWED * 40), "--block=200",
+             "--delay=500", "--slack=400"],
+            stdout=subprocess.PIPE, stderr=subprocess.PIPE, env={**os.environ, "AUDIOFILE_DETAILS": "1"}) for one, other, _, _ in ways]
+        ends = [passed.communicate(timeout=FOLLOWED + 20) for passed in relays]
+        time.sleep(1)
+        starved = waited(near.process.pid, far.process.pid)
+        for (_, _, card, sign), (line, details) in zip(ways, ends):
+            is_followed(trial, card, line, details, sign, starved)
+        trial.ends(near)
+        trial.ends(far)
+
+
+def is_followed(trial, card, line, details, sign, starved):
+    """Whether a relay never started afresh, made up for the drift, and its sound was heard frame by frame."""
+    passed = "passed %d resynced 0" % (FOLLOWED * 40)
+    trial.holds("to %s: %s: %s" % (card.name, passed, line), line.decode().strip() == passed)
+    found = re.search(rb"played (\d+) frames? twice to follow the clock, left (\d+) frames? out", details)
+    doubled, without = map(int, found.groups()) if found else (-1, -1)
+    drift, some = FOLLOWED * card.rate // 1000, MOST_APART + starved * card.rate
+    told = "to %s: %d frames twice, %d left out, a drift of %d, starved for %.2f s" % (card.name, doubled, without, drift, starved)
+    trial.holds("it makes up for the drift: " + told, found and abs(sign * (without - doubled) - drift) <= some)
+    heard = card.got("heard").strip(b"\0")
+    frames = struct.unpack(">%dH" % (len(heard) // 2), heard[:len(heard) // 2 * 2])
+    steps = [(later - one) % 65535 if one and later else -1 for one, later in zip(frames, frames[1:])]
+    counts = [steps.count(it) for it in (0, 1, 2)]
+    # nothing follows the last frame of all, so that it is left out is not seen
+    trial.holds(
+        "each frame is heard, some twice, some left out: %s of %d: %s" % (counts, len(steps), told),
+        sum(counts) == len(steps) and counts[0] == doubled and without - counts[2] in (0, 1))
 
 
 def is_afresh(trial, slack, resynced, starved):

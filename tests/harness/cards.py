@@ -70,7 +70,7 @@ class Card(Noted):
     def line(self):
         """Its line of the configuration."""
         kept = {"speaker": {"gives": "no"}, "microphone": {"takes": "no"}, "card": {}}[self.kind]
-        # a command line has eight words of 64 bytes at most
+        # a command line has eight words at most
         options = ",".join([*("%s=%s" % it for it in {**kept, **self.words}.items()), *["coded"] * self.is_coded])
         program = "%s card.py name=%s,rate=%d,width=%d %s" % (sys.executable, self.name, self.rate, self.width, options)
         shape = "%s %d %d%s" % (self.type, self.rate, self.start, " stereo" if self.channels == 2 else "")

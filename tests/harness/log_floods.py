@@ -13,6 +13,7 @@ import tempfile
 import time
 
 import card_program
+from log_sessions import without_times
 from serving import SETUP, asked_time, free_port, is_served, set_up
 
 # how many clients come while the terminal takes nothing, and for how many bytes it still has room
@@ -22,7 +23,7 @@ RATE, SECONDS = 450, 4
 # how many frames a device has in a second that loses sound, and by how many seconds the log may be late
 FRAMES, LATE = 8000, 1.5
 LINE = re.compile(
-    rb"(listening at \S+|device 0: \S+, 8000 Hz, mono, silent|connection \d+ (from \S+|closed: the client ended it)"
+    rb"(listening at \S+|device 0: \S+, 8000 Hz, mono, silent|connection \d+ (from \S+|closed: the client closed its connection)"
     rb"|\d+ lines left out|late by \d+ milliseconds)")
 
 
@@ -51,9 +52,10 @@ def fill(far, least=0):
     """Fills a terminal with bytes, but for so many. How many went in."""
     count = 0
     os.set_blocking(far, False)
-    with contextlib.suppress(BlockingIOError):
-        while not least or count < least:
-            count += os.write(far, b"x" * min(64, least - count if least else 64))
+    for piece in (64, 1):
+        with contextlib.suppress(BlockingIOError):
+            while not least or count < least:
+                count += os.write(far, b"x" * min(piece, least - count if least else piece))
     os.set_blocking(far, True)
     return count
 
@@ -114,6 +116,41 @@ def stalled_terminal(afd):
     return None if any(b"left out" in line for line in lines) else "no line says what was left out"
 
 
+def stalled_end(afd):
+    """A server ends while standard error is a terminal that nobody reads: its address is free, though it still waits to say so."""
+    near, far = pty.openpty()
+    try:
+        fill(far)
+        port = free_port()
+        child = subprocess.Popen(
+            [afd, "serve", "127.0.0.1:%d" % port, "100"], stdin=subprocess.PIPE, stdout=subprocess.DEVNULL, stderr=far)
+        child.stdin.write(b"device lin16 8000 0 silent\n")
+        child.stdin.close()
+        for _ in range(1000):
+            with contextlib.suppress(OSError):
+                socket.create_connection(("127.0.0.1", port), 5).close()
+                break
+            time.sleep(0.01)
+        for _ in range(500):
+            with contextlib.suppress(OSError):
+                socket.create_server(("127.0.0.1", port)).close()
+                return None if waits_on(child, port) else "it does not wait for its terminal"
+            time.sleep(0.02)
+        return "its address is not free"
+    finally:
+        child.kill()
+        child.wait()
+        os.close(near)
+        os.close(far)
+
+
+def waits_on(child, port):
+    """Whether a server is still there, and stays so, while somebody else has its address."""
+    with socket.create_server(("127.0.0.1", port)):
+        time.sleep(0.5)
+        return child.poll() is None
+
+
 def flood(port):
     """Clients come and go at a pace."""
     begun = time.monotonic()
@@ -133,7 +170,7 @@ class Losses:
             with set_up("127.0.0.1:%d" % port) as link:
                 self.times = [asked_time(link, device) for device in range(devices)]
         # the server writes on at the place of this file
-        self.said = os.pread(said.fileno(), 1 << 24, 0)
+        self.said = without_times(os.pread(said.fileno(), 1 << 24, 0))
         self.told = [self.told_of(device) for device in range(devices)]
         self.ends = [self.said.count(b"device %d: its program ended" % device) for device in range(devices)]
 
@@ -177,5 +214,6 @@ def losses_beside_a_flood(afd):
 
 TRIALS = {
     "a terminal that nobody reads holds nobody up": stalled_terminal,
+    "the address of a server that cannot say that it has ended": stalled_end,
     "a flood hides no loss": losses_beside_a_flood,
 }

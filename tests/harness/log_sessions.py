@@ -6,6 +6,7 @@ A session is a folder of tests/log with a file `session`. Its lines, one act eac
     fifo NAME               a FIFO lies there
     program NAME            a program lies there that takes all of its input, and ends with 0
     listen                  somebody else listens at the port first
+    levels                  a journal is to take the log
     start                   the server is started, with the configuration in `stdin`
     feed NAME, drain NAME   somebody opens a FIFO to write, or to read
     connect NAME [N]        one client connects, or N one after another
@@ -17,7 +18,7 @@ A session is a folder of tests/log with a file `session`. Its lines, one act eac
     stand MILLISECONDS      the server is stopped meanwhile
 
 `words` are those of the program; PORT in them is a free port, and so it is in `log`, which is what standard error has when all is
-over. Ports of clients are written as CLIENT. `status` is the status, if the server ends by itself; else it is ended by a signal.
+over. It is a file, in which each line of the log has its time; `log` leaves these out. Ports of clients are written as CLIENT. `status` is the status, if the server ends by itself; else it is ended by a signal.
 A machine may stand still, so lines that device time is late count only where the server was stopped. Then one or more of them are
 `late by N milliseconds`.
 """
@@ -38,8 +39,14 @@ from serving import GET_TIME, SETUP, free_port, received, reset
 LONGEST = 20
 ENVIRONMENT = {"AUDIOFILE_DETAILS": "1"}
 TAKER = "#!/bin/sh\nexec cat > /dev/null\n"
+TIME = re.compile(rb"^(afd: )\d{4}-\d\d-\d\dT\d\d:\d\d:\d\dZ ", re.MULTILINE)
 LATE = re.compile(rb"(?:^afd: late by \d+ milliseconds\n)+", re.MULTILINE)
 CLIENT = re.compile(rb"(connection \d+ from 127\.0\.0\.1:)\d+")
+
+
+def without_times(said):
+    """What a file has of a log, without the times of its lines."""
+    return TIME.sub(rb"\1", said)
 
 
 class Session:
@@ -52,6 +59,7 @@ class Session:
         self.clients = {}
         self.others = []
         self.server = None
+        self.environment = ENVIRONMENT
         self.stood = False
 
     def read(self, name, default=b""):
@@ -61,10 +69,14 @@ class Session:
         with open(path, "rb") as text:
             return text.read()
 
-    def said(self):
+    def written(self):
         """All that standard error has."""
         with open(os.path.join(self.room, "said"), "rb") as text:
             return text.read()
+
+    def said(self):
+        """The same without the times of the lines."""
+        return without_times(self.written())
 
     def act(self, line):
         name, *words = line.split(" ")
@@ -84,12 +96,15 @@ class Session:
     def listen(self):
         self.others.append(socket.create_server(("127.0.0.1", self.port)))
 
+    def levels(self):
+        self.environment = {**ENVIRONMENT, "AUDIOFILE_LEVELS": "1"}
+
     def start(self):
         words = self.read("words").decode().replace("PORT", str(self.port)).split("\n")[:-1]
         with open(os.path.join(self.room, "said"), "wb") as said:
             self.server = subprocess.Popen(
                 [self.afd, *words], stdin=subprocess.PIPE, stdout=subprocess.DEVNULL, stderr=said, cwd=self.room,
-                env={**os.environ, **ENVIRONMENT})
+                env={**os.environ, **self.environment})
         self.server.stdin.write(self.read("stdin"))
         self.server.stdin.close()
 
@@ -101,7 +116,7 @@ class Session:
 
     def address(self):
         """Where the server listens, by its log."""
-        found = re.search(rb"^afd: listening at (127\.0\.0\.1):(\d+)$", self.said(), re.MULTILINE)
+        found = re.search(rb"^(?:<6>)?afd: listening at (127\.0\.0\.1):(\d+)$", self.said(), re.MULTILINE)
         return found[1].decode(), int(found[2])
 
     def connect(self, name, count="1"):
@@ -173,6 +188,8 @@ class Session:
             wanted = self.read("status", None)
             if wanted is not None and status != int(wanted):
                 return "status %d in place of %d" % (status, int(wanted))
+            if status is None and any(line.startswith(b"afd: ") and not TIME.match(line) for line in self.written().splitlines()):
+                return "a line has no time: %s" % self.written().decode(errors="replace")
             said = CLIENT.sub(rb"\1CLIENT", self.said())
             said = re.sub(rb"127\.0\.0\.1:%d\b" % self.port, b"127.0.0.1:PORT", said)
             said = re.sub(rb"(listening at 127\.0\.0\.1:)\d+", rb"\1PORT", said)

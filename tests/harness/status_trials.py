@@ -111,7 +111,7 @@ def told_by_a_log(trial):
     before = "Nov 30 19:41:58 host afd[99]: "
     lines = [
         "afd: connection 7 from 192.0.2.1:5000", "afd: listening at 127.0.0.1:1701", "afd: connection 1 from 192.0.2.1:5001",
-        "<6>afd: connection 2 from <script>alert(1)</script>", "<6>afd: connection 1 closed: the client ended it",
+        "<6>afd: connection 2 from <script>alert(1)</script>", "<6>afd: connection 1 closed: the client closed its connection",
         "<4>afd: device 0: its program had no room, and 800 frames were lost", "afd: 3 turned away: all 32 connections are in use",
         before + "afd: device 0: its program had no room, and 25 frames were lost", "afd: 12 lines left out",
         "device 0: 5 frames were lost", "afd: device 9: its program had no room, and 3 frames were lost", "\xff" * 9000]
@@ -126,9 +126,9 @@ def told_by_a_log(trial):
         trial.holds("lost sound: %s" % device["lost"], device["lost"] == {"frames": 825, "times": 2} and device["failed"] is None)
         body = page.ask("/metrics")[2].decode()
         trial.holds("metrics of it", 'audiofile_lost_frames_total{server="%s",device="0"} 825.0\n' % server.address in body)
-        file.write("afd: device 0 failed, nothing can be captured any more: Input/output error\n")
+        file.write("afd: device 0 failed and is silent from now on: Input/output error\n")
         file.flush()
-        is_failed = page.becomes(lambda it: (it["devices"][0]["failed"] or "").startswith("nothing can be captured"))
+        is_failed = page.becomes(lambda it: (it["devices"][0]["failed"] or "").startswith("is silent from now on"))
         trial.holds("a device that failed", is_failed)
         trial.ends(server, is_logged=True)
 

@@ -21,7 +21,9 @@ VARIABLE = "AUDIOFILE_SERVER"
 # where the reply to a setup states the channels of the first device
 CHANNELS_AT = 17
 # tools that write while they still ask; the others write when they are done
-ASKING_ON = {"arecord", "list"}
+ASKING_ON = {"arecord", "list", "meter"}
+# and those that write a line for each of these replies
+LINES = {"list": "GetTime", "meter": "Record"}
 # a standard output that is a pipe without a reader
 NOBODY = "nobody"
 
@@ -142,10 +144,11 @@ def recorded(replies):
 
 
 def written(run, replies):
-    """How many bytes are written after these replies. A list has a line for each device once its time is known. A sound file has
-    a header, which is written once the time is known, and may have a pad byte after the last block."""
-    if run.words[0] == "list":
-        told = sum(reply.name == "GetTime" for reply in replies)
+    """How many bytes are written after these replies. A list has a line for each device once its time is known, and a meter one
+    for each interval once that was recorded. A sound file has a header, which is written once the time is known, and may have a
+    pad byte after the last block."""
+    if run.words[0] in LINES:
+        told = sum(reply.name == LINES[run.words[0]] for reply in replies)
         return sum(len(line) for line in run.output.splitlines(keepends=True)[:told])
     if not any(reply.name == "GetTime" for reply in replies):
         return 0

@@ -2,6 +2,8 @@
 use Rattle.std.specs.Prelude.{ℕ, option_map, unwrap_or}
 use Rattle.af_answer.specs.declared.end.AnswerEnd.{AnswerEnd}
 use Rattle.af_details.specs.AnswerEnds.{as_tool_end}
+use Rattle.af_events.specs.declared.end.EventsEnd.{EventsEnd}
+use Rattle.af_events.specs.declared.end.EventsEnd.TheVariants as ended
 use Rattle.af_toolkit.specs.declared.end.ToolEnd.{ToolEnd}
 use Rattle.af_toolkit.specs.declared.end.ToolEnd.TheVariants as end
 
@@ -23,7 +25,13 @@ tool_status end.EventFlood = 19
 tool_status (end.ChannelMismatch from to) = 20
 tool_status (end.BadSound fault) = 21
 tool_status end.SoundCut = 22
+tool_status end.SoundLost = 24
 
 -- the exit statuses of the answering machine: those of the tools, and one more
 abbrev pub answer_status : AnswerEnd → ℕ
 answer_status how = unwrap_or (option_map tool_status (as_tool_end how)) 23
+
+-- and those of the tool that tells events, with the same one more
+abbrev pub events_status : EventsEnd → ℕ
+events_status (ended.Tool how) = tool_status how
+events_status (ended.NoLine device) = 23

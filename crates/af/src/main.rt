@@ -3,23 +3,31 @@
 #![tactic(auto)]
 
 ghost use Rattle.std.specs.Prelude.{◌≡◌};
-ghost use Rattle.af.specs.Statuses.{answer_status, tool_status};
+ghost use Rattle.af.specs.Statuses.{answer_status, events_status, tool_status};
 
 use af_answer::{AnswerEnd, answer_run, names_answer};
+use af_cli::{Call, true_form_of};
 use af_details::{
     Page, Streams, WatchedDial, WatchedSource, WatchedSpawner, as_tool_end, page_asked,
-    tell_answer, tell_no_text, tell_output, tell_tool,
+    states_option, tell_answer, tell_events, tell_meter, tell_no_text, tell_output, tell_tool,
+    tell_typed,
 };
 use af_environment::{completed_words, server_variable, tell_server_variable};
+use af_events::{EventsEnd, events_run, names_events};
 use af_io::{
     Args, StdSink, StdSource, TcpDial, WordsFault, open_standard_streams, program_words,
     wants_details,
 };
+use af_meter::{meter_run, names_meter};
+use af_patience::{NetFaults, PatientDial, ToolNet};
 use af_process::StdSpawner;
+use af_sound::SoundForm;
 use af_tools::{ToolEnd, af_run};
-use af_version::{PageFault, write_page};
+use af_true_header::{FilePlace, kept_true, output_place};
+use af_version::{PageFault, write_page, write_version};
 use std::io;
 use std::process::ExitCode;
+use std::rc::Rc;
 
 // The exit status of an end.
 fn status_of(end: ToolEnd) -> u8
@@ -46,6 +54,7 @@ fn status_of(end: ToolEnd) -> u8
         ToolEnd::ChannelMismatch { from: _, to: _ } => 20,
         ToolEnd::BadSound { fault: _ } => 21,
         ToolEnd::SoundCut => 22,
+        ToolEnd::SoundLost => 24,
     }
 }
 
@@ -56,6 +65,16 @@ fn answer_status_of(end: AnswerEnd) -> u8
     match as_tool_end(end) {
         Some(end) => status_of(end),
         None => 23,
+    }
+}
+
+// The exit status of an end of the tool events.
+fn events_status_of(end: EventsEnd) -> u8
+    ensures { result ≡ events_status end }
+{
+    match end {
+        EventsEnd::Tool(end) => status_of(end),
+        EventsEnd::NoLine { device: _ } => 23,
     }
 }
 
@@ -86,6 +105,7 @@ fn report(rt: &impl Eprint, end: ToolEnd) -> io::Result<()> {
         ToolEnd::ChannelMismatch { from, to } => eprintln!(rt; "af: channels {from} and {to}"),
         ToolEnd::BadSound { fault: _ } => eprintln!(rt; "af: bad sound file"),
         ToolEnd::SoundCut => eprintln!(rt; "af: sound file cut"),
+        ToolEnd::SoundLost => eprintln!(rt; "af: sound lost"),
     }
 }
 
@@ -94,6 +114,14 @@ fn report_answer(rt: &impl Eprint, end: AnswerEnd) -> io::Result<()> {
     match as_tool_end(end) {
         Some(end) => report(rt, end),
         None => eprintln!(rt; "af: no line"),
+    }
+}
+
+// Says on standard error how the tool events ended.
+fn report_events(rt: &impl Eprint, end: EventsEnd) -> io::Result<()> {
+    match end {
+        EventsEnd::Tool(end) => report(rt, end),
+        EventsEnd::NoLine { device: _ } => eprintln!(rt; "af: no line"),
     }
 }
 
@@ -121,7 +149,11 @@ fn main(rt: HostRuntime) -> ExitCode {
 // Writes a page of help, or the version, to standard output.
 fn show(rt: &HostRuntime, page: Page, details: bool) -> ToolEnd {
     let mut sink = StdSink::new(io::writer(rt));
-    let end = match write_page(rt.alloc(), &page, &mut sink) {
+    let written = match page {
+        Page::Version => write_version(rt, &mut sink),
+        page => write_page(rt.alloc(), &page, &mut sink),
+    };
+    let end = match written {
         Ok(()) => ToolEnd::Done,
         Err(PageFault::SinkFault) => ToolEnd::SinkFault,
         Err(PageFault::OutOfMemory) => ToolEnd::OutOfMemory,
@@ -155,9 +187,48 @@ fn run_tool(rt: &HostRuntime, words: &Args, details: bool) -> (u8, Option<ToolEn
     if names_answer(words) {
         let end = attend(rt, words, details);
         (answer_status_of(end), as_tool_end(end))
+    } else if names_events(words) {
+        let end = tell_lines(rt, words, details);
+        match end {
+            EventsEnd::Tool(ended) => (events_status_of(end), Some(ended)),
+            EventsEnd::NoLine { device: _ } => (events_status_of(end), None),
+        }
+    } else if names_meter(words) {
+        let end = measure(rt, words, details);
+        (status_of(end), Some(end))
     } else {
+        if details {
+            tell_typed(rt, rt.alloc(), words);
+        }
         let end = run(rt, words, details);
         (status_of(end), Some(end))
+    }
+}
+
+// For how many seconds the arguments have a refused dial tried again. Those that ask for nothing dial nobody.
+fn wait_of(rt: &HostRuntime, words: &Args) -> u32 {
+    if names_answer(words) {
+        return match af_answer::call_of(rt.alloc(), words) {
+            Ok(call) => call.wait,
+            Err(_) => 0,
+        };
+    }
+    if names_events(words) {
+        return match af_events::call_of(rt.alloc(), words) {
+            Ok(call) => call.wait,
+            Err(_) => 0,
+        };
+    }
+    if names_meter(words) {
+        return match af_meter::call_of(rt.alloc(), words) {
+            Ok(call) => call.wait,
+            Err(_) => 0,
+        };
+    }
+    match af_cli::call_of(rt.alloc(), words) {
+        Ok(Call::One(call)) => call.wait,
+        Ok(Call::Relay(call)) => call.wait,
+        Err(_) => 0,
     }
 }
 
@@ -177,20 +248,55 @@ fn said_answer(rt: &impl Eprint, end: AnswerEnd) -> AnswerEnd
     end
 }
 
+// Says how the tool events ended. If standard error takes nothing, the exit status still says it.
+fn said_events(rt: &impl Eprint, end: EventsEnd) -> EventsEnd
+    ensures { result ≡ end }
+{
+    let _ = report_events(rt, end);
+    end
+}
+
+// The form of a sound file whose header is kept true, and where it will lie; neither, if no arguments ask for it or standard
+// output cannot be corrected.
+fn true_place(rt: &HostRuntime, words: &Args) -> (Option<SoundForm>, Option<FilePlace>) {
+    let Some(form) = true_form_of(rt.alloc(), words) else {
+        return (None, None);
+    };
+    match output_place(rt) {
+        Some(place) => (Some(form), Some(place)),
+        None => (None, None),
+    }
+}
+
+// A dial over TCP that is tried again, and is watched.
+type ServerDial = WatchedDial<PatientDial<TcpDial<ToolNet<HostRuntime>>, HostRuntime>, HostRuntime>;
+
+// The dial of a tool with these arguments. None if memory is out. A relay that follows the clock tells of each minute.
+fn dial_for(rt: &HostRuntime, words: &Args, details: bool) -> Option<ServerDial> {
+    let faults = Rc::new(rt.alloc(), NetFaults::new()).ok()?;
+    let met = faults.clone().ok()?;
+    let tries = TcpDial::new(ToolNet::new(*rt, met));
+    let dial = PatientDial::new(tries, *rt, faults, wait_of(rt, words), details);
+    let teller = if details { Some(*rt) } else { None };
+    let follows = words.word(0) == Some("apass") && states_option(words, "follow");
+    Some(WatchedDial::new(dial, teller, follows))
+}
+
 // Runs the tool that the arguments name, over standard input, standard output and TCP.
 fn run(rt: &HostRuntime, words: &Args, details: bool) -> ToolEnd {
-    let Ok(net) = rt.clone() else {
+    let Some(mut dial) = dial_for(rt, words, details) else {
         return said(rt, ToolEnd::OutOfMemory);
     };
     let mut source = WatchedSource::new(StdSource::new(rt.reader()));
-    let mut sink = StdSink::new(io::writer(rt));
-    let mut dial = WatchedDial::new(TcpDial::new(net));
+    let (form, place) = true_place(rt, words);
+    let mut sink = kept_true(StdSink::new(io::writer(rt)), form, place);
     let end = af_run(rt.alloc(), words, &mut source, &mut sink, &mut dial);
+    sink.finish();
     let end = said(rt, end);
     if details {
         let streams = Streams {
             input: source.source().reason(),
-            output: sink.reason(),
+            output: sink.sink().sink().reason(),
         };
         tell_tool(
             rt,
@@ -207,15 +313,11 @@ fn run(rt: &HostRuntime, words: &Args, details: bool) -> ToolEnd {
 
 // Attends a line, over standard output, TCP, and the programs of the system.
 fn attend(rt: &HostRuntime, words: &Args, details: bool) -> AnswerEnd {
-    let Ok(net) = rt.clone() else {
-        return said_answer(rt, AnswerEnd::OutOfMemory);
-    };
-    let Ok(programs) = rt.clone() else {
+    let Some(mut dial) = dial_for(rt, words, details) else {
         return said_answer(rt, AnswerEnd::OutOfMemory);
     };
     let mut sink = StdSink::new(io::writer(rt));
-    let mut dial = WatchedDial::new(TcpDial::new(net));
-    let mut spawner = WatchedSpawner::new(StdSpawner::new(programs));
+    let mut spawner = WatchedSpawner::new(StdSpawner::new(*rt));
     let end = answer_run(rt.alloc(), words, &mut sink, &mut dial, &mut spawner);
     let end = said_answer(rt, end);
     if details {
@@ -229,6 +331,34 @@ fn attend(rt: &HostRuntime, words: &Args, details: bool) -> AnswerEnd {
             spawner.calls(),
             reason,
         );
+    }
+    end
+}
+
+// Tells events of telephone lines, over standard output and TCP.
+fn tell_lines(rt: &HostRuntime, words: &Args, details: bool) -> EventsEnd {
+    let Some(mut dial) = dial_for(rt, words, details) else {
+        return said_events(rt, EventsEnd::Tool(ToolEnd::OutOfMemory));
+    };
+    let mut sink = StdSink::new(io::writer(rt));
+    let end = events_run(rt.alloc(), words, &mut sink, &mut dial);
+    let end = said_events(rt, end);
+    if details {
+        tell_events(rt, rt.alloc(), words, end, dial.seen(), sink.reason());
+    }
+    end
+}
+
+// Measures how loud a device is, over standard output and TCP.
+fn measure(rt: &HostRuntime, words: &Args, details: bool) -> ToolEnd {
+    let Some(mut dial) = dial_for(rt, words, details) else {
+        return said(rt, ToolEnd::OutOfMemory);
+    };
+    let mut sink = StdSink::new(io::writer(rt));
+    let end = meter_run(rt.alloc(), words, &mut sink, &mut dial);
+    let end = said(rt, end);
+    if details {
+        tell_meter(rt, rt.alloc(), words, end, dial.seen(), sink.reason());
     }
     end
 }

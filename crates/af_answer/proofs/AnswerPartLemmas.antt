@@ -1,16 +1,17 @@
 -- Parts of an answering machine, one after the other.
 use Rattle.std.proofs.Common.{◌≡◌, ◌≤◌, ℕ, IsSome, Option, None, true, false, List, sym, ap, ◌∙◌, append_assoc, append-nil, refl, inl, inr, subst}
 use Rattle.std.specs.Prelude.{Result, Ok, Err}
-use Rattle.af_dialogue.specs.Parts.{IsProgramKind, Stopped, after_deeds, followed, goes_on, has_value, stops}
-use Rattle.af_dialogue.proofs.PartLemmas.{Reached, front_followed, goes_stop, goes_value, reached_goes, reached_here, reached_on}
+use Rattle.af_toolkit.specs.Parts.{IsProgramKind, Stopped, after_deeds, followed, goes_on, has_value, stops}
+use Rattle.af_toolkit.proofs.PartLemmas.{Reached, front_followed, goes_stop, goes_value, reached_goes, reached_here, reached_on}
 use Rattle.af_io.proofs.AppendedLemmas.{appended_none, appended_on}
 use Rattle.af_lib.specs.Calls.{ConnState}
 use Rattle.af_toolkit.specs.ToolParts.{LinkSight}
 use Rattle.af_answer.specs.declared.end.AnswerEnd.{AnswerEnd}
 use Rattle.af_answer.specs.declared.end.AnswerEnd.TheVariants as end
-use Rattle.af_answer.specs.AnswerTrace.{MachineTrace, AnswerFinish, MachineDeeds, MachineOutcome, MachinePart, ToCome, Work, working, doing}
+use Rattle.af_answer.specs.AnswerTrace.{MachineTrace, AnswerFinish, MachineDeeds, MachineOutcome, MachinePart, ToCome, Work, acts_of, doing, sent_by, working, written_by}
 use Rattle.af_answer.specs.AnswerParts.{Added, MatchesAnswer, Seen, Went, answering, is_from_outside, is_of_calls, seen_as}
 use Rattle.af_answer.specs.Children.{ChildRun}
+use Rattle.af_answer.proofs.WorkLemmas.{acts_on, sent_on, written_on}
 
 -- work and deeds, one after the other
 pub works_on : (a b c : Work) → working.joined (working.joined a b) c ≡ working.joined a (working.joined b c)
@@ -31,9 +32,9 @@ added_none s = record { link = appended_none s.far; children = appended_none s.a
 
 pub added_on : {a b c : Seen (Option (List ℕ))} {w v : Work} → Added a w b → Added b v c → Added a (working.joined w v) c
 added_on {a} {b} {c} {w} {v} f g = record {
-  link = appended_on a.far b.far c.far w.sends v.sends f.link g.link;
-  children = appended_on a.acts b.acts c.acts w.told v.told f.children g.children;
-  sink = appended_on a.held b.held c.held w.output v.output f.sink g.sink;
+  link = rw (sent_on w v) (appended_on a.far b.far c.far (sent_by w) (sent_by v) f.link g.link);
+  children = rw (acts_on w v) (appended_on a.acts b.acts c.acts (acts_of w) (acts_of v) f.children g.children);
+  sink = rw (written_on w v) (appended_on a.held b.held c.held (written_by w) (written_by v) f.sink g.sink);
 }
 
 pub is_answering : IsProgramKind answering

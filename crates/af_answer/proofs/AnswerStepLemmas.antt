@@ -3,7 +3,7 @@ use Rattle.std.proofs.Common.{◌≡◌, ℕ, zero, suc, List, [], ◌∷◌, sl
 use Rattle.af_wire.specs.declared.event.Event.{Event}
 use Rattle.af_io.specs.Observed.{Appended}
 use Rattle.af_io.proofs.AppendedLemmas.{appended_none}
-use Rattle.af_dialogue.specs.Parts.{Came, called, end_among}
+use Rattle.af_toolkit.specs.Parts.{Came, called, end_among}
 use Rattle.af_process.specs.Acts.{Told}
 use Rattle.af_request.specs.Asked.{Asked, hook_switch}
 use Rattle.af_request.specs.Requests.{request_bytes}
@@ -18,15 +18,28 @@ use Rattle.af_toolkit.specs.Ends.{client_of}
 use Rattle.af_toolkit.specs.ToolParts.{LinkSight, link_sight}
 use Rattle.af_toolkit.proofs.ToolPartLemmas.{Known, asked_known}
 use Rattle.af_answer.specs.declared.child.ChildEnd.{ChildEnd}
-use Rattle.af_answer.specs.AnswerTrace.{AnswerFinish, MachineOutcome, ToCome, after_event, awaits_event, connection_end, deeds_of_work, exchanges, hears, machine_end, met_fault, next_event, refusal, requests, runs_child, work}
+use Rattle.af_answer.specs.AnswerTrace.{AnswerFinish, MachineOutcome, ToCome, acting, after_event, awaits_event, connection_end, deeds_of_work, exchanges, hears, machine_end, met_fault, next_event, refusal, requests, runs_child, sending}
 use Rattle.af_answer.specs.AnswerParts.{Added, GoesBy, RunsBy, Seen, Went, answering, seen_as}
 use Rattle.af_answer.specs.OffHook.{IsOffHook}
 use Rattle.af_answer.specs.Children.{ChildRun, run_end, shell_words, told_of_run}
+use Rattle.af_answer.proofs.WorkLemmas.{acts_acting, acts_sending, sending_on, sent_acting, sent_sending, written_acting, written_sending}
 use Rattle.af_answer.proofs.AnswerPartLemmas.{added_none, went_stop, went_through}
 
 -- bytes that were sent, as work
-added_sent : {sent sent' : Option (List ℕ)} {acts : Option (List Told)} {held : Option (List ℕ)} {bytes : List ℕ} → Appended sent bytes sent' → Added (seen_as sent acts held) (work bytes [] []) (seen_as sent' acts held)
-added_sent {acts} {held} added = record { link = added; children = appended_none acts; sink = appended_none held }
+pub added_sent : {sent sent' : Option (List ℕ)} {acts : Option (List Told)} {held : Option (List ℕ)} (bytes : List ℕ) → Appended sent bytes sent' → Added (seen_as sent acts held) (sending bytes) (seen_as sent' acts held)
+added_sent {acts} {held} bytes added = record {
+  link = rw (sent_sending bytes) added;
+  children = rw (acts_sending bytes) (appended_none acts);
+  sink = rw (written_sending bytes) (appended_none held);
+}
+
+-- acts that were done, as work
+added_acts : {sent held : Option (List ℕ)} {acts acts' : Option (List Told)} (told : List Told) → Appended acts told acts' → Added (seen_as sent acts held) (acting told) (seen_as sent acts' held)
+added_acts {sent} {held} told added = record {
+  link = rw (sent_acting told) (appended_none sent);
+  children = rw (acts_acting told) added;
+  sink = rw (written_acting told) (appended_none held);
+}
 
 -- the machine ends as the fault of its refused request does, whichever request that was
 refusal_end : (asked : Asked) (f : ConnFault) → connection_end f ≡ machine_end (refusal asked f)
@@ -37,7 +50,7 @@ refusal_end asked f = refl
 -- a message that is sent and answered is a part of a machine
 module _ {X : Type 0} (reason : ConnFault → AnswerFinish) (ends_by : (f : ConnFault) → connection_end f ≡ machine_end (reason f)) (bytes : ClientState → List ℕ) (answer : ClientState → Result X ConnFault) (after : ClientState → ClientState) where
   abbrev answered_by : List ChildRun → ClientState → Result X ConnFault → MachineOutcome X
-  answered_by later w r = called (deeds_of_work (work (bytes w) [] [])) (end_among reason r) (record { wire = after w; runs = later })
+  answered_by later w r = called (deeds_of_work (sending (bytes w))) (end_among reason r) (record { wire = after w; runs = later })
 
   module _ (link link' : LinkSight) (acts : Option (List Told)) (held : Option (List ℕ)) where
     exchange_came : (later : List ChildRun) (w : ClientState) (result : Result X ConnFault) → IsFresh result → Sends result link.sent (bytes w) link'.sent → Known (answer w) (after w) link'.left link'.client result →
@@ -45,13 +58,13 @@ module _ {X : Type 0} (reason : ConnFault → AnswerFinish) (ends_by : (f : Conn
     exchange_came later w (Ok x) fresh sends known =
         let k = known (λ e. cc e) in
         let at = λ (v : ClientState). (let a : ToCome = record { wire = v; runs = later } in a) in
-        (at (after w), (k.0, k.1, ap at (sym k.3)), _, ap (answered_by later w) (sym k.2), added_sent (sends.whole (λ e. cc e)))
+        (at (after w), (k.0, k.1, ap at (sym k.3)), _, ap (answered_by later w) (sym k.2), added_sent (bytes w) (sends.whole (λ e. cc e)))
     exchange_came later w (Err fault.LinkFault) fresh sends known =
-        (deeds_of_work (work sends.part.front [] []), inl (refl, (deeds_of_work (work sends.part.rest [] []), ap (λ l. deeds_of_work (work l [] [])) sends.part.whole)), added_sent sends.part.appended)
+        (deeds_of_work (sending sends.part.front), inl (refl, (deeds_of_work (sending sends.part.rest), ap deeds_of_work (ap sending sends.part.whole ∙ sending_on sends.part.front sends.part.rest))), added_sent sends.part.front sends.part.appended)
     exchange_came later w (Err fault.OutOfMemory) fresh sends known = absurd fresh
     exchange_came later w (Err (fault.Spent first)) fresh sends known = absurd fresh
     exchange_came later w (Err f) fresh sends known =
-        (_, inr (reason f, (ends_by f, λ e. cc e), ap (answered_by later w) (sym (known (λ e. cc e)).2)), added_sent (sends.whole (λ e. cc e)))
+        (_, inr (reason f, (ends_by f, λ e. cc e), ap (answered_by later w) (sym (known (λ e. cc e)).2)), added_sent (bytes w) (sends.whole (λ e. cc e)))
 
     pub exchange_went : (result : Result X ConnFault) → IsFresh result → ((input : List ℕ) → link.left ≡ Some input → Sends result link.sent (bytes (link.client input)) link'.sent × Known (answer (link.client input)) (after (link.client input)) link'.left link'.client result) →
         Went (exchanges reason bytes answer after) (end_among connection_end result) (seen_as link acts held) (seen_as link' acts held)
@@ -132,8 +145,8 @@ child_went text run {how} ended told link held = record {
   goes = λ later. record {
     came = λ a stands. rw stands.2 (
         let there : ToCome = record { wire = link.client stands.0; runs = later } in
-        let o = λ (e : ChildEnd). (let o : MachineOutcome ChildEnd = called (deeds_of_work (work [] (told_of_run (shell_words text) run) [])) (Ok e) there in o) in
-        (there, (stands.0, stands.1, refl), deeds_of_work (work [] (told_of_run (shell_words text) run) []), ap o (sym ended), record { link = appended_none link.sent; children = told; sink = appended_none held }));
+        let o = λ (e : ChildEnd). (let o : MachineOutcome ChildEnd = called (deeds_of_work (acting (told_of_run (shell_words text) run))) (Ok e) there in o) in
+        (there, (stands.0, stands.1, refl), deeds_of_work (acting (told_of_run (shell_words text) run)), ap o (sym ended), added_acts (told_of_run (shell_words text) run) told));
   };
 }
 

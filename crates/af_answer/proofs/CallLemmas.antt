@@ -1,7 +1,7 @@
 -- Calls of a line: one is awaited, event by event; it is taken; and then the next.
 use Rattle.std.proofs.Common.{◌≡◌, ℕ, zero, suc, ◌-◌, ◌<◌, ◌==◌, if◌then◌else◌, arith, refl}
 use Rattle.af_wire.specs.declared.event.Event.{Event}
-use Rattle.af_dialogue.specs.Parts.{goes_on, has_value, stops}
+use Rattle.af_toolkit.specs.Parts.{goes_on, has_value, stops}
 use Rattle.af_answer.specs.declared.child.ChildEnd.{ChildEnd}
 use Rattle.af_answer.specs.declared.job.AnswerJob.{AnswerJob}
 use Rattle.af_answer.specs.declared.tally.Tally.{Tally}

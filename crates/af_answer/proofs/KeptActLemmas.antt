@@ -1,13 +1,13 @@
 -- The trace of a machine keeps to the acts that its events and the ends of its children ask for.
-use Rattle.std.proofs.Common.{◌≡◌, ◌≢◌, ℕ, zero, suc, ◌+◌, ◌==◌, if◌then◌else◌, Bool, true, false, List, [], ◌∷◌, ◌++◌, map, drop, get_or, arith, refl, sym, ap, ◌∙◌, Result, Ok, Err}
+use Rattle.std.proofs.Common.{◌≡◌, ◌≢◌, ℕ, zero, suc, ◌+◌, ◌==◌, if◌then◌else◌, Bool, true, false, List, [], ◌∷◌, ◌++◌, map, drop, get_or, arith, refl, sym, ap, subst, ◌∙◌, Result, Ok, Err}
 use Rattle.std.proofs.lemmas.Bool.{eq-eqb, ne_eqb}
 use Rattle.std.specs.List.{fold}
 use Rattle.af_wire.specs.declared.order.Order.{Order}
 use Rattle.af_wire.specs.declared.event.Event.{Event}
 use Rattle.af_request.specs.Asked.{hook_switch, select_events}
 use Rattle.af_request.specs.Requests.{request_bytes}
-use Rattle.af_dialogue.specs.Parts.{called, end_among, followed, goes_on, outcome, stops}
-use Rattle.af_dialogue.proofs.PartLemmas.{goes_on_twice, value_first}
+use Rattle.af_toolkit.specs.Parts.{called, end_among, followed, goes_on, outcome, stops}
+use Rattle.af_toolkit.proofs.PartLemmas.{goes_on_twice, value_first}
 use Rattle.af_lib.specs.declared.fault.ConnFault.{ConnFault}
 use Rattle.af_lib.specs.Calls.{as_done}
 use Rattle.af_toolkit.specs.Trace.{ClientState, after_reply, answer_on}
@@ -16,9 +16,10 @@ use Rattle.af_answer.specs.declared.child.ChildEnd.TheVariants as ended
 use Rattle.af_answer.specs.declared.job.AnswerJob.{AnswerJob}
 use Rattle.af_answer.specs.declared.tally.Tally.{Tally}
 use Rattle.af_answer.specs.Acts.{MachineAct, acts_after, acts_after_greeting, acts_from, greet, leaves_off, no_calls, off_after, off_hook, on_hook, record_message, rings_after, tally_after, write_tally}
-use Rattle.af_answer.specs.AnswerTrace.{MachineTrace, ToCome, AnswerFinish, MachineOutcome, MachinePart, Work, after_event, attends, attends_all, awaits_call, awaits_event, working, child_starved, deeds_of_work, doing, exchanges, finish_of, first_run, hears, leaves_message, met_fault, most_for_a_call, next_event, off_hook_fault, refusal, rang_too_little, requests, runs_child, work, takes_call, writes_tally}
+use Rattle.af_answer.specs.AnswerTrace.{MachineTrace, ToCome, AnswerFinish, MachineOutcome, MachinePart, Work, after_event, attends, attends_all, awaits_call, awaits_event, working, child_starved, deeds_of_work, doing, exchanges, finish_of, first_run, hears, leaves_message, met_fault, most_for_a_call, next_event, off_hook_fault, refusal, rang_too_little, requests, runs_child, sending, sent_by, takes_call, writes_tally}
 use Rattle.af_answer.specs.Answered.{StopsAtOffHook, SwitchesHook, acts_asked, later_runs, work_of, work_of_act, work_of_job}
 use Rattle.af_answer.specs.Children.{ChildRun, is_starved, run_end, start_failed}
+use Rattle.af_answer.proofs.WorkLemmas.{sent_on}
 use Rattle.af_answer.proofs.AnswerPartLemmas.{is_answering, works_end, works_on}
 
 -- the acts of a call, by the ends of the children to come
@@ -31,19 +32,19 @@ pub record Keeps (todo : Work) (Stops : List ℕ → Type 0) (work : Work) (fini
   pub undone : Work
   pub all : todo ≡ working.joined work undone
   pub whole : SwitchesHook finish → undone ≡ working.nothing
-  pub stops : (f : ConnFault) → finish ≡ off_hook_fault f → Stops work.sends
+  pub stops : (f : ConnFault) → finish ≡ off_hook_fault f → Stops (sent_by work)
 
 -- all is done
 keeps_all : {todo : Work} {Stops : List ℕ → Type 0} {finish : AnswerFinish} → ((f : ConnFault) → finish ≢ off_hook_fault f) → Keeps todo Stops todo finish
 keeps_all {todo} other = record { undone = working.nothing; all = sym (works_end todo); whole = λ switched. refl; stops = λ f met. absurd (other f met) }
 
 -- some work comes before
-keeps_after : (w : Work) {todo work : Work} {Stops Stops' : List ℕ → Type 0} {finish : AnswerFinish} → ((sends : List ℕ) → Stops sends → Stops' (w.sends ++ sends)) → Keeps todo Stops work finish → Keeps (working.joined w todo) Stops' (working.joined w work) finish
-keeps_after w {work = work} later k = record {
+keeps_after : (w : Work) {todo work : Work} {Stops Stops' : List ℕ → Type 0} {finish : AnswerFinish} → ((sends : List ℕ) → Stops sends → Stops' (sent_by w ++ sends)) → Keeps todo Stops work finish → Keeps (working.joined w todo) Stops' (working.joined w work) finish
+keeps_after w {work = work} {Stops' = Stops'} later k = record {
   undone = k.undone;
   all = ap (λ (v : Work). working.joined w v) k.all ∙ sym (works_on w work k.undone);
   whole = k.whole;
-  stops = λ f met. later work.sends (k.stops f met);
+  stops = λ f met. subst Stops' (sym (sent_on w work)) (later (sent_by work) (k.stops f met));
 }
 
 -- an OffHook was sent last, and the acts before it leave the hook on, as it was before them
@@ -51,7 +52,7 @@ pub record StopsOff (order : Order) (off : Bool) (job : AnswerJob) (acts : List 
   pub before : List MachineAct
   pub later : List MachineAct
   pub are : acts ≡ before ++ off_hook ∷ later
-  pub sent : sends ≡ (work_of order job (before ++ off_hook ∷ []) runs).sends
+  pub sent : sends ≡ sent_by (work_of order job (before ++ off_hook ∷ []) runs)
   pub on : fold off_after off before ≡ false
 
 abbrev pub KeepsTo : Order → (off : Bool) → AnswerJob → List MachineAct → List ChildRun → MachineTrace → Type 0
@@ -63,10 +64,10 @@ module _ (order : Order) (off : Bool) (job : AnswerJob) (act : MachineAct) (acts
       Keeps (work_of order job (act ∷ acts) runs) (StopsOff order off job (act ∷ acts) runs) (working.joined (work_of_act order job act (first_run runs)) work) finish
   did k =
       let w = work_of_act order job act (first_run runs) in
-      keeps_after w (λ sends s. record { before = act ∷ s.before; later = s.later; are = ap (λ l. act ∷ l) s.are; sent = ap (λ l. w.sends ++ l) s.sent; on = s.on }) k
+      keeps_after w (λ sends s. record { before = act ∷ s.before; later = s.later; are = ap (λ l. act ∷ l) s.are; sent = ap (λ l. sent_by w ++ l) s.sent ∙ sym (sent_on w _); on = s.on }) k
 
   -- a HookSwitch was answered with a fault: none of the acts after it was done
-  refused : {finish : AnswerFinish} → (SwitchesHook finish → ⊥) → ((f : ConnFault) → finish ≡ off_hook_fault f → StopsOff order off job (act ∷ acts) runs (working.joined (work_of_act order job act (first_run runs)) working.nothing).sends) →
+  refused : {finish : AnswerFinish} → (SwitchesHook finish → ⊥) → ((f : ConnFault) → finish ≡ off_hook_fault f → StopsOff order off job (act ∷ acts) runs (sent_by (working.joined (work_of_act order job act (first_run runs)) working.nothing))) →
       Keeps (work_of order job (act ∷ acts) runs) (StopsOff order off job (act ∷ acts) runs) (working.joined (work_of_act order job act (first_run runs)) working.nothing) finish
   refused never stopped = record {
     undone = work_of order job acts (later_runs act runs);
@@ -101,7 +102,7 @@ module _ (w : ClientState) (job : AnswerJob) (acts : List Event → List Machine
   later = next tt here
 
   abbrev switched_by : ℕ → Result (Unit {0}) ConnFault → MachineTrace
-  switched_by off r = trace_by (called (deeds_of_work (work (request_bytes w.order (hook_switch job.device off)) [] [])) (end_among (refusal (hook_switch job.device off)) r) here) next
+  switched_by off r = trace_by (called (deeds_of_work (sending (request_bytes w.order (hook_switch job.device off)))) (end_among (refusal (hook_switch job.device off)) r) here) next
 
   taken_off : (r : Result (Unit {0}) ConnFault) → KeepsTo w.order true job (acts later.did.heard) runs later → (let t = switched_by 1 r in KeepsTo w.order false job (off_hook ∷ acts t.did.heard) runs t)
   taken_off (Ok u) k = did w.order false job off_hook _ runs k
@@ -244,11 +245,11 @@ module _ (job : AnswerJob) (w : ClientState) (runs : List ChildRun) (some : (0 =
   calls u = goes_on doing (attends job.calls job no_calls) writes_tally
 
   asked_keeps : (r : Result (Unit {0}) ConnFault) →
-      KeepsAll w.order job (trace_by (called (deeds_of_work (work (request_bytes w.order (select_events job.device 3)) [] [])) (end_among (refusal (select_events job.device 3)) r) (record { wire = after_reply w; runs = runs })) calls) runs
+      KeepsAll w.order job (trace_by (called (deeds_of_work (sending (request_bytes w.order (select_events job.device 3)))) (end_among (refusal (select_events job.device 3)) r) (record { wire = after_reply w; runs = runs })) calls) runs
   unfolding acts_from
   asked_keeps (Ok u) =
-      keeps_after (work (request_bytes w.order (select_events job.device 3)) [] [])
-      (λ sends s. record { before = s.before; later = s.later; are = s.are; sent = ap (λ l. request_bytes w.order (select_events job.device 3) ++ l) s.sent; on = s.on })
+      keeps_after (sending (request_bytes w.order (select_events job.device 3)))
+      (λ sends s. record { before = s.before; later = s.later; are = s.are; sent = ap (λ l. sent_by (sending (request_bytes w.order (select_events job.device 3))) ++ l) s.sent ∙ sym (sent_on (sending (request_bytes w.order (select_events job.device 3))) (work_of w.order job (s.before ++ off_hook ∷ []) runs)); on = s.on })
       (rw some at (attends_keeps job job.calls no_calls (omega arith) (after_reply w) runs))
   asked_keeps (Err f) = keeps_all (λ x e. cc e)
 

@@ -1,3 +1,4 @@
+pub mod WorkLemmas
 pub mod AnswerPartLemmas
 pub mod AnswerStepLemmas
 pub mod CallLemmas

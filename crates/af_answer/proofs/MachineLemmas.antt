@@ -8,7 +8,7 @@ use Rattle.af_io.specs.declared.flow.Put.{Put}
 use Rattle.af_io.specs.declared.flow.Put.TheVariants as puts
 use Rattle.af_io.specs.Flow.{AppendedPrefix, Written as Wrote}
 use Rattle.af_io.proofs.AppendedLemmas.{appended_none}
-use Rattle.af_dialogue.specs.Parts.{followed, goes_on, stops}
+use Rattle.af_toolkit.specs.Parts.{followed, goes_on, stops}
 use Rattle.af_wire.specs.declared.order.Order.{Order}
 use Rattle.af_process.specs.Acts.{Told}
 use Rattle.af_request.specs.declared.reply.DeviceInfo.{DeviceInfo}
@@ -21,10 +21,11 @@ use Rattle.af_answer.specs.declared.end.AnswerEnd.TheVariants as end
 use Rattle.af_answer.specs.declared.job.AnswerJob.{AnswerJob}
 use Rattle.af_answer.specs.declared.tally.Tally.{Tally}
 use Rattle.af_answer.specs.Acts.{MachineAct, no_calls}
-use Rattle.af_answer.specs.AnswerTrace.{MachineTrace, ToCome, AnswerFinish, MachineDeeds, MachineOutcome, MachinePart, Work, all_answered, attends_all, working, child_starved, connection_end, deeds_of_work, device_missing, doing, finish_of, line_at, line_missing, missing, machine_end, met_fault, off_hook_fault, on_hook_fault, rang_too_little, tally_text, work, writes_tally}
+use Rattle.af_answer.specs.AnswerTrace.{MachineTrace, ToCome, AnswerFinish, MachineDeeds, MachineOutcome, MachinePart, Work, acts_of, all_answered, attends_all, working, child_starved, connection_end, deeds_of_work, device_missing, doing, finish_of, line_at, line_missing, missing, machine_end, met_fault, off_hook_fault, on_hook_fault, rang_too_little, sent_by, tally_text, writes_tally, writing}
 use Rattle.af_answer.specs.AnswerParts.{Added, MachineEnd, MatchesAnswer, Seen, Went, is_from_outside, is_of_calls, seen_as}
 use Rattle.af_answer.specs.Answered.{AnswerRan, HangsUp, HasLine, KeepsToActs, LeavesHook, PutsOn, RanAs, StopsAtOffHook, SwitchesHook, acts_asked, work_of_job}
 use Rattle.af_answer.specs.Children.{ChildRun, run_end}
+use Rattle.af_answer.proofs.WorkLemmas.{acts_on, acts_writing, sent_on, sent_writing, writing_on, written_writing}
 use Rattle.af_answer.proofs.AnswerPartLemmas.{added_none, added_on, matches_after, stopped_matches, works_end, works_on}
 use Rattle.af_answer.proofs.KeptActLemmas.{KeepsAll, acts_leave_on, line_keeps}
 
@@ -88,23 +89,23 @@ module _ (order : Order) (job : AnswerJob) (t : MachineTrace) (runs : List Child
   abbrev acts : List MachineAct
   acts = acts_asked job t runs
 
-  all_acted : {how : AnswerEnd} → MatchesAnswer t how done → how ≢ end.LinkFault → (t.did.work.sends ≡ done.work.sends) × (t.did.work.told ≡ done.work.told)
+  all_acted : {how : AnswerEnd} → MatchesAnswer t how done → how ≢ end.LinkFault → (sent_by t.did.work ≡ sent_by done.work) × (acts_of t.did.work ≡ acts_of done.work)
   all_acted m acting =
       let undone = m.acted acting in (
-        ap (λ (d : MachineDeeds). d.work.sends) m.all ∙ ap (λ l. done.work.sends ++ l) undone.0 ∙ append-nil done.work.sends,
-        ap (λ (d : MachineDeeds). d.work.told) m.all ∙ ap (λ l. done.work.told ++ l) undone.1 ∙ append-nil done.work.told,
+        ap (λ (d : MachineDeeds). sent_by d.work) m.all ∙ sent_on done.work m.undone.work ∙ ap (λ l. sent_by done.work ++ l) undone.0 ∙ append-nil (sent_by done.work),
+        ap (λ (d : MachineDeeds). acts_of d.work) m.all ∙ acts_on done.work m.undone.work ∙ ap (λ l. acts_of done.work ++ l) undone.1 ∙ append-nil (acts_of done.work),
       )
 
   hangs : {how : AnswerEnd} → MatchesAnswer t how done → how ≢ end.LinkFault → SwitchesHook (finish_of t) → HangsUp (work_of_job order job acts runs) acts done.work
   hangs m acting switched =
       let same : work_of_job order job acts runs ≡ t.did.work = k.all ∙ ap (λ (w : Work). working.joined t.did.work w) (k.whole switched) ∙ works_end t.did.work in
       record {
-        sent = sym (ap (λ (w : Work). w.sends) same ∙ (all_acted m acting).0);
-        children = sym (ap (λ (w : Work). w.told) same ∙ (all_acted m acting).1);
+        sent = sym (ap sent_by same ∙ (all_acted m acting).0);
+        children = sym (ap acts_of same ∙ (all_acted m acting).1);
         on = acts_leave_on job 0 no_calls t.did.heard (map run_end runs);
       }
 
-  hook_left : (how : AnswerEnd) → is_of_line how ≡ true → MatchesAnswer t how done → LeavesHook how (finish_of t) (HangsUp (work_of_job order job acts runs) acts done.work) (StopsAtOffHook order job acts runs done.work.sends) done.work.sends
+  hook_left : (how : AnswerEnd) → is_of_line how ≡ true → MatchesAnswer t how done → LeavesHook how (finish_of t) (HangsUp (work_of_job order job acts runs) acts done.work) (StopsAtOffHook order job acts runs (sent_by done.work)) (sent_by done.work)
   hook_left end.Done way m = hangs m (λ e. cc e) (switched_where_done (finish_of t) (m.whole refl).0)
   hook_left end.SinkFault way m = hangs m (λ e. cc e) (rw (m.reported refl) (λ f e. cc e, λ f e. cc e))
   hook_left end.OutOfMemory way m = hangs m (λ e. cc e) (rw (m.starved refl) (λ f e. cc e, λ f e. cc e))
@@ -145,20 +146,24 @@ line_of_put puts.Failed = refl
 -- the line was written, or a part of it
 module _ (tally : Tally) (a : ToCome) (s : Seen (Option (List ℕ))) (held : Option (List ℕ)) where
   abbrev Written : AnswerEnd → Type 0
-  Written how = (front : List ℕ) × MatchesAnswer (writes_tally tally a) how (deeds_of_work (work [] [] front)) × Added s (work [] [] front) (record s { held = held })
+  Written how = (front : List ℕ) × MatchesAnswer (writes_tally tally a) how (deeds_of_work (writing front)) × Added s (writing front) (record s { held = held })
 
   writes : (how : AnswerEnd) (p : AppendedPrefix s.held (tally_text tally) held) → (is_from_outside how ≡ false → (how ≡ end.Done) × (p.rest ≡ [])) → how ≢ end.OutOfMemory → Written how
   writes how p only other = (
     p.front,
     record {
-      undone = deeds_of_work (work [] [] p.rest);
-      all = ap (λ l. deeds_of_work (work [] [] l)) p.whole;
-      whole = λ inner. ((only inner).0, ap (λ l. deeds_of_work (work [] [] l)) (only inner).1);
-      acted = λ _. (refl, refl);
+      undone = deeds_of_work (writing p.rest);
+      all = ap deeds_of_work (ap writing p.whole ∙ writing_on p.front p.rest);
+      whole = λ inner. ((only inner).0, ap (λ l. deeds_of_work (writing l)) (only inner).1);
+      acted = λ _. (sent_writing p.rest, acts_writing p.rest);
       starved = λ e. absurd (other e);
       reported = λ e. refl;
     },
-    record { link = appended_none s.far; children = appended_none s.acts; sink = p.appended },
+    record {
+      link = rw (sent_writing p.front) (appended_none s.far);
+      children = rw (acts_writing p.front) (appended_none s.acts);
+      sink = rw (written_writing p.front) p.appended;
+    },
   )
 
   written : (put : Put) → Wrote put s.held (tally_text tally) held → Written (put_end put)
@@ -207,7 +212,7 @@ module _ (job : AnswerJob) (devices : List DeviceInfo) (some : 1 ≤ job.calls) 
         let c = (w.goes []).came a (input, told, refl) in
         let t = written tally c.0 (seen_as link'.sent acts' held) held' put wrote in
         let whole = λ (o : MachineOutcome Tally). followed doing o.did o.end (λ y. writes_tally y.0 y.1) in
-        ended_ran (link.client input) (w.runs []) (doing.joined c.2 (deeds_of_work (work [] [] t.0))) (line_of_put put) (matches_after c.2 (ap whole c.3) t.1) (added_on c.4 t.2)
+        ended_ran (link.client input) (w.runs []) (doing.joined c.2 (deeds_of_work (writing t.0))) (line_of_put put) (matches_after c.2 (ap whole c.3) t.1) (added_on c.4 t.2)
 
 -- a machine whose device is missing, or has no line
 module _ (job : AnswerJob) (devices : List DeviceInfo) (w : ClientState) where

@@ -4,10 +4,9 @@ use Rattle.clap.specs.Words.{Text}
 use Rattle.af_io.specs.Observed.{Appended}
 use Rattle.af_io.specs.Flow.{AppendedPrefix}
 use Rattle.af_io.specs.Dial.{AppendedBack, IsFirstOf, ToldLink}
-use Rattle.af_io.proofs.AppendedLemmas.{appended_none}
 use Rattle.af_wire.specs.declared.order.Order.TheVariants.{Big}
 use Rattle.af_wire.specs.Front.{setup_bytes}
-use Rattle.af_dialogue.specs.Parts.{called, end_among, followed, goes_on}
+use Rattle.af_toolkit.specs.Parts.{called, end_among, followed, goes_on}
 use Rattle.af_process.specs.Acts.{Told}
 use Rattle.af_request.specs.declared.reply.DeviceInfo.{DeviceInfo}
 use Rattle.af_lib.specs.declared.fault.ConnFault.{ConnFault}
@@ -20,13 +19,13 @@ use Rattle.af_toolkit.proofs.ToolPartLemmas.{client_begun, setup_known}
 use Rattle.af_answer.specs.declared.end.AnswerEnd.{AnswerEnd}
 use Rattle.af_answer.specs.declared.end.AnswerEnd.TheVariants as end
 use Rattle.af_answer.specs.declared.job.AnswerJob.{AnswerJob}
-use Rattle.af_answer.specs.AnswerTrace.{MachineOutcome, ToCome, answers, connection_end, deeds_of_work, doing, met_fault, work}
+use Rattle.af_answer.specs.AnswerTrace.{MachineOutcome, ToCome, answers, connection_end, deeds_of_work, doing, met_fault, sending}
 use Rattle.af_answer.specs.AnswerParts.{Seen, Went, is_of_calls, seen_as}
 use Rattle.af_answer.specs.Answered.{AnswerRan, RanAs}
 use Rattle.af_answer.specs.AnswerWords.{AnswerWords, answer_words, words_of_job}
 use Rattle.af_answer.specs.AnswerRun.{DialSight, LinkRan, RanAsked, RanOver, sets_up, whole_trace}
 use Rattle.af_answer.proofs.AnswerPartLemmas.{added_on, matches_after, stopped_matches}
-use Rattle.af_answer.proofs.AnswerStepLemmas.{exchange_went}
+use Rattle.af_answer.proofs.AnswerStepLemmas.{added_sent, exchange_went}
 
 -- a fault of a connection is an end of calls
 fault_of_calls : (f : ConnFault) → is_of_calls (connection_end f) ≡ true
@@ -68,14 +67,14 @@ set_up_ran {left} {sent} {faults} job {input} {far} conn {how} {s'} {a} {a'} {h}
     let place : client_of conn k.0 ≡ client_after_setup Big input = client_begun Big conn k.0 same_order first ∙ k.3 in
     let ran = subst (λ (v : ClientState). RanAs v.order job conn.devices (answers job conn.devices (record { wire = v; runs = r.runs })) r.runs how r.done) place r.ran in
     let set : Appended (sent far) (setup_bytes Big) (sent conn.link) = is.sends.whole (λ e. cc e) in
-    let setup = deeds_of_work (work (setup_bytes Big) [] []) in
+    let setup = deeds_of_work (sending (setup_bytes Big)) in
     let whole = λ (x : Result (List DeviceInfo) ConnFault).
     let o : MachineOutcome (List DeviceInfo) = called setup (end_among met_fault x) (record { wire = client_after_setup Big input; runs = r.runs }) in
     followed doing o.did o.end (λ y. answers job y.0 y.1) in
     record {
       runs = r.runs;
       done = doing.joined setup r.done;
-      added = added_on {b = seen_as (sent conn.link) a h} {w = work (setup_bytes Big) [] []} {v = r.done.work} (record { link = set; children = appended_none a; sink = appended_none h }) r.added;
+      added = added_on {b = seen_as (sent conn.link) a h} {w = sending (setup_bytes Big)} {v = r.done.work} (added_sent (setup_bytes Big) set) r.added;
       followed = matches_after setup (ap whole (sym k.2)) ran.followed;
       attended = λ devices same.
           let both : (let x : Result (List DeviceInfo) ConnFault = Ok conn.devices in x ≡ Ok devices) = k.2 ∙ same in

@@ -1,6 +1,6 @@
 -- How far a part of an answering machine came in its trace.
 use Rattle.std.specs.Prelude.{◌≡◌, ◌≢◌, ℕ, Bool, true, false, List, [], Result, Ok, Option, Some}
-use Rattle.af_dialogue.specs.Parts.{Goes, ProgramKind}
+use Rattle.af_toolkit.specs.Parts.{Goes, ProgramKind}
 use Rattle.af_io.specs.Observed.{Appended}
 use Rattle.af_process.specs.Acts.{Told}
 use Rattle.af_lib.specs.Calls.{ConnState}
@@ -8,7 +8,7 @@ use Rattle.af_toolkit.specs.ToolParts.{LinkSight, link_sight}
 use Rattle.af_answer.specs.declared.end.AnswerEnd.{AnswerEnd}
 use Rattle.af_answer.specs.declared.end.AnswerEnd.TheVariants as end
 use Rattle.af_answer.specs.AnswerTrace.{AnswerFinish, MachineDeeds, MachinePart, MachineTrace, ToCome, Work, all_answered}
-use Rattle.af_answer.specs.AnswerTrace.{child_starved, doing, finish_of, machine_end}
+use Rattle.af_answer.specs.AnswerTrace.{acts_of, child_starved, doing, finish_of, machine_end, sent_by, written_by}
 use Rattle.af_answer.specs.Children.{ChildRun}
 
 -- the ends that come from outside: neither the bytes of the link nor the children decide them
@@ -60,14 +60,14 @@ is_of_machine end.DialFault = false
 abbrev pub MachineEnd : AnswerEnd → Type 0
 MachineEnd how = is_of_machine how ≡ true
 
--- A machine ended and has done this: the first of what its trace has. If nothing from outside ended it, this is all of that, and
--- the end is that of the trace.
+-- A machine ended and has done this: the first of what its trace has, whose work has one order. If nothing from outside ended it,
+-- this is all of that, and the end is that of the trace.
 pub record MatchesAnswer (trace : MachineTrace) (how : AnswerEnd) (done : MachineDeeds) : Type 0 where
   pub undone : MachineDeeds
   pub all : trace.did ≡ doing.joined done undone
   pub whole : is_from_outside how ≡ false → (how ≡ machine_end (finish_of trace)) × (undone ≡ doing.nothing)
   -- all was sent and all children were run, unless the link failed
-  pub acted : how ≢ end.LinkFault → (undone.work.sends ≡ []) × (undone.work.told ≡ [])
+  pub acted : how ≢ end.LinkFault → (sent_by undone.work ≡ []) × (acts_of undone.work ≡ [])
   -- memory runs out only for a child, and the sink fails only where all calls were taken
   pub starved : how ≡ end.OutOfMemory → finish_of trace ≡ child_starved
   pub reported : how ≡ end.SinkFault → finish_of trace ≡ all_answered
@@ -83,9 +83,9 @@ seen_as far acts held = record { far = far; acts = acts; held = held }
 
 -- this work was added to what a link was sent, the acts of the children, and what the sink holds
 pub record Added (before : Seen (Option (List ℕ))) (work : Work) (after : Seen (Option (List ℕ))) : Type 0 where
-  pub link : Appended before.far work.sends after.far
-  pub children : Appended before.acts work.told after.acts
-  pub sink : Appended before.held work.output after.held
+  pub link : Appended before.far (sent_by work) after.far
+  pub children : Appended before.acts (acts_of work) after.acts
+  pub sink : Appended before.held (written_by work) after.held
 
 -- Answering machines, as programs. How children are going to run is not known before, so where a machine stands goes by it.
 abbrev pub answering : ProgramKind ToCome MachineDeeds AnswerFinish AnswerEnd (Seen LinkSight × List ChildRun)

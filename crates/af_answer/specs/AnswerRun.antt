@@ -1,6 +1,6 @@
 -- An answering machine by its words: its server is dialled, the link set up in Big order, and its job done.
-use Rattle.std.specs.Prelude.{◌≡◌, ◌⊎◌, ℕ, List, [], ◌∷◌, Ok, Option, Some}
-use Rattle.af_dialogue.specs.Parts.{goes_on}
+use Rattle.std.specs.Prelude.{◌≡◌, ◌⊎◌, ℕ, List, ◌∷◌, Ok, Option, Some}
+use Rattle.af_toolkit.specs.Parts.{goes_on}
 use Rattle.af_io.specs.Flow.{AppendedPrefix}
 use Rattle.af_io.specs.Dial.{AppendedBack, ToldLink}
 use Rattle.af_wire.specs.declared.order.Order.TheVariants.{Big}
@@ -12,7 +12,7 @@ use Rattle.af_answer.specs.declared.end.AnswerEnd.TheVariants as end
 use Rattle.af_answer.specs.declared.job.AnswerJob.{AnswerJob}
 use Rattle.af_answer.specs.Children.{ChildRun}
 use Rattle.af_answer.specs.AnswerTrace.{MachineDeeds, MachinePart, MachineTrace, answers, deeds_of_work, doing, exchanges}
-use Rattle.af_answer.specs.AnswerTrace.{met_fault, work}
+use Rattle.af_answer.specs.AnswerTrace.{met_fault, sending}
 use Rattle.af_answer.specs.AnswerParts.{Added, MatchesAnswer, Seen, seen_as}
 use Rattle.af_answer.specs.Answered.{RanAs}
 use Rattle.af_answer.specs.AnswerWords.{AnswerWords, words_of_job}
@@ -36,7 +36,7 @@ pub record LinkRan (job : AnswerJob) (input : List ℕ) (how : AnswerEnd) (befor
   pub followed : MatchesAnswer (whole_trace job input runs) how done
   pub attended : (devices : List DeviceInfo) → setup_answer Big input ≡ Ok devices →
       ((how ≡ end.LinkFault) × AppendedPrefix before.far (setup_bytes Big) after.far)
-      ⊎ ((later : MachineDeeds) × (done ≡ doing.joined (deeds_of_work (work (setup_bytes Big) [] [])) later)
+      ⊎ ((later : MachineDeeds) × (done ≡ doing.joined (deeds_of_work (sending (setup_bytes Big))) later)
       × RanAs Big job devices (answers job devices (record { wire = client_after_setup Big input; runs = runs })) runs how later)
 
 -- memory ran out before anything was done

@@ -1,13 +1,14 @@
--- The trace of an answering machine, part by part: the events that it gets, what it sends, the acts of its children, what it
--- writes, and why it ends. It goes by what the link gives and by how the children run.
-use Rattle.std.specs.Prelude.{ℕ, zero, suc, ◌==◌, if◌then◌else◌, Bool, true, false, List, [], ◌∷◌, ◌++◌, codes, decimal, drop}
+-- The trace of an answering machine, part by part: the events that it gets; what it sends, the acts of its children and what it
+-- writes, all in one order; and why it ends. It goes by what the link gives and by how the children run.
+use Rattle.std.specs.Prelude.{ℕ, zero, suc, ◌==◌, if◌then◌else◌, Bool, true, false, List, [], ◌∷◌, ◌++◌, map, codes, decimal, drop}
 use Rattle.std.specs.Prelude.{get_or, length, option_map, slice_get, Result, Ok, Err, Option, None, Some, is_some, unwrap_or}
+use Rattle.std.specs.List.{filter_map}
 use Rattle.std.specs.Option.{option_map_or}
 use Rattle.af_wire.specs.declared.event.Event.{Event}
 use Rattle.af_request.specs.declared.reply.DeviceInfo.{DeviceInfo}
 use Rattle.af_request.specs.Asked.{Asked, hook_switch, select_events}
 use Rattle.af_request.specs.Requests.{request_bytes}
-use Rattle.af_dialogue.specs.Parts.{Deeds, Outcome, Part, called, end_among, goes_on, has_value, stops}
+use Rattle.af_toolkit.specs.Parts.{Deeds, Outcome, Part, called, end_among, goes_on, has_value, stops}
 use Rattle.af_process.specs.Acts.{Told}
 use Rattle.af_lib.specs.declared.fault.ConnFault.{ConnFault}
 use Rattle.af_lib.specs.declared.fault.ConnFault.TheVariants as fault
@@ -43,18 +44,55 @@ pub data AnswerFinish : Type 0 where
   -- memory ran out for a child
   child_starved : AnswerFinish
 
--- what a machine does outside: what it sends, the acts of its children, and what it writes
-pub record Work : Type 0 where
-  pub sends : List ℕ
-  pub told : List Told
-  pub output : List ℕ
+-- one thing that a machine does outside: it sends a byte, does an act with a child, or writes a byte
+pub data Effect : Type 0 where
+  sends_byte : ℕ → Effect
+  does_act : Told → Effect
+  writes_byte : ℕ → Effect
 
-abbrev pub work : (sends : List ℕ) → List Told → (output : List ℕ) → Work
-work sends told output = record { sends = sends; told = told; output = output }
+-- what a machine does outside, in order
+abbrev pub Work : Type 0
+Work = List Effect
+
+-- it sends these bytes, does these acts, or writes these bytes
+abbrev pub sending : List ℕ → Work
+sending bytes = map sends_byte bytes
+
+abbrev pub acting : List Told → Work
+acting acts = map does_act acts
+
+abbrev pub writing : List ℕ → Work
+writing bytes = map writes_byte bytes
+
+-- which byte is sent, which act is done, or which byte is written by one of these things
+abbrev pub byte_sent : Effect → Option ℕ
+byte_sent (sends_byte b) = Some b
+byte_sent (does_act act) = None
+byte_sent (writes_byte b) = None
+
+abbrev pub act_done : Effect → Option Told
+act_done (sends_byte b) = None
+act_done (does_act act) = Some act
+act_done (writes_byte b) = None
+
+abbrev pub byte_written : Effect → Option ℕ
+byte_written (sends_byte b) = None
+byte_written (does_act act) = None
+byte_written (writes_byte b) = Some b
+
+-- all bytes that are sent by some work, all acts that are done, and all bytes that are written, each in order
+abbrev pub sent_by : Work → List ℕ
+sent_by work = filter_map byte_sent work
+
+abbrev pub acts_of : Work → List Told
+acts_of work = filter_map act_done work
+
+abbrev pub written_by : Work → List ℕ
+written_by work = filter_map byte_written work
 
 -- no work, or some and then other work
 abbrev pub working : Deeds Work
-working = record { nothing = work [] [] []; joined = λ w v. work (w.sends ++ v.sends) (w.told ++ v.told) (w.output ++ v.output) }
+working = record { nothing = []; joined = λ w v. w ++ v }
 
 -- what a machine has done: the events that it got, and its work
 pub record MachineDeeds : Type 0 where
@@ -91,7 +129,7 @@ refusal _ fault = met_fault fault
 -- a message is sent, and its answer is the value; a fault ends the machine, for this reason
 abbrev pub exchanges : {X : Type 0} → (ConnFault → AnswerFinish) → (bytes : ClientState → List ℕ) →
     (answer : ClientState → Result X ConnFault) → (after : ClientState → ClientState) → MachinePart X
-exchanges reason bytes answer after a = called (deeds_of_work (work (bytes a.wire) [] [])) (end_among reason (answer a.wire))
+exchanges reason bytes answer after a = called (deeds_of_work (sending (bytes a.wire))) (end_among reason (answer a.wire))
     (record { wire = after a.wire; runs = a.runs })
 
 -- a request is sent, and its answer is the value
@@ -123,7 +161,7 @@ first_run runs = get_or runs 0 start_failed
 
 -- a text is run as a child, and how that ended is the value
 unfoldable pub runs_child : List ℕ → MachinePart ChildEnd
-runs_child text a = called (deeds_of_work (work [] (told_of_run (shell_words text) (first_run a.runs)) []))
+runs_child text a = called (deeds_of_work (acting (told_of_run (shell_words text) (first_run a.runs))))
     (Ok (run_end (first_run a.runs))) (record { wire = a.wire; runs = drop 1 a.runs })
 
 -- the message is recorded after a good greeting, and else the call ends as the greeting did
@@ -171,7 +209,7 @@ tally_text t =
 
 -- the line is written
 abbrev pub writes_tally : Tally → MachinePart (Unit {0})
-writes_tally t a = called (deeds_of_work (work [] [] (tally_text t))) (Ok tt) a
+writes_tally t a = called (deeds_of_work (writing (tally_text t))) (Ok tt) a
 
 -- whether the device of a job has a line, if it exists
 abbrev pub line_at : AnswerJob → List DeviceInfo → Option Bool

@@ -1,11 +1,13 @@
 -- The arguments of an answering machine: they are one simple command of clap, and they ask what its matches, which clap defines,
 -- state.
-use Rattle.std.specs.Prelude.{ℕ, ◌&&◌, if◌then◌else◌, Bool, false, List, [], ◌∷◌, ◌++◌, Option, Some, None, codes, is_some}
+use Rattle.std.specs.Prelude.{ℕ, ◌&&◌, if◌then◌else◌, Bool, false, List, [], ◌∷◌, Option, Some, None, codes, is_some}
 use Rattle.std.specs.Str.{bytes_eq}
-use Rattle.clap.specs.Words.{App, Row, Text, matches_of, new_app, takes}
-use Rattle.af_cli.specs.declared.command.ArgumentKind.TheVariants.{Place, NeededOption, FreeOption}
+use Rattle.clap.specs.Words.{App, Row, Text, matches_of, takes}
+use Rattle.af_cli.specs.Arguments.{device, server}
 use Rattle.af_cli.specs.Numbers.{◌>>=◌}
-use Rattle.af_cli.specs.Words.{address_at, device_at, number_at, rule_at, rules_of, stated_number_at, text_at, with_rules}
+use Rattle.af_cli.specs.Words.{address_at, command_app, device_at, longest_command, number_at, text_at, wait_at}
+use Rattle.af_answer.specs.AnswerArguments.{answer_arguments}
+use Rattle.af_answer.specs.AnswerArguments as argument
 use Rattle.af_answer.specs.declared.job.AnswerJob.{AnswerJob}
 use Rattle.af_answer.specs.declared.options.AnswerCall.{AnswerCall}
 
@@ -35,19 +37,18 @@ words_of_call call = words_of_job call.server.now call.job
 
 -- the command of the answering machine
 unfoldable pub answer_app : App
-answer_app = with_rules (new_app (codes "answer")) (
-    rule_at (codes "SERVER") Place ∷ rules_of FreeOption (codes "device" ∷ codes "rings" ∷ []) ++
-    rules_of NeededOption (codes "calls" ∷ codes "greeting" ∷ codes "message" ∷ []))
+answer_app = command_app (codes "answer") answer_arguments
 
--- what the matches of the command ask, if each value is in its range; the texts for a shell have 1 to 200 bytes
+-- what the matches of the command ask, if each value is in its range; how long the server is waited for is no matter of the job
 abbrev pub words_in : List Row → Option AnswerWords
 words_in rows = do
-  server ← address_at (codes "SERVER") rows
-  device ← device_at (codes "device") rows
-  rings ← number_at (codes "rings") 2 1 20 rows
-  calls ← stated_number_at (codes "calls") 1 1000 rows
-  greeting ← text_at (codes "greeting") 200 rows
-  message ← text_at (codes "message") 200 rows
+  server ← address_at server rows
+  wait ← wait_at rows
+  device ← device_at device rows
+  rings ← number_at argument.rings rows
+  calls ← number_at argument.calls rows
+  greeting ← text_at argument.greeting longest_command rows
+  message ← text_at argument.message longest_command rows
   Some (record { server = server; device = device; rings = rings; calls = calls; greeting = greeting; message = message })
 
 -- the first word names the machine
@@ -58,6 +59,10 @@ names_answer (name ∷ words) = bytes_eq name (codes "answer")
 -- what arguments ask that name the machine, if each value is in its range
 unfoldable pub answer_words : List Text → Option AnswerWords
 answer_words words = if names_answer words then words_in (matches_of answer_app words) else None
+
+-- for how many seconds arguments that name the machine have a refused dial tried again
+unfoldable pub answer_wait : List Text → Option ℕ
+answer_wait words = if names_answer words then wait_at (matches_of answer_app words) else None
 
 -- the arguments are valid: they name the machine, its command takes them, and each value is in its range
 unfoldable pub is_answer_spelled : List Text → Bool

@@ -12,9 +12,9 @@ use Rattle.af_answer.specs.declared.end.AnswerEnd.{AnswerEnd}
 use Rattle.af_answer.specs.declared.end.AnswerEnd.TheVariants as end
 use Rattle.af_answer.specs.declared.job.AnswerJob.{AnswerJob}
 use Rattle.af_answer.specs.Acts.{MachineAct, answer_acts, greet, leaves_off, off_hook, on_hook, record_message, write_tally}
-use Rattle.af_answer.specs.AnswerTrace.{AnswerFinish, MachineDeeds, MachineTrace, Work, answers, child_starved, finish_of}
-use Rattle.af_answer.specs.AnswerTrace.{first_run, line_at, met_fault, off_hook_fault, on_hook_fault, rang_too_little, tally_text}
-use Rattle.af_answer.specs.AnswerTrace.{work, working}
+use Rattle.af_answer.specs.AnswerTrace.{AnswerFinish, MachineDeeds, MachineTrace, Work, acting, acts_of, answers}
+use Rattle.af_answer.specs.AnswerTrace.{child_starved, finish_of, first_run, line_at, met_fault, off_hook_fault, on_hook_fault}
+use Rattle.af_answer.specs.AnswerTrace.{rang_too_little, sending, sent_by, tally_text, working, writing}
 use Rattle.af_answer.specs.AnswerParts.{Added, MatchesAnswer, Seen, is_from_outside}
 use Rattle.af_answer.specs.Children.{ChildRun, run_end, told_of_run, shell_words}
 
@@ -28,11 +28,11 @@ pub record IsAnswerJob (job : AnswerJob) : Type 0 where
 
 -- what an act does, by how its child runs: it sends a request, runs a child, or writes
 abbrev pub work_of_act : Order → AnswerJob → MachineAct → ChildRun → Work
-work_of_act order job off_hook run = work (request_bytes order (hook_switch job.device 1)) [] []
-work_of_act order job on_hook run = work (request_bytes order (hook_switch job.device 0)) [] []
-work_of_act order job greet run = work [] (told_of_run (shell_words job.greeting.bytes) run) []
-work_of_act order job record_message run = work [] (told_of_run (shell_words job.message.bytes) run) []
-work_of_act order job (write_tally t) run = work [] [] (tally_text t)
+work_of_act order job off_hook run = sending (request_bytes order (hook_switch job.device 1))
+work_of_act order job on_hook run = sending (request_bytes order (hook_switch job.device 0))
+work_of_act order job greet run = acting (told_of_run (shell_words job.greeting.bytes) run)
+work_of_act order job record_message run = acting (told_of_run (shell_words job.message.bytes) run)
+work_of_act order job (write_tally t) run = writing (tally_text t)
 
 -- how the children run that come after an act
 abbrev pub later_runs : MachineAct → List ChildRun → List ChildRun
@@ -51,9 +51,11 @@ work_of order job (act ∷ acts) runs =
 -- all that the machine is to do after the setup: it asks for rings and hooks, and then come its acts
 abbrev pub work_of_job : Order → AnswerJob → List MachineAct → List ChildRun → Work
 work_of_job order job acts runs =
-    working.joined (work (request_bytes order (select_events job.device 3)) [] []) (work_of order job acts runs)
+    working.joined (sending (request_bytes order (select_events job.device 3))) (work_of order job acts runs)
 
--- What was done is the first of this work, in order, and all of it at Done.
+-- What was done is the first of this work, and all of it at Done. It has one order for all: so a command was started only if
+-- exactly the requests of the acts before it were sent, and a byte was sent or written only if exactly the commands before it
+-- ran.
 pub record KeepsToActs (todo : Work) (how : AnswerEnd) (done : Work) : Type 0 where
   pub undone : Work
   pub all : todo ≡ working.joined done undone
@@ -61,8 +63,8 @@ pub record KeepsToActs (todo : Work) (how : AnswerEnd) (done : Work) : Type 0 wh
 
 -- all bytes of this work were sent and all its children were run, and its acts leave the hook on
 pub record HangsUp (todo : Work) (acts : List MachineAct) (done : Work) : Type 0 where
-  pub sent : done.sends ≡ todo.sends
-  pub children : done.told ≡ todo.told
+  pub sent : sent_by done ≡ sent_by todo
+  pub children : acts_of done ≡ acts_of todo
   pub on : leaves_off acts ≡ false
 
 -- the device of a job exists, and has a line
@@ -83,7 +85,7 @@ pub record StopsAtOffHook (order : Order) (job : AnswerJob) (acts : List Machine
   pub before : List MachineAct
   pub later : List MachineAct
   pub are : acts ≡ before ++ off_hook ∷ later
-  pub sent : sends ≡ (work_of_job order job (before ++ off_hook ∷ []) runs).sends
+  pub sent : sends ≡ sent_by (work_of_job order job (before ++ off_hook ∷ []) runs)
   pub on : leaves_off before ≡ false
 
 -- The hook at each end. It is put on again each time; or it is on unless an OnHook was answered with this fault, where an OffHook
@@ -117,7 +119,7 @@ pub record RanAs (order : Order) (job : AnswerJob) (devices : List DeviceInfo) (
   -- the hook is left as this end has it
   pub hung_up : LeavesHook how (finish_of trace)
       (HangsUp (work_of_job order job (acts_asked job trace runs) runs) (acts_asked job trace runs) done.work)
-      (StopsAtOffHook order job (acts_asked job trace runs) runs done.work.sends) done.work.sends
+      (StopsAtOffHook order job (acts_asked job trace runs) runs (sent_by done.work)) (sent_by done.work)
   -- if memory ran out for a child, the machine ends so, unless something from outside ended it
   pub starves : finish_of trace ≡ child_starved → (how ≡ end.OutOfMemory) ⊎ (is_from_outside how ≡ true)
   -- If there is a line, each request gets its reply and each wait an event, and each call rings enough, then it is done, unless

@@ -4,5 +4,6 @@ pub mod OffHook
 pub mod AnswerTrace
 pub mod AnswerParts
 pub mod Answered
+pub mod AnswerArguments
 pub mod AnswerWords
 pub mod AnswerRun

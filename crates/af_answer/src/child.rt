@@ -10,7 +10,7 @@ ghost use Rattle.af_answer.specs.Children.{end_by_status, is_starved, shell_word
 use crate::commands::Commands;
 use af_io::Link;
 use af_lib::Conn;
-use af_process::{Finished, Started, Words};
+use af_process::{Finished, Started, Word, Words};
 use arrayvec::ArrayString;
 use std::alloc::Global;
 
@@ -34,11 +34,11 @@ impl ChildEnd {
     }
 }
 
-fn word(text: &str) -> ArrayString<200>
+fn word(text: &str) -> Word
     requires { length text.now ≤ 200 }
     ensures { result.bytes ≡ text.now }
 {
-    let mut word = ArrayString::new();
+    let mut word = Word::new();
     word.push_str(text);
     word
 }

@@ -18,5 +18,5 @@ pub use commands::Commands;
 pub use end::AnswerEnd;
 pub use job::AnswerJob;
 pub use machine::answer;
-pub use options::{AnswerCall, call_of, names_answer};
+pub use options::{AnswerCall, answer_arguments, call_of, names_answer};
 pub use run::answer_run;

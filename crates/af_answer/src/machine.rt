@@ -47,7 +47,7 @@ pub fn answer<L: Link + Drop, S: Commands<L>, K: Sink>(
     requires usable { conn.old.cause ≡ None }
     requires range { IsAnswerJob job.now }
 
-    // what was sent, which children ran, what was written, what the hook is at the end, and when it is done
+    // what was sent, which children ran and what was written, all in one order; what the hook is at the end, and when it is done
     ensures ran { (input : List ℕ) → L.left conn.old.link ≡ Some input →
         AnswerRan job.now conn.old.devices (client_of conn.old input) result
         (seen_as (L.sent conn.old.link) (S.acts spawner.old) (K.held sink.old))

@@ -92,8 +92,8 @@ pub fn answer_run<K: Sink, D: Dial, S: Commands<D::Far>>(
     ensures untouched { result ≡ AnswerEnd.Usage → (sink.new ≡ sink.old) × (dial.new ≡ dial.old) × (spawner.new ≡ spawner.old) }
     ensures no_job { answer_words words.now ≡ None → (sink.new ≡ sink.old) × (dial.new ≡ dial.old) × (spawner.new ≡ spawner.old) }
 
-    // which server was dialled, unless memory ran out before; what was sent, which children ran, what was written, what the hook
-    // is at the end, and when it is done
+    // which server was dialled, unless memory ran out before; what was sent, which children ran and what was written, all in one
+    // order; what the hook is at the end, and when it is done
     ensures asked { (a : AnswerWords) → answer_words words.now ≡ Some a → result ≢ AnswerEnd.Usage →
         IsIdle result (D.asked dial.old) (D.asked dial.new) ⊎ Appended (D.asked dial.old) (a.server ∷ []) (D.asked dial.new) }
     ensures ran { (a : AnswerWords) → answer_words words.now ≡ Some a → result ≢ AnswerEnd.Usage → RunsAsked a result

@@ -1,5 +1,5 @@
 -- What captures and emits leave alone: the backend of each device, and the orders of the codec.
-use Rattle.std.proofs.Common.{◌≡◌, ℕ, List, map, slice_set, option_map, ap, ◌∙◌}
+use Rattle.std.proofs.Common.{◌≡◌, ℕ, List, [], map, slice_set, option_map, ap, ◌∙◌}
 use Rattle.std.proofs.Math.Seq.{map-set_same}
 use Rattle.std.specs.declared.option.Option.{Option}
 use Rattle.std.specs.declared.option.Option.TheVariants.{None, Some}
@@ -8,7 +8,8 @@ use Rattle.af_backend.specs.declared.codec_device.CodecStage.{CodecStage}
 use Rattle.af_backend.specs.declared.codec_device.CodecStage.TheVariants as stage
 use Rattle.af_backend.specs.CodecUse.{CodecUse, CodecTakesAt}
 use Rattle.af_backend.specs.CardUse.{CardUse, KeepsOrders, orders_of, card_orders}
-use Rattle.af_backend.specs.Backends.{BackendState, always_silent, over_files, over_codec, over_card, backend_at, without_bytes, all_without_bytes, CapturesBy, CapturesAt, EmitsBy, EmitsAt}
+use Rattle.af_loop.specs.DelayLine.{DelayState}
+use Rattle.af_backend.specs.Backends.{BackendState, always_silent, over_files, over_loop, over_codec, over_card, backend_at, without_bytes, all_without_bytes, CapturesBy, CapturesAt, EmitsBy, EmitsAt}
 
 kind_kept : (old new : List (Option BackendState)) (d : ℕ) (after : Option BackendState) → option_map without_bytes after ≡ option_map without_bytes (backend_at old d) → new ≡ slice_set old d after → all_without_bytes new ≡ all_without_bytes old
 unfolding all_without_bytes
@@ -26,10 +27,17 @@ card_kept : (before now : CardUse) (after : Option BackendState) → KeepsOrders
 card_kept before now after same is =
     ap (option_map without_bytes) is ∙ ap (λ (card : CardUse). Some (over_card card)) (orders_kept before now same)
 
+-- a delay line stays as long as it is
+line_kept : (before now : DelayState) (after : Option BackendState) → now.delay ≡ before.delay → after ≡ Some (over_loop now) →
+    option_map without_bytes after ≡ option_map without_bytes (Some (over_loop before))
+line_kept before now after same is =
+    ap (option_map without_bytes) is ∙ ap (λ (n : ℕ). Some (over_loop (record { held = []; delay = n }))) same
+
 captures_kind : (b : Option BackendState) (answer : Put) (into : List ℕ) (after : Option BackendState) → CapturesBy b answer into after → option_map without_bytes after ≡ option_map without_bytes b
 captures_kind None answer into after h = ap (option_map without_bytes) h.1
 captures_kind (Some (always_silent ty)) answer into after h = ap (option_map without_bytes) h.1
 captures_kind (Some (over_files f)) answer into after h = ap (option_map without_bytes) h.2
+captures_kind (Some (over_loop line)) answer into after h = line_kept line h.0 after h.1.delay h.2
 captures_kind (Some (over_codec ty)) answer into after h = ap (option_map without_bytes) h.1
 captures_kind (Some (over_card card)) answer into after h = card_kept card h.0 after h.1.same h.2
 
@@ -40,6 +48,7 @@ emits_kind : (b : Option BackendState) (answer : Put) (sound : List ℕ) (after 
 emits_kind None answer sound after codec codec' h = ap (option_map without_bytes) h.1
 emits_kind (Some (always_silent ty)) answer sound after codec codec' h = ap (option_map without_bytes) h.1
 emits_kind (Some (over_files f)) answer sound after codec codec' h = ap (option_map without_bytes) h.2
+emits_kind (Some (over_loop line)) answer sound after codec codec' h = line_kept line h.0 after h.1.delay h.2
 emits_kind (Some (over_codec ty)) answer sound after codec codec' h = ap (option_map without_bytes) h.0
 emits_kind (Some (over_card card)) answer sound after codec codec' h = card_kept card h.0 after h.1.same h.2
 
@@ -55,6 +64,7 @@ emits_by_orders : (b : Option BackendState) (answer : Put) (sound : List ℕ) (a
 emits_by_orders None answer sound after codec codec' h = ap (λ (u : CodecUse). u.orders) h.2
 emits_by_orders (Some (always_silent ty)) answer sound after codec codec' h = ap (λ (u : CodecUse). u.orders) h.2
 emits_by_orders (Some (over_files f)) answer sound after codec codec' h = ap (λ (u : CodecUse). u.orders) h.3
+emits_by_orders (Some (over_loop line)) answer sound after codec codec' h = ap (λ (u : CodecUse). u.orders) h.3
 emits_by_orders (Some (over_codec ty)) answer sound after codec codec' h = takes_orders codec.stage answer sound codec codec' h.1
 emits_by_orders (Some (over_card card)) answer sound after codec codec' h = ap (λ (u : CodecUse). u.orders) h.3
 

@@ -1,3 +1,4 @@
 pub mod ConsumesLemmas
 pub mod BackendLemmas
 pub mod RoundLemmas
+pub mod TickLemmas

@@ -137,7 +137,7 @@ read_by_program nanos None = refl
 read_by_program nanos (Some (source.Clock pace)) = refl
 read_by_program nanos (Some source.Program) = refl
 
-at_each : (nanos from to : ℕ) (old new : List (Option Source)) → SourcesRead nanos from to old new → (d : ℕ) →
+pub at_each : (nanos from to : ℕ) (old new : List (Option Source)) → SourcesRead nanos from to old new → (d : ℕ) →
     (source_in new d ≡ source_in old d) ⊎ (source_in new d ≡ some_source_after nanos (source_in old d))
 at_each nanos from to old new read d =
     ⊎_elim (λ before. inl (read.below d before))
@@ -156,15 +156,15 @@ none_beyond nanos from to end old new read none = λ d beyond.
 
 -- If no device had a frame due at a reading, none has one due at it again.
 
-nothing_more : (gone answered : ℕ) → min (gone - answered) longest_tick ≡ 0 →
-    min (gone - (answered + min (gone - answered) longest_tick)) longest_tick ≡ 0
-nothing_more gone answered none = omega (arith, none)
+nothing_more : (gone answered most : ℕ) → min (gone - answered) most ≡ 0 →
+    min (gone - (answered + min (gone - answered) most)) most ≡ 0
+nothing_more gone answered most none = omega (arith, none)
 
 settled_pace : (p : PaceState) (nanos : ℕ) → due_at p nanos ≡ 0 →
     (due_at (after_due p nanos) nanos ≡ 0) × (after_due (after_due p nanos) nanos ≡ after_due p nanos)
 settled_pace p nanos none =
-    let again : due_at (after_due p nanos) nanos ≡ 0 = nothing_more (frames_gone_by p nanos) p.answered none in
-    (again, ap (λ (n : ℕ). record { rate = p.rate; first = Some (first_reading p nanos); answered = n }) (omega (arith, again)))
+    let again : due_at (after_due p nanos) nanos ≡ 0 = nothing_more (frames_gone_by p nanos) p.answered p.most none in
+    (again, ap (λ (n : ℕ). record { rate = p.rate; most = p.most; first = Some (first_reading p nanos); answered = n }) (omega (arith, again)))
 
 settled_source : (s : Option Source) (nanos : ℕ) → due_of nanos s ≡ 0 → goes_by_program s ≡ false →
     (due_of nanos (some_source_after nanos s) ≡ 0) × (some_source_after nanos (some_source_after nanos s) ≡ some_source_after nanos s) × (goes_by_program (some_source_after nanos s) ≡ false)

@@ -3,13 +3,14 @@ use Rattle.std.specs.Prelude.{◌≡◌, ℕ, ◌≤◌, ◌<◌, max, Bool, tru
 use Rattle.af_backend.specs.declared.source.Source.{Source}
 use Rattle.af_backend.specs.Rounds.{RoundState, source_in, goes_by_program}
 use Rattle.af_backend.specs.CardUse.{CardUse, AsksCard}
-use Rattle.af_backend.specs.Backends.{BackendState, always_silent, over_files, over_codec, over_card, backend_at}
+use Rattle.af_backend.specs.Backends.{BackendState, always_silent, over_files, over_loop, over_codec, over_card, backend_at}
 
 -- A device is asked what its program has due at a reading. One without a program has nothing due.
 abbrev pub IsAskedOf : ℕ → ℕ → Option BackendState → Option BackendState → Type 0
 IsAskedOf nanos n (Some (over_card card)) b' = (card' : CardUse) × AsksCard nanos n card card' × (b' ≡ Some (over_card card'))
 IsAskedOf nanos n (Some (always_silent ty)) b' = (n ≡ 0) × (b' ≡ Some (always_silent ty))
 IsAskedOf nanos n (Some (over_files files)) b' = (n ≡ 0) × (b' ≡ Some (over_files files))
+IsAskedOf nanos n (Some (over_loop line)) b' = (n ≡ 0) × (b' ≡ Some (over_loop line))
 IsAskedOf nanos n (Some (over_codec ty)) b' = (n ≡ 0) × (b' ≡ Some (over_codec ty))
 IsAskedOf nanos n None b' = (n ≡ 0) × (b' ≡ None)
 

@@ -11,7 +11,7 @@ use Rattle.af_world.specs.declared.live.Ready.{Ready}
 use Rattle.af_world.specs.declared.live.Ready.TheVariants as ready
 use Rattle.af_world.specs.declared.live.Kind.{Kind}
 use Rattle.af_world.specs.declared.live.Kind.TheVariants as kind
-use Rattle.af_config.specs.Stating.{is_command_line}
+use Rattle.af_config.specs.Stating.{is_command_line, longest_codec_word}
 use Rattle.af_backend.specs.declared.codec_device.CodecStage.{CodecStage}
 use Rattle.af_backend.specs.declared.codec_device.CodecStage.TheVariants as stage
 
@@ -72,7 +72,7 @@ is_unset stage.Dead = false
 
 -- whether it can be given these orders: they are the first, and in range
 abbrev pub may_set : CodecStage → ℕ → List (List ℕ) → Bool
-may_set s restarts words = is_unset s && nat_le restarts 100 && is_command_line words
+may_set s restarts words = is_unset s && nat_le restarts 100 && is_command_line longest_codec_word words
 
 -- it was given these orders, and takes sound
 abbrev pub with_orders : CodecUse → ℕ → List (List ℕ) → CodecUse
@@ -82,6 +82,7 @@ with_orders u restarts words = record u { orders = record { restarts = restarts;
 abbrev pub codec_with : Kind → CodecUse → CodecUse
 codec_with (kind.Codec restarts words) u = with_orders u restarts (words_of words.now)
 codec_with (kind.Files input output) u = u
+codec_with kind.Loop u = u
 codec_with (kind.Card which restarts words) u = u
 codec_with kind.Silent u = u
 
@@ -94,5 +95,6 @@ codec_after _ k u = u
 abbrev pub codec_allows : CodecUse → Kind → Bool
 codec_allows u (kind.Codec restarts words) = may_set u.stage restarts (words_of words.now)
 codec_allows u (kind.Files input output) = true
+codec_allows u kind.Loop = true
 codec_allows u (kind.Card which restarts words) = true
 codec_allows u kind.Silent = true

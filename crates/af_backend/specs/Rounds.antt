@@ -72,6 +72,12 @@ IsDue nanos None n = n ≡ 0
 IsDue nanos (Some (source.Clock pace)) n = n ≡ due_at pace nanos
 IsDue nanos (Some source.Program) n = ⊤
 
+-- a device ticks by at most so many frames
+abbrev pub TicksWithin : ℕ → Option Source → Type 0
+TicksWithin most None = ⊤
+TicksWithin most (Some (source.Clock pace)) = pace.most ≤ most
+TicksWithin most (Some source.Program) = longest_tick ≤ most
+
 -- the clock of each device between two was read, and no other
 pub record SourcesRead (nanos from to : ℕ) (old new : List (Option Source)) : Type 0 where
   pub inside : (d : ℕ) → d < to → from ≤ d → source_in new d ≡ some_source_after nanos (source_in old d)

@@ -3,10 +3,10 @@ ghost use Rattle.std.specs.Prelude.{◌≡◌, ◌<◌, ◌≤◌, length, IfOk}
 ghost use Rattle.af_limits.specs.Limits.{longest_tick};
 ghost use Rattle.af_process.specs.Acts.{words_of};
 ghost use Rattle.af_sample.specs.SampleTypes.{frame_bytes};
-ghost use Rattle.af_backend.specs.CardUse.{shape_of, input_bytes_of, AsksCard, CardCaptures, CardEmits, IsBegun};
+ghost use Rattle.af_backend.specs.CardUse.{card_use, shape_of, input_bytes_of, AsksCard, CardCaptures, CardEmits, IsBegun};
 
 use af_card::{Card, Shape};
-use af_config::is_command_line;
+use af_config::{LONGEST_WORD, is_command_line};
 use af_io::Put;
 use af_process::Words;
 use af_program::{Launched, Program, Programs, Ways};
@@ -57,8 +57,11 @@ impl<P: Program + Drop> CardDevice<P> {
         ensures moment { IfOk result (λ device. device.at ≡ at) }
     {
         let shape = shape_of(orders.card, spec);
-        let in_range = 1 <= shape.frame_bytes && shape.frame_bytes <= 8;
-        if !in_range || orders.restarts > MOST_CARD_RESTARTS || !is_command_line(orders.words) {
+        let is_in_range = 1 <= shape.frame_bytes
+            && shape.frame_bytes <= 8
+            && orders.restarts <= MOST_CARD_RESTARTS
+            && is_command_line(orders.words, LONGEST_WORD);
+        if !is_in_range {
             return Err(ErrorKind::InvalidInput.into());
         }
         let program = programs
@@ -74,7 +77,9 @@ impl<P: Program + Drop> CardDevice<P> {
     }
 
     /// The device.
-    pub fn card(&self) -> &Card<P> {
+    pub fn card(&self) -> &Card<P>
+        ensures { self.now ≡ card_use P.acts result.now }
+    {
         &self.card
     }
 

@@ -5,7 +5,7 @@ ghost use Rattle.af_codec.specs.Codec.{TellsThese};
 ghost use Rattle.af_backend.specs.CodecUse.{begun_codec, codec_allows, codec_with, CodecTakes, may_set, with_orders};
 
 use af_codec::Codec;
-use af_config::{MOST_RESTARTS, is_command_line};
+use af_config::{LONGEST_CODEC_WORD, MOST_RESTARTS, is_command_line};
 use af_io::Put;
 use af_process::{Spawner, Words};
 use af_world::Kind;
@@ -72,7 +72,10 @@ impl<S: Spawner + Drop> CodecDevice<S> {
         ensures answer { result ≡ may_set self.old.stage restarts (words_of words.now) }
         ensures set { self.new ≡ (if result then with_orders self.old restarts (words_of words.now) else self.old) }
     {
-        if self.stage != CodecStage::Unset || restarts > MOST_RESTARTS || !is_command_line(words) {
+        if self.stage != CodecStage::Unset
+            || restarts > MOST_RESTARTS
+            || !is_command_line(words, LONGEST_CODEC_WORD)
+        {
             return false;
         }
         self.codec.set(restarts, words);
@@ -88,6 +91,7 @@ impl<S: Spawner + Drop> CodecDevice<S> {
         match kind {
             Kind::Silent => true,
             Kind::Files { .. } => true,
+            Kind::Loop => true,
             Kind::Card { .. } => true,
             Kind::Codec { restarts, words } => self.set(restarts, words),
         }

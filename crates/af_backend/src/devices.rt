@@ -1,9 +1,10 @@
 // The devices of a world, by number, and how one is attached.
-ghost use Rattle.std.specs.Prelude.{◌≡◌, ◌≢◌, ◌<◌, [], length, false, true, not, ◌&&◌, nat_lt};
-ghost use Rattle.std.specs.declared.option.Option.TheVariants.{Some};
+ghost use Rattle.std.specs.Prelude.{◌≡◌, ◌≢◌, ◌<◌, [], length, false, true, not, ◌&&◌, nat_lt, MatchOption};
+ghost use Rattle.std.specs.declared.option.Option.TheVariants.{None, Some};
 ghost use Rattle.af_limits.specs.Limits.{most_devices};
 ghost use Rattle.af_codec.specs.Codec.{TellsThese};
-ghost use Rattle.af_backend.specs.Backends.{none_attached, may_be_refused, CapturesBy, CapturesAt, EmitsBy, EmitsAt, AttachesAt};
+ghost use Rattle.af_backend.specs.CardUse.{card_use};
+ghost use Rattle.af_backend.specs.Backends.{backend_at, card_of, none_attached, may_be_refused, CapturesBy, CapturesAt, EmitsBy, EmitsAt, AttachesAt};
 ghost use Rattle.af_backend.specs.CodecUse.{begun_codec, codec_allows, codec_after};
 ghost use Rattle.af_backend.specs.Backends.{round_after, source_of};
 ghost use Rattle.af_backend.specs.Rounds.{new_round, is_attached, GoesOn};
@@ -17,6 +18,7 @@ use af_card::Card;
 use af_clock::Pace;
 use af_io::Put;
 use af_limits::MOST_DEVICES;
+use af_loop::delay_frames;
 use af_process::Spawner;
 use af_program::{Program, Programs};
 use af_world::{DeviceSpec, Kind, Ready};
@@ -104,8 +106,14 @@ impl<F: Read + Write + Drop, S: Spawner + Drop, P: Program + Drop> Devices<F, S,
     }
 
     /// The device with its program, if this device goes by one.
-    pub fn card(&self, device: u8) -> Option<&Card<P>> {
-        self.attached.get(device as usize)?.as_ref()?.card()
+    pub fn card(&self, device: u8) -> Option<&Card<P>>
+        ensures { MatchOption result (card_of (backend_at self.now.attached device) ≡ None)
+            (λ card. card_of (backend_at self.now.attached device) ≡ Some (card_use P.acts card.now)) }
+    {
+        match self.attached.get(usize::from(device)) {
+            Some(place) => card_by(place),
+            None => None,
+        }
     }
 
     /// Captures of a device as many bytes as there is room for, by its backend.
@@ -134,13 +142,27 @@ impl<F: Read + Write + Drop, S: Spawner + Drop, P: Program + Drop> Devices<F, S,
     }
 }
 
-/// The clock of a device of this kind: its program, or the system's clock with so many frames a second.
+/// The clock of a device of this kind: its program, or the system's clock with so many frames a second. A device that hears
+/// itself ticks by at most as many frames as its sound is late.
 fn source_of(kind: Kind<'_>, rate: u32) -> Source
     ensures { result ≡ source_of kind.entry rate }
 {
     match kind {
         Kind::Card { .. } => Source::Program,
+        Kind::Loop => Source::Clock(Pace::within(delay_frames(rate), rate)),
         Kind::Silent | Kind::Files { .. } | Kind::Codec { .. } => Source::Clock(Pace::new(rate)),
+    }
+}
+
+/// The device at a place with its program, if it goes by one.
+fn card_by<F: Read + Write + Drop, P: Program + Drop>(
+    place: &Option<AttachedDevice<F, P>>,
+) -> Option<&Card<P>>
+    ensures { MatchOption result (card_of place.now ≡ None) (λ card. card_of place.now ≡ Some (card_use P.acts card.now)) }
+{
+    match place {
+        Some(device) => device.card(),
+        None => None,
     }
 }
 

@@ -1,5 +1,5 @@
-//! The devices of a server on real time, each with its backend: silence, two files, the codec, or a program that the device goes
-//! by; and rounds over all of them.
+//! The devices of a server on real time, each with its backend: silence, two files, a delay line by which it hears itself, the
+//! codec, or a program that the device goes by; and rounds over all of them.
 #![tactic(auto)]
 
 mod attached_device;
@@ -7,6 +7,7 @@ mod card_device;
 mod codec_device;
 mod devices;
 mod file_device;
+pub mod laws;
 mod round;
 mod source;
 

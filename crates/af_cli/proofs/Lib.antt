@@ -1,3 +1,4 @@
 pub mod ParsedWordLemmas
 pub mod ToolNameLemmas
 pub mod FrameSizeLemmas
+pub mod PieceLemmas

@@ -5,7 +5,7 @@ use Rattle.std.specs.Prelude.{Option, Some, None}
 use Rattle.std.specs.Option.{option_map_or}
 use Rattle.clap.specs.Words.{Text, matches_of, takes}
 use Rattle.af_cli.specs.declared.tool.Tool.{Tool}
-use Rattle.af_cli.specs.Words.{Job, is_spelled, is_taken, job, job_in, tool_app, tool_named}
+use Rattle.af_cli.specs.Words.{Job, dial_wait, is_spelled, is_taken, job, job_in, tool_app, tool_named, wait_at}
 
 -- arguments whose first one is known
 pub record IsNamed (words : List Text) (name : Text) : Type 0 where
@@ -20,6 +20,11 @@ is_named (x ∷ words) name e = let same : x ≡ name = cc in record { rest = wo
 pub job_named : (words : List Text) (name : Text) (found : Option Tool) → IsNamed words name → found ≡ tool_named name → job words ≡ option_and_then (λ tool. job_in tool (matches_of (tool_app tool) words)) found
 unfolding job
 job_named words name found n e = subst (λ (w : List Text). job w ≡ option_and_then (λ tool. job_in tool (matches_of (tool_app tool) w)) found) (sym n.is) (ap (λ (t : Option Tool). option_and_then (λ tool. job_in tool (matches_of (tool_app tool) (name ∷ n.rest))) t) (sym e))
+
+-- how long arguments have a server waited for, by the tool that they name
+pub wait_named : (words : List Text) (name : Text) (found : Option Tool) → IsNamed words name → found ≡ tool_named name → dial_wait words ≡ option_and_then (λ tool. wait_at (matches_of (tool_app tool) words)) found
+unfolding dial_wait
+wait_named words name found n e = subst (λ (w : List Text). dial_wait w ≡ option_and_then (λ tool. wait_at (matches_of (tool_app tool) w)) found) (sym n.is) (ap (λ (t : Option Tool). option_and_then (λ tool. wait_at (matches_of (tool_app tool) (name ∷ n.rest))) t) (sym e))
 
 pub taken_named : (words : List Text) (name : Text) (found : Option Tool) → IsNamed words name → found ≡ tool_named name → is_taken words ≡ option_map_or (λ tool. takes (tool_app tool) words) found false
 unfolding is_taken

@@ -1,4 +1,5 @@
 -- What a call asks.
+use Rattle.std.specs.Prelude.{ℕ}
 use Rattle.af_cli.specs.declared.call.Call.{Call}
 use Rattle.af_cli.specs.declared.call.Call.TheVariants as call
 use Rattle.af_cli.specs.Ranges.{IsAddress, IsPaced, IsRanged}
@@ -8,6 +9,11 @@ use Rattle.af_cli.specs.Words.{Job, one, relay}
 abbrev pub job_of_call : Call → Job
 job_of_call (call.One c) = one c.server.now c.order c.task
 job_of_call (call.Relay c) = relay c.from.now c.to.now c.order c.job
+
+-- for how many seconds a refused dial of it is tried again
+abbrev pub wait_of_call : Call → ℕ
+wait_of_call (call.One c) = c.wait
+wait_of_call (call.Relay c) = c.wait
 
 -- its values are in their ranges
 abbrev pub IsCall : Call → Type 0

@@ -1,6 +1,9 @@
 pub mod Sizes
 pub mod Lengths
 pub mod Numbers
+pub mod Events
+pub mod Arguments
 pub mod Words
 pub mod Ranges
 pub mod Call
+pub mod TrueHeaders

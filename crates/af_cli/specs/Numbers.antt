@@ -48,8 +48,3 @@ found >>= next = option_and_then next found
 abbrev pub if_there : {X : Type 0} → (List ℕ → Option X) → Option (List ℕ) → Option (Option X)
 if_there value_in None = Some None
 if_there value_in (Some text) = option_map (λ x. Some x) (value_in text)
-
--- a value with a default
-abbrev pub or_default : {X : Type 0} → X → (List ℕ → Option X) → Option (List ℕ) → Option X
-or_default default value_in None = Some default
-or_default default value_in (Some text) = value_in text

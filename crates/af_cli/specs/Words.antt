@@ -1,15 +1,13 @@
 -- The arguments of the tools: each tool is one simple command of clap, and its job is what its matches, which clap defines,
 -- state.
-use Rattle.std.specs.Prelude.{ℕ, ℤ, ◌-◌, pos, ◌&&◌, Bool, true, false, nat_le, List, [], ◌∷◌, ◌++◌, length, Option}
+use Rattle.std.specs.Prelude.{ℕ, ℤ, ◌-◌, ◌&&◌, Bool, true, false, nat_le, List, [], ◌∷◌, length, Option}
 use Rattle.std.specs.Prelude.{Some, None, codes, is_some, map, option_and_then, option_map, if◌then◌else◌}
 use Rattle.std.specs.Str.{bytes_eq}
-use Rattle.std.specs.Option.{option_map_or}
-use Rattle.af_limits.specs.Limits.{most_devices, longest_address}
-use Rattle.clap.specs.Words.{App, Row, Rule, Text, first_of, matches_of, new_app, new_rule, takes, with_rule}
-use Rattle.clap.specs.declared.builder.ArgAction.TheVariants.{SetTrue}
-use Rattle.af_cli.specs.declared.command.ArgumentKind.{ArgumentKind}
-use Rattle.af_cli.specs.declared.command.ArgumentKind.TheVariants.{Place, NeededOption, FreeOption, Flag}
-use Rattle.af_cli.specs.declared.command.Argument.{Argument}
+use Rattle.std.specs.Option.{option_map_or, option_or}
+use Rattle.af_limits.specs.Limits.{longest_address, most_devices}
+use Rattle.clap.specs.Words.{App, Row, Rule, Text, first_of, matches_of, new_app, takes, with_rule}
+use Rattle.af_cli.specs.declared.argument.Values.{Values}
+use Rattle.af_cli.specs.declared.argument.Values.TheVariants.{Address, Device, Number, Decibels, SampleType as NamedType, Form, Order as NamedOrder, Switch, DeviceChoice, EventKinds, Command, Flag}
 use Rattle.af_cli.specs.declared.job.PassJob.{PassJob}
 use Rattle.af_cli.specs.declared.job.PlayJob.{PlayJob}
 use Rattle.af_cli.specs.declared.job.RecordJob.{RecordJob}
@@ -23,127 +21,116 @@ use Rattle.af_sample.specs.declared.sample_type.SampleType.{SampleType}
 use Rattle.af_sound.specs.declared.head.SoundForm.{SoundForm}
 use Rattle.af_text.specs.Sound.{type_of}
 use Rattle.af_wire.specs.declared.order.Order.{Order}
-use Rattle.af_wire.specs.declared.order.Order.TheVariants.{Big}
-use Rattle.af_cli.specs.Lengths.{most_frames, most_seconds}
-use Rattle.af_cli.specs.Numbers.{◌>>=◌, form_in, gain_in, if_there, number_in, or_default, order_in, switch_in}
-
--- `--id VALUE` or `--id=VALUE`
-abbrev pub option_rule : Text → Rule
-option_rule id = record (new_rule id) { long = Some id }
-
--- the rule of clap for an argument of a tool
-abbrev pub rule_at : Text → ArgumentKind → Rule
-rule_at id Place = record (new_rule id) { required = true }
-rule_at id NeededOption = record (option_rule id) { required = true }
-rule_at id FreeOption = option_rule id
-rule_at id Flag = record (option_rule id) { action = Some SetTrue }
-
-abbrev pub rule_for : Argument → Rule
-rule_for w = rule_at w.0.now w.1
+use Rattle.af_cli.specs.Arguments.{Listed, rule_for, tool_arguments}
+use Rattle.af_cli.specs.Arguments as argument
+use Rattle.af_cli.specs.Events.{choice_in, kinds_in}
+use Rattle.af_cli.specs.Numbers.{◌>>=◌, form_in, gain_in, if_there, number_in, order_in, switch_in}
 
 -- the command with these arguments added, in order
 abbrev pub with_rules : App → List Rule → App
 with_rules a [] = a
 with_rules a (r ∷ rs) = with_rules (with_rule a r) rs
 
--- the command of this name with the arguments of a table
-abbrev pub command_app : Text → List Argument → App
-command_app name words = with_rules (new_app name) (map rule_for words)
+-- the command of this name with these arguments
+abbrev pub command_app : Text → List Listed → App
+command_app name arguments = with_rules (new_app name) (map rule_for arguments)
 
--- arguments of one kind
-abbrev pub rules_of : ArgumentKind → List Text → List Rule
-rules_of kind ids = map (λ id. rule_at id kind) ids
+-- the value of an argument: the first that is stated, or else its default
+abbrev pub value_of : Listed → List Row → Option Text
+value_of a rows = option_or (first_of a.name rows) a.default
 
--- the arguments of a tool with one server: the server, the byte order, and these
-abbrev pub with_server : List Rule → List Rule
-with_server rules = rule_at (codes "SERVER") Place ∷ rule_at (codes "order") FreeOption ∷ rules
+-- the number that a text states, within the range of an argument that takes numbers
+abbrev pub number_by : Values → Text → Option ℕ
+number_by Address text = None
+number_by Device text = None
+number_by (Number low high) text = number_in low high text
+number_by Decibels text = None
+number_by NamedType text = None
+number_by Form text = None
+number_by NamedOrder text = None
+number_by Switch text = None
+number_by DeviceChoice text = None
+number_by EventKinds text = None
+number_by Command text = None
+number_by Flag text = None
 
--- the arguments of aplay or arecord: those that both have, and these
-abbrev pub with_sound : List Rule → List Rule
-with_sound rules =
-    with_server (rules_of FreeOption (codes "device" ∷ codes "file" ∷ codes "type" ∷ codes "gain" ∷ codes "block" ∷ []) ++ rules)
+-- the most bytes of a text for a shell
+abbrev pub longest_command : ℕ
+longest_command = 200
 
--- the command of aplay
-unfoldable pub aplay_app : App
-aplay_app = with_rules (new_app (codes "aplay")) (
-    with_sound (rules_of FreeOption (codes "lead" ∷ codes "time" ∷ []) ++ rules_of Flag (codes "preempt" ∷ codes "drain" ∷ [])))
+-- a text is such a value
+abbrev pub has_value : Values → Text → Bool
+has_value Address text = nat_le 1 (length text) && nat_le (length text) longest_address
+has_value Device text = is_some (number_in 0 (most_devices - 1) text)
+has_value (Number low high) text = is_some (number_in low high text)
+has_value Decibels text = is_some (gain_in text)
+has_value NamedType text = is_some (type_of text)
+has_value Form text = is_some (form_in text)
+has_value NamedOrder text = is_some (order_in text)
+has_value Switch text = is_some (switch_in (codes "on") (codes "off") text)
+has_value DeviceChoice text = is_some (choice_in text)
+has_value EventKinds text = is_some (kinds_in text)
+has_value Command text = nat_le 1 (length text) && nat_le (length text) longest_command
+has_value Flag text = true
 
--- the command of arecord
-unfoldable pub arecord_app : App
-arecord_app = with_rules (new_app (codes "arecord")) (
-    with_sound (rules_of FreeOption (
-    codes "time" ∷ codes "frames" ∷ codes "seconds" ∷ codes "stop-peak" ∷ codes "stop-blocks" ∷ [])))
+-- the number of an argument, in its range
+abbrev pub number_at : Listed → List Row → Option ℕ
+number_at a rows = value_of a rows >>= number_by a.values
 
--- the command of aset
-unfoldable pub aset_app : App
-aset_app = with_rules (new_app (codes "aset")) (with_server (rules_of FreeOption (
-    codes "device" ∷ codes "input-gain" ∷ codes "output-gain" ∷ codes "input" ∷ codes "output" ∷ codes "hook" ∷ [])))
+-- such a number, if one is stated
+abbrev pub stated_number_at : Listed → List Row → Option (Option ℕ)
+stated_number_at a rows = if_there (number_by a.values) (value_of a rows)
 
--- the command of apass
-unfoldable pub apass_app : App
-apass_app = with_rules (new_app (codes "apass")) (
-    rules_of Place (codes "FROM" ∷ codes "TO" ∷ []) ++
-    rules_of FreeOption (codes "order" ∷ codes "from-device" ∷ codes "to-device" ∷ codes "type" ∷ codes "gain" ∷ []) ++
-    rule_at (codes "blocks") NeededOption ∷ rules_of FreeOption (codes "block" ∷ codes "delay" ∷ codes "slack" ∷ []))
+-- the frames of a block
+abbrev pub block_at : List Row → Option ℕ
+block_at rows = number_at argument.block rows
 
--- the command of list
-unfoldable pub list_app : App
-list_app = with_rules (new_app (codes "list")) (with_server [])
-
--- a number between these two, or its default
-abbrev pub number_at : Text → (default low high : ℕ) → List Row → Option ℕ
-number_at id default low high rows = or_default default (number_in low high) (first_of id rows)
-
--- a number between these two, which has to be stated
-abbrev pub stated_number_at : Text → (low high : ℕ) → List Row → Option ℕ
-stated_number_at id low high rows = first_of id rows >>= number_in low high
+-- the number of a device
+abbrev pub device_at : Listed → List Row → Option ℕ
+device_at a rows = value_of a rows >>= number_in 0 (most_devices - 1)
 
 -- a text of 1 to so many bytes
-abbrev pub text_at : Text → ℕ → List Row → Option Text
-text_at id most rows = do
-  text ← first_of id rows
+abbrev pub text_at : Listed → ℕ → List Row → Option Text
+text_at a most rows = do
+  text ← value_of a rows
   if nat_le 1 (length text) && nat_le (length text) most then Some text else None
 
 -- the address of a server: 1 to 64 bytes
-abbrev pub address_at : Text → List Row → Option Text
-address_at id rows = text_at id longest_address rows
+abbrev pub address_at : Listed → List Row → Option Text
+address_at a rows = text_at a longest_address rows
 
--- the byte order of a connection, Big by default
+-- the byte order of a connection
 abbrev pub order_at : List Row → Option Order
-order_at rows = or_default Big order_in (first_of (codes "order") rows)
+order_at rows = value_of argument.order rows >>= order_in
 
--- the number of a device, 0 by default
-abbrev pub device_at : Text → List Row → Option ℕ
-device_at id rows = number_at id 0 0 (most_devices - 1) rows
-
--- the frames of a block, 1000 by default
-abbrev pub block_at : List Row → Option ℕ
-block_at rows = number_at (codes "block") 1000 1 4000 rows
+-- for how many seconds a dial that is refused is tried again
+abbrev pub wait_at : List Row → Option ℕ
+wait_at rows = number_at argument.wait rows
 
 -- the sample type, if one is stated
 abbrev pub type_at : List Row → Option (Option SampleType)
-type_at rows = if_there type_of (first_of (codes "type") rows)
+type_at rows = if_there type_of (value_of argument.type rows)
 
--- the gain, or none
+-- the gain
 abbrev pub gain_at : List Row → Option ℤ
-gain_at rows = or_default (pos 0) gain_in (first_of (codes "gain") rows)
+gain_at rows = value_of argument.gain rows >>= gain_in
 
 -- the form of a file; without one, the bytes are samples
 abbrev pub form_at : List Row → Option (Option SoundForm)
-form_at rows = or_default None form_in (first_of (codes "file") rows)
+form_at rows = value_of argument.file rows >>= form_in
 
 -- the flag was given
-abbrev pub is_set : Text → List Row → Bool
-is_set id rows = option_map_or (λ value. bytes_eq value (codes "true")) (first_of id rows) false
+abbrev pub is_set : Listed → List Row → Bool
+is_set a rows = option_map_or (λ value. bytes_eq value (codes "true")) (first_of a.name rows) false
 
 -- what aplay and arecord have in common, if each value is in range
 abbrev pub basics_of : List Row → Option CommonOptions
 basics_of rows = do
-  device ← device_at (codes "device") rows
+  device ← device_at argument.device rows
   ty ← type_at rows
   gain ← gain_at rows
   block ← block_at rows
-  time ← if_there (number_in 0 4294967295) (first_of (codes "time") rows)
+  time ← stated_number_at argument.time rows
   Some (record { device = device; ty = ty; gain = gain; block = block; time = time })
 
 -- the form of a source; it is no file if a type is stated, since a file says its own type
@@ -156,7 +143,8 @@ play_job rows = do
   (basics : CommonOptions) ← basics_of rows
   stated ← form_at rows
   form ← form_beside basics.ty stated
-  lead ← number_at (codes "lead") 100 0 60000 rows
+  lead ← number_at argument.lead rows
+  ahead ← stated_number_at argument.ahead rows
   Some (record {
     device = basics.device;
     form = form;
@@ -165,19 +153,24 @@ play_job rows = do
     block = basics.block;
     lead = lead;
     time = basics.time;
-    preempt = is_set (codes "preempt") rows;
-    drain = is_set (codes "drain") rows;
+    ahead = ahead;
+    preempt = is_set argument.preempt rows;
+    drain = is_set argument.drain rows;
+    strict = is_set argument.strict rows;
   })
 
 -- how much is recorded: so many frames, or no frames yet and so many seconds; exactly one of the two is stated
-abbrev pub length_in : (frames seconds : Option Text) → Option (ℕ × Option ℕ)
-length_in (Some frames) None = option_map (λ n. (n, None)) (number_in 1 most_frames frames)
-length_in None (Some seconds) = option_map (λ n. (0, Some n)) (number_in 1 most_seconds seconds)
+abbrev pub length_in : (frames seconds : Option ℕ) → Option (ℕ × Option ℕ)
+length_in (Some frames) None = Some (frames, None)
+length_in None (Some seconds) = Some (0, Some seconds)
 length_in (Some frames) (Some seconds) = None
 length_in None None = None
 
 abbrev pub length_at : List Row → Option (ℕ × Option ℕ)
-length_at rows = length_in (first_of (codes "frames") rows) (first_of (codes "seconds") rows)
+length_at rows = do
+  frames ← stated_number_at argument.frames rows
+  seconds ← stated_number_at argument.seconds rows
+  length_in frames seconds
 
 -- the job of arecord
 abbrev pub record_job : List Row → Option RecordJob
@@ -185,8 +178,8 @@ record_job rows = do
   (basics : CommonOptions) ← basics_of rows
   form ← form_at rows
   (length : ℕ × Option ℕ) ← length_at rows
-  stop_peak ← number_at (codes "stop-peak") 0 0 32768 rows
-  stop_blocks ← number_at (codes "stop-blocks") 1 1 1000000 rows
+  stop_peak ← number_at argument.stop_peak rows
+  stop_blocks ← number_at argument.stop_blocks rows
   Some (record {
     device = basics.device;
     form = form;
@@ -198,17 +191,19 @@ record_job rows = do
     seconds = length.1;
     stop_peak = stop_peak;
     stop_blocks = stop_blocks;
+    true_header = is_set argument.true_header rows;
+    strict = is_set argument.strict rows;
   })
 
 -- the job of aset
 abbrev pub set_job : List Row → Option SetJob
 set_job rows = do
-  device ← device_at (codes "device") rows
-  input_gain ← if_there gain_in (first_of (codes "input-gain") rows)
-  output_gain ← if_there gain_in (first_of (codes "output-gain") rows)
-  input_on ← if_there (switch_in (codes "on") (codes "off")) (first_of (codes "input") rows)
-  output_on ← if_there (switch_in (codes "on") (codes "off")) (first_of (codes "output") rows)
-  hook_off ← if_there (switch_in (codes "off") (codes "on")) (first_of (codes "hook") rows)
+  device ← device_at argument.device rows
+  input_gain ← if_there gain_in (value_of argument.input_gain rows)
+  output_gain ← if_there gain_in (value_of argument.output_gain rows)
+  input_on ← if_there (switch_in (codes "on") (codes "off")) (value_of argument.input rows)
+  output_on ← if_there (switch_in (codes "on") (codes "off")) (value_of argument.output rows)
+  hook_off ← if_there (switch_in (codes "off") (codes "on")) (value_of argument.hook rows)
   Some (record {
     device = device;
     input_gain = input_gain;
@@ -218,17 +213,23 @@ set_job rows = do
     hook_off = hook_off;
   })
 
+-- how many blocks a relay passes; one that follows the clock may leave them out, and then it goes on until a link ends
+abbrev pub blocks_beside : (follow : Bool) → Option ℕ → Option (Option ℕ)
+blocks_beside follow None = if follow then Some None else None
+blocks_beside follow (Some blocks) = Some (Some blocks)
+
 -- the job of apass
 abbrev pub pass_job : List Row → Option PassJob
 pass_job rows = do
-  from_device ← device_at (codes "from-device") rows
-  to_device ← device_at (codes "to-device") rows
+  from_device ← device_at argument.from_device rows
+  to_device ← device_at argument.to_device rows
   ty ← type_at rows
   gain ← gain_at rows
-  blocks ← stated_number_at (codes "blocks") 1 1000000 rows
+  stated ← stated_number_at argument.blocks rows
+  blocks ← blocks_beside (is_set argument.follow rows) stated
   block ← block_at rows
-  delay ← number_at (codes "delay") 200 0 3000 rows
-  slack ← number_at (codes "slack") 100 0 3000 rows
+  delay ← number_at argument.delay rows
+  slack ← number_at argument.slack rows
   Some (record {
     from_device = from_device;
     to_device = to_device;
@@ -238,6 +239,7 @@ pass_job rows = do
     block = block;
     delay = delay;
     slack = slack;
+    follow = is_set argument.follow rows;
   })
 
 -- what a tool is asked to do: a task with one server, or to pass blocks from one server to another; and the byte order of its
@@ -246,21 +248,23 @@ pub data Job : Type 0 where
   one : (server : Text) (order : Order) (task : Task) → Job
   relay : (from to : Text) (order : Order) (job : PassJob) → Job
 
--- a task with one server, if nothing is missing
+-- a task with one server, if nothing is missing; how long the server is waited for is no matter of the job
 abbrev pub job_with : Option Task → List Row → Option Job
 job_with found rows = do
   task ← found
-  server ← address_at (codes "SERVER") rows
+  server ← address_at argument.server rows
   order ← order_at rows
+  wait ← wait_at rows
   Some (one server order task)
 
 -- a relay, if nothing is missing
 abbrev pub relay_with : Option PassJob → List Row → Option Job
 relay_with found rows = do
   job ← found
-  from ← address_at (codes "FROM") rows
-  to ← address_at (codes "TO") rows
+  from ← address_at argument.from rows
+  to ← address_at argument.to rows
   order ← order_at rows
+  wait ← wait_at rows
   Some (relay from to order job)
 
 -- the job of a tool, by the matches of its command, if each value is in range
@@ -271,29 +275,38 @@ job_in tool.Set rows = job_with (option_map (λ job. task.Set job) (set_job rows
 job_in tool.Pass rows = relay_with (pass_job rows) rows
 job_in tool.List rows = job_with (Some task.List) rows
 
+-- the name of a tool
+abbrev pub tool_name : Tool → Text
+tool_name tool.Play = codes "aplay"
+tool_name tool.Record = codes "arecord"
+tool_name tool.Set = codes "aset"
+tool_name tool.Pass = codes "apass"
+tool_name tool.List = codes "list"
+
 -- the tool with a name
 abbrev pub tool_named : Text → Option Tool
 tool_named name =
-    if bytes_eq name (codes "aplay") then Some tool.Play
-    else if bytes_eq name (codes "arecord") then Some tool.Record
-    else if bytes_eq name (codes "aset") then Some tool.Set
-    else if bytes_eq name (codes "apass") then Some tool.Pass
-    else if bytes_eq name (codes "list") then Some tool.List
+    if bytes_eq name (tool_name tool.Play) then Some tool.Play
+    else if bytes_eq name (tool_name tool.Record) then Some tool.Record
+    else if bytes_eq name (tool_name tool.Set) then Some tool.Set
+    else if bytes_eq name (tool_name tool.Pass) then Some tool.Pass
+    else if bytes_eq name (tool_name tool.List) then Some tool.List
     else None
 
 -- the command of a tool
-abbrev pub tool_app : Tool → App
-tool_app tool.Play = aplay_app
-tool_app tool.Record = arecord_app
-tool_app tool.Set = aset_app
-tool_app tool.Pass = apass_app
-tool_app tool.List = list_app
+unfoldable pub tool_app : Tool → App
+tool_app tool = command_app (tool_name tool) (tool_arguments tool)
 
 -- The job of arguments. The first of them names a tool, and the job is that of the matches that clap defines for them, if each
 -- value is in range.
 unfoldable pub job : List Text → Option Job
 job [] = None
 job (name ∷ words) = option_and_then (λ tool. job_in tool (matches_of (tool_app tool) (name ∷ words))) (tool_named name)
+
+-- for how many seconds arguments have a refused dial tried again. The first of them names a tool.
+unfoldable pub dial_wait : List Text → Option ℕ
+dial_wait [] = None
+dial_wait (name ∷ words) = option_and_then (λ tool. wait_at (matches_of (tool_app tool) (name ∷ words))) (tool_named name)
 
 -- the command of the named tool takes the arguments
 unfoldable pub is_taken : List Text → Bool

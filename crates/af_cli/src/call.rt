@@ -2,34 +2,39 @@
 ghost use Rattle.std.specs.Prelude.{◌≡◌, false, option_map, Err, IfOk, IfSome};
 ghost use Rattle.std.specs.declared.option.Option.TheVariants.{Some};
 ghost use Rattle.clap.specs.Words.{found_of, rows_of};
-ghost use Rattle.af_cli.specs.Call.{job_of_call, IsCall};
+ghost use Rattle.af_cli.specs.Call.{job_of_call, wait_of_call, IsCall};
 ghost use Rattle.af_cli.specs.Ranges.{IsPaced, IsRanged};
-ghost use Rattle.af_cli.specs.Words.{is_spelled, job, job_in, job_with, relay_with};
+ghost use Rattle.af_cli.specs.TrueHeaders.{asked_true_form, job_true_form};
+ghost use Rattle.af_cli.specs.Words.{dial_wait, is_spelled, job, job_in, job_with, relay_with, wait_at};
 
+use crate::arguments::{FROM, SERVER, TO};
 use crate::command::tool_matches;
 use crate::job::{PassJob, Task};
 use crate::tool::{Tool, tool_named};
-use crate::words::{address_at, order_at, pass_job, play_job, record_job, set_job};
+use crate::words::{address_at, order_at, pass_job, play_job, record_job, set_job, wait_at};
 use af_io::Args;
+use af_sound::SoundForm;
 use af_wire::Order;
 use clap::ArgMatches;
 use clap::error::ErrorKind;
 use std::alloc::Global;
 
-/// A task, the server that it is done with, and the order of the connection.
+/// A task, the server that it is done with, the order of the connection, and for how many seconds a refused dial is tried again.
 #[derive(Clone, Copy)]
 pub struct TaskCall<'a> {
     pub server: &'a str,
     pub order: Order,
+    pub wait: u32,
     pub task: Task,
 }
 
-/// A relay, its two servers, and the order of both connections.
+/// A relay, its two servers, the order of both connections, and for how many seconds each refused dial is tried again.
 #[derive(Clone, Copy)]
 pub struct RelayCall<'a> {
     pub from: &'a str,
     pub to: &'a str,
     pub order: Order,
+    pub wait: u32,
     pub job: PassJob,
 }
 
@@ -51,13 +56,16 @@ pub enum OptionsFault {
 fn one_call<'a>(matches: &ArgMatches<'a>, task: Task) -> Option<Call<'a>>
     requires { IsRanged task }
     ensures value { option_map job_of_call result ≡ job_with (Some task) (rows_of (found_of matches.now)) }
+    ensures wait { IfSome result (λ call. wait_at (rows_of (found_of matches.now)) ≡ Some (wait_of_call call)) }
     ensures call { IfSome result (λ call. IsCall call) }
 {
-    let server = address_at(matches, "SERVER")?;
+    let server = address_at(matches, &SERVER)?;
     let order = order_at(matches)?;
+    let wait = wait_at(matches)?;
     Some(Call::One(TaskCall {
         server,
         order,
+        wait,
         task,
     }))
 }
@@ -66,15 +74,18 @@ fn one_call<'a>(matches: &ArgMatches<'a>, task: Task) -> Option<Call<'a>>
 fn relay_call<'a>(matches: &ArgMatches<'a>, job: PassJob) -> Option<Call<'a>>
     requires { IsPaced job }
     ensures value { option_map job_of_call result ≡ relay_with (Some job) (rows_of (found_of matches.now)) }
+    ensures wait { IfSome result (λ call. wait_at (rows_of (found_of matches.now)) ≡ Some (wait_of_call call)) }
     ensures call { IfSome result (λ call. IsCall call) }
 {
-    let from = address_at(matches, "FROM")?;
-    let to = address_at(matches, "TO")?;
+    let from = address_at(matches, &FROM)?;
+    let to = address_at(matches, &TO)?;
     let order = order_at(matches)?;
+    let wait = wait_at(matches)?;
     Some(Call::Relay(RelayCall {
         from,
         to,
         order,
+        wait,
         job,
     }))
 }
@@ -82,6 +93,7 @@ fn relay_call<'a>(matches: &ArgMatches<'a>, job: PassJob) -> Option<Call<'a>>
 // The call of a tool, by the matches of its command.
 fn call_in<'a>(tool: Tool, matches: &ArgMatches<'a>) -> Option<Call<'a>>
     ensures value { option_map job_of_call result ≡ job_in tool (rows_of (found_of matches.now)) }
+    ensures wait { IfSome result (λ call. wait_at (rows_of (found_of matches.now)) ≡ Some (wait_of_call call)) }
     ensures call { IfSome result (λ call. IsCall call) }
 {
     match tool {
@@ -97,6 +109,7 @@ fn call_in<'a>(tool: Tool, matches: &ArgMatches<'a>) -> Option<Call<'a>>
 /// refuses them, or a value is out of range.
 pub fn call_of(alloc: Global, words: &Args) -> Result<Call<'_>, OptionsFault>
     ensures ok { IfOk result (λ call. job words.now ≡ Some (job_of_call call)) }
+    ensures wait { IfOk result (λ call. dial_wait words.now ≡ Some (wait_of_call call)) }
     ensures call { IfOk result (λ call. IsCall call) }
     ensures usage { result ≡ Err OptionsFault.Usage → is_spelled words.now ≡ false }
 {
@@ -114,5 +127,29 @@ pub fn call_of(alloc: Global, words: &Args) -> Result<Call<'_>, OptionsFault>
     match call_in(tool, &matches) {
         Some(call) => Ok(call),
         None => Err(OptionsFault::Usage),
+    }
+}
+
+// The form of a call's file whose header is kept true.
+fn true_form_in(call: &Call<'_>) -> Option<SoundForm>
+    ensures { result ≡ job_true_form (job_of_call call.now) }
+{
+    match call {
+        Call::One(call) => match &call.task {
+            Task::Record(job) => job.true_form(),
+            Task::Play(_) | Task::Set(_) | Task::List => None,
+        },
+        Call::Relay(_) => None,
+    }
+}
+
+/// The form of the sound file whose header is kept true to what was written, if these arguments ask for one. None also where
+/// memory runs out.
+pub fn true_form_of(alloc: Global, words: &Args) -> Option<SoundForm>
+    ensures { IfSome result (λ form. asked_true_form words.now ≡ Some form) }
+{
+    match call_of(alloc, words) {
+        Ok(call) => true_form_in(&call),
+        Err(_) => None,
     }
 }

@@ -1,6 +1,7 @@
 // What a tool is asked to do.
 ghost use Rattle.std.specs.Prelude.{◌≡◌};
 ghost use Rattle.af_cli.specs.Lengths.{at_rate, most_frames, most_seconds};
+ghost use Rattle.af_cli.specs.TrueHeaders.{true_form};
 
 use af_sample::{Gain, SampleType};
 use af_sound::SoundForm;
@@ -21,10 +22,14 @@ pub struct PlayJob {
     pub lead: u32,
     /// The start, if it is stated.
     pub time: Option<u32>,
+    /// By how many milliseconds a block may be sent before its time, 20..4000, if that is bounded.
+    pub ahead: Option<u32>,
     /// Whether what others play is replaced.
     pub preempt: bool,
     /// Whether it ends only once the device has handed out the last frame.
     pub drain: bool,
+    /// Whether its end says if a frame came too late to be heard.
+    pub strict: bool,
 }
 
 /// The most frames that are recorded.
@@ -32,6 +37,9 @@ pub const MOST_FRAMES: u32 = 2147483647;
 
 /// The most seconds that are recorded: those of the most frames at 1000 frames a second.
 pub const MOST_SECONDS: u32 = 2147483;
+
+/// The most seconds for which a refused dial is tried again: an hour.
+pub const MOST_WAIT: u32 = 3600;
 
 /// To record n frames, or n seconds.
 #[derive(Clone, Copy, Debug, PartialEq, Eq)]
@@ -55,6 +63,10 @@ pub struct RecordJob {
     pub stop_peak: u32,
     /// So many quiet blocks in a row end the recording, 1..1000000.
     pub stop_blocks: u32,
+    /// Whether the header is kept true to what was written. That of a recording by seconds is in any case.
+    pub true_header: bool,
+    /// Whether its end says if a frame had left the server before it was asked for.
+    pub strict: bool,
 }
 
 impl RecordJob {
@@ -72,6 +84,18 @@ impl RecordJob {
                 }
             }
             None => *self,
+        }
+    }
+
+    /// The form of the file whose header is kept true to what was written: of a recording by seconds, or of one whose words ask
+    /// for it.
+    pub fn true_form(&self) -> Option<SoundForm>
+        ensures { result ≡ true_form self.now }
+    {
+        if self.seconds.is_some() || self.true_header {
+            self.form
+        } else {
+            None
         }
     }
 }
@@ -100,14 +124,16 @@ pub struct PassJob {
     pub ty: Option<SampleType>,
     /// By how much what is recorded is made louder.
     pub gain: Gain,
-    /// How many blocks, 1..1000000.
-    pub blocks: u32,
+    /// How many blocks, 1..1000000. If they are not stated, which takes a relay that follows, it goes on until a link ends.
+    pub blocks: Option<u32>,
     /// The frames of a block, 1..4000.
     pub block: u32,
     /// The milliseconds from the other server's time to where a block is played, 0..3000.
     pub delay: u32,
     /// By how many milliseconds the relay may drift from that, 0..3000.
     pub slack: u32,
+    /// Whether it follows the other server's clock, by the last frame of a block.
+    pub follow: bool,
 }
 
 /// What a tool is asked to do.

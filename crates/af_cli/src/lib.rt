@@ -1,17 +1,25 @@
 //! What the tools are asked to do, by their words.
 #![tactic(auto)]
 
+mod argument;
+mod arguments;
 mod block;
 mod call;
 mod command;
+mod events;
 mod job;
 mod number;
 mod tool;
+mod values;
 mod words;
 
-pub use block::{GREATEST_BLOCK, block_frames};
-pub use call::{Call, OptionsFault, RelayCall, TaskCall, call_of};
-pub use command::{Argument, ArgumentKind, matches_for, text_of};
-pub use job::{MOST_FRAMES, MOST_SECONDS, PassJob, PlayJob, RecordJob, SetJob, Task};
-pub use number::number_in;
-pub use words::{address_at, device_at, number_at, stated_number_at, text_at};
+pub use argument::{Absent, Argument, Values};
+pub use arguments::{DEVICE, ORDER, SERVER, WAIT};
+pub use block::{GREATEST_BLOCK, GREATEST_PLAY, block_frames};
+pub use call::{Call, OptionsFault, RelayCall, TaskCall, call_of, true_form_of};
+pub use command::{matches_for, text_of, value_of};
+pub use events::{DeviceChoice, EventKinds, choice_in, kind_name, kinds_in};
+pub use job::{PassJob, PlayJob, RecordJob, SetJob, Task};
+pub use tool::{Tool, tool_named};
+pub use values::LONGEST_COMMAND;
+pub use words::{address_at, device_at, number_at, order_at, stated_number_at, text_at, wait_at};

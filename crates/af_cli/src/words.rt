@@ -1,13 +1,20 @@
 // The jobs of the tools, by their arguments.
-ghost use Rattle.std.specs.Prelude.{◌≡◌, ◌≤◌, codes, length, option_map, IfSome};
+ghost use Rattle.std.specs.Prelude.{◌≡◌, ◌≤◌, length, option_map, IfSome};
 ghost use Rattle.af_limits.specs.Limits.{longest_address};
-ghost use Rattle.clap.specs.Words.{first_of, found_of, rows_of};
-ghost use Rattle.af_cli.specs.Numbers.{gain_in, if_there, number_in, switch_in};
-ghost use Rattle.af_cli.specs.Words.{address_at, basics_of, block_at, device_at, form_at, gain_at, is_set, length_at, number_at, order_at, pass_job, play_job, record_job, set_job, stated_number_at, text_at, type_at};
+ghost use Rattle.clap.specs.Words.{found_of, rows_of};
+ghost use Rattle.af_cli.specs.Arguments.{as_listed};
+ghost use Rattle.af_cli.specs.Numbers.{gain_in, if_there, switch_in};
+ghost use Rattle.af_cli.specs.Words.{address_at, basics_of, block_at, device_at, form_at, gain_at, is_set, length_at, number_at, order_at, pass_job, play_job, record_job, set_job, stated_number_at, text_at, type_at, value_of, wait_at};
 ghost use Rattle.af_cli.specs.Ranges.{IsPaced};
 
-use crate::command::text_of;
-use crate::job::{MOST_FRAMES, MOST_SECONDS, PassJob, PlayJob, RecordJob, SetJob};
+use crate::argument::Argument;
+use crate::arguments::{
+    AHEAD, BLOCK, BLOCKS, DELAY, DEVICE, DRAIN, FILE, FOLLOW, FRAMES, FROM_DEVICE, GAIN, HOOK,
+    INPUT, INPUT_GAIN, LEAD, ORDER, OUTPUT, OUTPUT_GAIN, PREEMPT, SECONDS, SLACK, STOP_BLOCKS,
+    STOP_PEAK, STRICT, TIME, TO_DEVICE, TRUE_HEADER, TYPE, WAIT,
+};
+use crate::command::{text_of, value_of};
+use crate::job::{PassJob, PlayJob, RecordJob, SetJob};
 use crate::number::{form_in, gain_in, number_in, order_in, switch_in};
 use af_limits::{LONGEST_ADDRESS, MOST_DEVICES};
 use af_sample::{Gain, SampleType};
@@ -26,20 +33,11 @@ pub struct CommonOptions {
     pub time: Option<u32>,
 }
 
-/// A number between these two, or its default.
-pub fn number_at(
-    matches: &ArgMatches<'_>,
-    name: &str,
-    default: u32,
-    low: u32,
-    high: u32,
-) -> Option<u32>
-    ensures { result ≡ number_at name.now default low high (rows_of (found_of matches.now)) }
+/// The number of an argument, in its range.
+pub fn number_at<'a>(matches: &ArgMatches<'a>, argument: &Argument<'a>) -> Option<u32>
+    ensures { result ≡ number_at (as_listed argument.now) (rows_of (found_of matches.now)) }
 {
-    match text_of(matches, name) {
-        Some(text) => number_in(low, high, text.as_bytes()),
-        None => Some(default),
-    }
+    argument.values.number(value_of(matches, argument)?)
 }
 
 // The frames of a block.
@@ -47,30 +45,28 @@ fn block_at(matches: &ArgMatches<'_>) -> Option<u32>
     ensures value { result ≡ block_at (rows_of (found_of matches.now)) }
     ensures range { IfSome result (λ block. (1 ≤ block) × (block ≤ 4000)) }
 {
-    number_at(matches, "block", 1000, 1, 4000)
+    number_at(matches, &BLOCK)
 }
 
 /// The number of a device.
-pub fn device_at(matches: &ArgMatches<'_>, name: &str) -> Option<u8>
-    ensures { result ≡ device_at name.now (rows_of (found_of matches.now)) }
+pub fn device_at<'a>(matches: &ArgMatches<'a>, argument: &Argument<'a>) -> Option<u8>
+    ensures { result ≡ device_at (as_listed argument.now) (rows_of (found_of matches.now)) }
 {
-    let number = number_at(matches, name, 0, 0, MOST_DEVICES as u32 - 1)?;
+    let text = value_of(matches, argument)?;
+    let number = number_in(0, MOST_DEVICES as u32 - 1, text.as_bytes())?;
     Some(number as u8)
 }
 
-/// A number between these two, which has to be stated.
-pub fn stated_number_at(matches: &ArgMatches<'_>, name: &str, low: u32, high: u32) -> Option<u32>
-    ensures { result ≡ stated_number_at name.now low high (rows_of (found_of matches.now)) }
-{
-    number_in(low, high, text_of(matches, name)?.as_bytes())
-}
-
 /// A text of 1 to so many bytes.
-pub fn text_at<'a>(matches: &ArgMatches<'a>, name: &str, most: usize) -> Option<&'a str>
-    ensures text { option_map (λ s. s.now) result ≡ text_at name.now most (rows_of (found_of matches.now)) }
+pub fn text_at<'a>(
+    matches: &ArgMatches<'a>,
+    argument: &Argument<'a>,
+    most: usize,
+) -> Option<&'a str>
+    ensures text { option_map (λ s. s.now) result ≡ text_at (as_listed argument.now) most (rows_of (found_of matches.now)) }
     ensures size { IfSome result (λ s. (1 ≤ length s.now) × (length s.now ≤ most)) }
 {
-    let text = text_of(matches, name)?;
+    let text = value_of(matches, argument)?;
     if 1 <= text.len() && text.len() <= most {
         Some(text)
     } else {
@@ -79,29 +75,36 @@ pub fn text_at<'a>(matches: &ArgMatches<'a>, name: &str, most: usize) -> Option<
 }
 
 /// The address of a server.
-pub fn address_at<'a>(matches: &ArgMatches<'a>, name: &str) -> Option<&'a str>
-    ensures address { option_map (λ s. s.now) result ≡ address_at name.now (rows_of (found_of matches.now)) }
+pub fn address_at<'a>(matches: &ArgMatches<'a>, argument: &Argument<'a>) -> Option<&'a str>
+    ensures address { option_map (λ s. s.now) result ≡ address_at (as_listed argument.now) (rows_of (found_of matches.now)) }
     ensures size { IfSome result (λ s. (1 ≤ length s.now) × (length s.now ≤ longest_address)) }
 {
-    text_at(matches, name, LONGEST_ADDRESS)
+    text_at(matches, argument, LONGEST_ADDRESS)
 }
 
-/// The order of the bytes of a connection, Big by default.
+/// The order of the bytes of a connection.
 pub fn order_at(matches: &ArgMatches<'_>) -> Option<Order>
     ensures { result ≡ order_at (rows_of (found_of matches.now)) }
 {
-    match text_of(matches, "order") {
-        Some(text) => order_in(text),
-        None => Some(Order::Big),
-    }
+    order_in(value_of(matches, &ORDER)?)
 }
 
-// A time, if one was given.
-fn time_at(matches: &ArgMatches<'_>) -> Option<Option<u32>>
-    ensures { result ≡ if_there (number_in 0 4294967295) (first_of (codes "time") (rows_of (found_of matches.now))) }
+/// For how many seconds a dial that is refused is tried again.
+pub fn wait_at(matches: &ArgMatches<'_>) -> Option<u32>
+    ensures { result ≡ wait_at (rows_of (found_of matches.now)) }
 {
-    match text_of(matches, "time") {
-        Some(text) => Some(Some(number_in(0, u32::MAX, text.as_bytes())?)),
+    number_at(matches, &WAIT)
+}
+
+/// A number, if one was given.
+pub fn stated_number_at<'a>(
+    matches: &ArgMatches<'a>,
+    argument: &Argument<'a>,
+) -> Option<Option<u32>>
+    ensures { result ≡ stated_number_at (as_listed argument.now) (rows_of (found_of matches.now)) }
+{
+    match value_of(matches, argument) {
+        Some(text) => Some(Some(argument.values.number(text)?)),
         None => Some(None),
     }
 }
@@ -110,7 +113,7 @@ fn time_at(matches: &ArgMatches<'_>) -> Option<Option<u32>>
 fn type_at(matches: &ArgMatches<'_>) -> Option<Option<SampleType>>
     ensures { result ≡ type_at (rows_of (found_of matches.now)) }
 {
-    match text_of(matches, "type") {
+    match value_of(matches, &TYPE) {
         Some(text) => Some(Some(sample_type(text.as_bytes())?)),
         None => Some(None),
     }
@@ -120,27 +123,21 @@ fn type_at(matches: &ArgMatches<'_>) -> Option<Option<SampleType>>
 fn form_at(matches: &ArgMatches<'_>) -> Option<Option<SoundForm>>
     ensures { result ≡ form_at (rows_of (found_of matches.now)) }
 {
-    match text_of(matches, "file") {
-        Some(text) => form_in(text),
-        None => Some(None),
-    }
+    form_in(value_of(matches, &FILE)?)
 }
 
-// A gain, or none.
+// A gain.
 fn gain_at(matches: &ArgMatches<'_>) -> Option<Gain>
     ensures { result ≡ gain_at (rows_of (found_of matches.now)) }
 {
-    match text_of(matches, "gain") {
-        Some(text) => gain_in(text.as_bytes()),
-        None => Some(Gain::default()),
-    }
+    gain_in(value_of(matches, &GAIN)?.as_bytes())
 }
 
 // Whether a flag was given.
-fn is_set(matches: &ArgMatches<'_>, name: &str) -> bool
-    ensures { result ≡ is_set name.now (rows_of (found_of matches.now)) }
+fn is_set(matches: &ArgMatches<'_>, argument: &Argument<'_>) -> bool
+    ensures { result ≡ is_set (as_listed argument.now) (rows_of (found_of matches.now)) }
 {
-    match text_of(matches, name) {
+    match text_of(matches, argument.name) {
         Some(value) => value == "true",
         None => false,
     }
@@ -150,11 +147,11 @@ fn basics_of(matches: &ArgMatches<'_>) -> Option<CommonOptions>
     ensures value { result ≡ basics_of (rows_of (found_of matches.now)) }
     ensures range { IfSome result (λ basics. (1 ≤ basics.block) × (basics.block ≤ 4000)) }
 {
-    let device = device_at(matches, "device")?;
+    let device = device_at(matches, &DEVICE)?;
     let ty = type_at(matches)?;
     let gain = gain_at(matches)?;
     let block = block_at(matches)?;
-    let time = time_at(matches)?;
+    let time = stated_number_at(matches, &TIME)?;
     Some(CommonOptions {
         device,
         ty,
@@ -174,7 +171,8 @@ pub fn play_job(matches: &ArgMatches<'_>) -> Option<PlayJob>
     if form.is_some() && basics.ty.is_some() {
         return None;
     }
-    let lead = number_at(matches, "lead", 100, 0, 60000)?;
+    let lead = number_at(matches, &LEAD)?;
+    let ahead = stated_number_at(matches, &AHEAD)?;
     Some(PlayJob {
         device: basics.device,
         form,
@@ -183,8 +181,10 @@ pub fn play_job(matches: &ArgMatches<'_>) -> Option<PlayJob>
         block: basics.block,
         lead,
         time: basics.time,
-        preempt: is_set(matches, "preempt"),
-        drain: is_set(matches, "drain"),
+        ahead,
+        preempt: is_set(matches, &PREEMPT),
+        drain: is_set(matches, &DRAIN),
+        strict: is_set(matches, &STRICT),
     })
 }
 
@@ -192,9 +192,12 @@ pub fn play_job(matches: &ArgMatches<'_>) -> Option<PlayJob>
 fn length_at(matches: &ArgMatches<'_>) -> Option<(u32, Option<u32>)>
     ensures { result ≡ length_at (rows_of (found_of matches.now)) }
 {
-    match (text_of(matches, "frames"), text_of(matches, "seconds")) {
-        (Some(text), None) => Some((number_in(1, MOST_FRAMES, text.as_bytes())?, None)),
-        (None, Some(text)) => Some((0, Some(number_in(1, MOST_SECONDS, text.as_bytes())?))),
+    match (
+        stated_number_at(matches, &FRAMES)?,
+        stated_number_at(matches, &SECONDS)?,
+    ) {
+        (Some(frames), None) => Some((frames, None)),
+        (None, Some(seconds)) => Some((0, Some(seconds))),
         _ => None,
     }
 }
@@ -208,8 +211,8 @@ pub fn record_job(matches: &ArgMatches<'_>) -> Option<RecordJob>
     let basics = basics_of(matches)?;
     let form = form_at(matches)?;
     let (frames, seconds) = length_at(matches)?;
-    let stop_peak = number_at(matches, "stop-peak", 0, 0, 32768)?;
-    let stop_blocks = number_at(matches, "stop-blocks", 1, 1, 1000000)?;
+    let stop_peak = number_at(matches, &STOP_PEAK)?;
+    let stop_blocks = number_at(matches, &STOP_BLOCKS)?;
     Some(RecordJob {
         device: basics.device,
         form,
@@ -221,29 +224,32 @@ pub fn record_job(matches: &ArgMatches<'_>) -> Option<RecordJob>
         seconds,
         stop_peak,
         stop_blocks,
+        true_header: is_set(matches, &TRUE_HEADER),
+        strict: is_set(matches, &STRICT),
     })
 }
 
 // A gain, if one was given.
-fn stated_gain_at(matches: &ArgMatches<'_>, name: &str) -> Option<Option<Gain>>
-    ensures { result ≡ if_there gain_in (first_of name.now (rows_of (found_of matches.now))) }
+fn stated_gain_at<'a>(matches: &ArgMatches<'a>, argument: &Argument<'a>) -> Option<Option<Gain>>
+    ensures { result ≡ if_there gain_in (value_of (as_listed argument.now) (rows_of (found_of matches.now))) }
 {
-    match text_of(matches, name) {
+    match value_of(matches, argument) {
         Some(text) => Some(Some(gain_in(text.as_bytes())?)),
         None => Some(None),
     }
 }
 
 // A switch, if one was given: on by the first word, off by the second.
-fn switch_at(
-    matches: &ArgMatches<'_>,
-    name: &str,
+fn switch_at<'a>(
+    matches: &ArgMatches<'a>,
+    argument: &Argument<'a>,
     when: &str,
     otherwise: &str,
 ) -> Option<Option<bool>>
-    ensures { result ≡ if_there (switch_in when.now otherwise.now) (first_of name.now (rows_of (found_of matches.now))) }
+    ensures { result ≡ if_there (switch_in when.now otherwise.now)
+        (value_of (as_listed argument.now) (rows_of (found_of matches.now))) }
 {
-    match text_of(matches, name) {
+    match value_of(matches, argument) {
         Some(text) => Some(Some(switch_in(when, otherwise, text)?)),
         None => Some(None),
     }
@@ -253,12 +259,12 @@ fn switch_at(
 pub fn set_job(matches: &ArgMatches<'_>) -> Option<SetJob>
     ensures { result ≡ set_job (rows_of (found_of matches.now)) }
 {
-    let device = device_at(matches, "device")?;
-    let input_gain = stated_gain_at(matches, "input-gain")?;
-    let output_gain = stated_gain_at(matches, "output-gain")?;
-    let input_on = switch_at(matches, "input", "on", "off")?;
-    let output_on = switch_at(matches, "output", "on", "off")?;
-    let hook_off = switch_at(matches, "hook", "off", "on")?;
+    let device = device_at(matches, &DEVICE)?;
+    let input_gain = stated_gain_at(matches, &INPUT_GAIN)?;
+    let output_gain = stated_gain_at(matches, &OUTPUT_GAIN)?;
+    let input_on = switch_at(matches, &INPUT, "on", "off")?;
+    let output_on = switch_at(matches, &OUTPUT, "on", "off")?;
+    let hook_off = switch_at(matches, &HOOK, "off", "on")?;
     Some(SetJob {
         device,
         input_gain,
@@ -274,14 +280,18 @@ pub fn pass_job(matches: &ArgMatches<'_>) -> Option<PassJob>
     ensures value { result ≡ pass_job (rows_of (found_of matches.now)) }
     ensures range { IfSome result IsPaced }
 {
-    let from_device = device_at(matches, "from-device")?;
-    let to_device = device_at(matches, "to-device")?;
+    let from_device = device_at(matches, &FROM_DEVICE)?;
+    let to_device = device_at(matches, &TO_DEVICE)?;
     let ty = type_at(matches)?;
     let gain = gain_at(matches)?;
-    let blocks = stated_number_at(matches, "blocks", 1, 1000000)?;
+    let follow = is_set(matches, &FOLLOW);
+    let blocks = stated_number_at(matches, &BLOCKS)?;
+    if blocks.is_none() && !follow {
+        return None;
+    }
     let block = block_at(matches)?;
-    let delay = number_at(matches, "delay", 200, 0, 3000)?;
-    let slack = number_at(matches, "slack", 100, 0, 3000)?;
+    let delay = number_at(matches, &DELAY)?;
+    let slack = number_at(matches, &SLACK)?;
     Some(PassJob {
         from_device,
         to_device,
@@ -291,5 +301,6 @@ pub fn pass_job(matches: &ArgMatches<'_>) -> Option<PassJob>
         block,
         delay,
         slack,
+        follow,
     })
 }

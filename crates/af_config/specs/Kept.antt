@@ -1,7 +1,7 @@
 -- The values of the parts of a line, once they are read.
 use Rattle.std.specs.Prelude.{string_bytes}
 use Rattle.af_world.specs.declared.lifecycle.ToldKind.{ToldKind}
-use Rattle.af_world.specs.Kinds.{silence, two_files, child_program, card_program}
+use Rattle.af_world.specs.Kinds.{silence, two_files, its_own_sound, child_program, card_program}
 use Rattle.af_config.specs.declared.device.OwnedKind.{OwnedKind}
 use Rattle.af_config.specs.declared.device.OwnedKind.TheVariants as held
 use Rattle.af_config.specs.declared.device.ConfiguredDevice.{ConfiguredDevice}
@@ -13,6 +13,7 @@ use Rattle.af_config.specs.Stating.{Configured, EndingState, LineProgram}
 abbrev pub told_owned_kind : OwnedKind → ToldKind
 told_owned_kind held.Silent = silence
 told_owned_kind (held.Files input output) = two_files (string_bytes input) (string_bytes output)
+told_owned_kind held.Loop = its_own_sound
 told_owned_kind (held.Codec restarts words) = child_program restarts words
 told_owned_kind (held.Card card restarts words) = card_program card restarts words
 

@@ -10,7 +10,7 @@ use Rattle.af_world.specs.declared.script.DeviceSpec.{DeviceSpec}
 use Rattle.af_world.specs.declared.lifecycle.ToldKind.{ToldKind}
 use Rattle.af_world.specs.declared.lifecycle.ToldKind.TheVariants as told
 use Rattle.af_world.specs.Outside.{spec_has_line}
-use Rattle.af_world.specs.Kinds.{silence, two_files, child_program, card_program, most_card_restarts}
+use Rattle.af_world.specs.Kinds.{silence, two_files, its_own_sound, child_program, card_program, most_card_restarts}
 
 -- the program that is the exchange of a telephone line: the device of the line, how often it is started again, and its command
 -- line
@@ -39,6 +39,7 @@ pub record EndingState : Type 0 where
 abbrev pub is_codec : ToldKind → Bool
 is_codec told.Silent = false
 is_codec (told.Files input output) = false
+is_codec told.Loop = false
 is_codec (told.Codec restarts words) = true
 is_codec (told.Card kind restarts words) = false
 
@@ -51,39 +52,52 @@ abbrev pub silent_of : List (List ℕ) → Option ToldKind
 silent_of [] = Some silence
 silent_of (name ∷ names) = None
 
+-- and none after `loop`
+abbrev pub loop_of : List (List ℕ) → Option ToldKind
+loop_of [] = Some its_own_sound
+loop_of (name ∷ names) = None
+
 -- the names of two files come after `files`
 abbrev pub files_of : List (List ℕ) → Option ToldKind
 files_of (input ∷ output ∷ []) = Some (two_files input output)
 files_of _ = None
 
--- these words have at most 64 bytes each
-abbrev pub are_short : List (List ℕ) → Bool
-are_short [] = true
-are_short (word ∷ words) = nat_le (length word) 64 && are_short words
+-- how many bytes a word of a program has at most, and one of the program of a codec
+abbrev pub longest_word : ℕ
+longest_word = 255
 
--- a command line: 1 to 8 words of at most 64 bytes each
-abbrev pub is_command_line : List (List ℕ) → Bool
-is_command_line words = nat_le 1 (length words) && nat_le (length words) 8 && are_short words
+abbrev pub longest_codec_word : ℕ
+longest_codec_word = 64
 
--- how often a program is started again, at most so many times, and its command line
-abbrev pub program_of : {A : Type 0} → (ℕ → List (List ℕ) → A) → ℕ → List (List ℕ) → Option A
-program_of made most [] = None
-program_of made most (restarts ∷ words) =
-    option_and_then (λ n. option_map (made n) (only_if is_command_line words)) (number_within 0 most restarts)
+-- these words have at most so many bytes each
+abbrev pub are_short : ℕ → List (List ℕ) → Bool
+are_short longest [] = true
+are_short longest (word ∷ words) = nat_le (length word) longest && are_short longest words
+
+-- a command line: 1 to 8 words of at most so many bytes each
+abbrev pub is_command_line : ℕ → List (List ℕ) → Bool
+is_command_line longest words = nat_le 1 (length words) && nat_le (length words) 8 && are_short longest words
+
+-- how often a program is started again, at most so many times, and its command line, of words of at most so many bytes
+abbrev pub program_of : {A : Type 0} → (ℕ → List (List ℕ) → A) → ℕ → ℕ → List (List ℕ) → Option A
+program_of made most longest [] = None
+program_of made most longest (restarts ∷ words) =
+    option_and_then (λ n. option_map (made n) (only_if (is_command_line longest) words)) (number_within 0 most restarts)
 
 -- they come after `codec`
 abbrev pub codec_of : List (List ℕ) → Option ToldKind
-codec_of words = program_of child_program 100 words
+codec_of words = program_of child_program 100 longest_codec_word words
 
 -- and after `speaker`, `microphone` or `card`
 abbrev pub card_of : CardKind → List (List ℕ) → Option ToldKind
-card_of kind words = program_of (card_program kind) most_card_restarts words
+card_of kind words = program_of (card_program kind) most_card_restarts longest_word words
 
--- `silent`, `files INPUT OUTPUT`, or one of `codec`, `speaker`, `microphone` and `card` with `RESTARTS WORD ..`
+-- `silent`, `loop`, `files INPUT OUTPUT`, or one of `codec`, `speaker`, `microphone` and `card` with `RESTARTS WORD ..`
 abbrev pub kind_of : List (List ℕ) → Option ToldKind
 kind_of [] = None
 kind_of (word ∷ names) =
     if bytes_eq word (codes "silent") then silent_of names
+    else if bytes_eq word (codes "loop") then loop_of names
     else if bytes_eq word (codes "files") then files_of names
     else if bytes_eq word (codes "codec") then codec_of names
     else if bytes_eq word (codes "speaker") then card_of card_kind.Speaker names
@@ -136,7 +150,8 @@ line_program device restarts words = record { device = device; restarts = restar
 abbrev pub line_program_with : List (List ℕ) → Option LineProgram
 line_program_with [] = None
 line_program_with (device ∷ words) =
-    option_and_then (λ d. program_of (line_program d) most_card_restarts words) (number_within 0 (most_devices - 1) device)
+    option_and_then (λ d. program_of (line_program d) most_card_restarts longest_word words)
+    (number_within 0 (most_devices - 1) device)
 
 -- whether the words of a line begin with `phone`
 abbrev pub is_phone_line : List (List ℕ) → Bool

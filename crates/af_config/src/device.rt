@@ -4,10 +4,10 @@ ghost use Rattle.std.specs.Str.{IsUtf8, is_utf8};
 ghost use Rattle.af_sample.specs.Channels.{IsChannelCount};
 ghost use Rattle.af_sample.specs.Rates.{IsListedRate};
 ghost use Rattle.af_text.specs.Lines.{words};
-ghost use Rattle.af_config.specs.Stating.{configured_of, configured_with, placed_at, ending_of, kind_of, silent_of, files_of, codec_of, card_of, is_codec};
+ghost use Rattle.af_config.specs.Stating.{configured_of, configured_with, placed_at, ending_of, kind_of, silent_of, loop_of, files_of, codec_of, card_of, is_codec};
 ghost use Rattle.af_config.specs.Kept.{told_device, told_owned_kind, stated_ending};
 
-use crate::command_line::{MOST_RESTARTS, command_line_stated};
+use crate::command_line::{LONGEST_CODEC_WORD, LONGEST_WORD, MOST_RESTARTS, command_line_stated};
 use af_process::CommandLine;
 use af_text::{
     channel_count, is_word, listed_rate, next_word, number_between, sample_type, two_words,
@@ -25,6 +25,7 @@ pub enum OwnedKind {
         input: String,
         output: String,
     },
+    Loop,
     Codec {
         restarts: u32,
         words: CommandLine,
@@ -121,7 +122,7 @@ fn ending_stated(alloc: Global, arguments: &[u8]) -> Result<Option<Ending>, OutO
     }
 }
 
-/// `silent`, `files INPUT OUTPUT`, or one of `codec`, `speaker`, `microphone` and `card` with `RESTARTS WORD ..`
+/// `silent`, `loop`, `files INPUT OUTPUT`, or one of `codec`, `speaker`, `microphone` and `card` with `RESTARTS WORD ..`
 fn kind_stated(alloc: Global, arguments: &[u8]) -> Result<Option<OwnedKind>, OutOfMemory>
     requires { IsUtf8 arguments.now }
     ensures { IfOk result (λ kind. option_map told_owned_kind kind ≡ kind_of (words arguments.now)) }
@@ -131,6 +132,8 @@ fn kind_stated(alloc: Global, arguments: &[u8]) -> Result<Option<OwnedKind>, Out
     };
     if is_word(word, b"silent") {
         Ok(silent_stated(names))
+    } else if is_word(word, b"loop") {
+        Ok(loop_stated(names))
     } else if is_word(word, b"files") {
         files_stated(alloc, names)
     } else if is_word(word, b"codec") {
@@ -156,6 +159,16 @@ fn silent_stated(names: &[u8]) -> Option<OwnedKind>
     }
 }
 
+/// No words, after `loop`.
+fn loop_stated(names: &[u8]) -> Option<OwnedKind>
+    ensures { option_map told_owned_kind result ≡ loop_of (words names.now) }
+{
+    match next_word(names) {
+        None => Some(OwnedKind::Loop),
+        Some(_) => None,
+    }
+}
+
 /// `INPUT OUTPUT`, after `files`.
 fn files_stated(alloc: Global, names: &[u8]) -> Result<Option<OwnedKind>, OutOfMemory>
     requires { IsUtf8 names.now }
@@ -177,7 +190,7 @@ fn codec_stated(names: &[u8]) -> Option<OwnedKind>
 {
     let (restarts, rest) = next_word(names)?;
     let restarts = number_between(0, MOST_RESTARTS, restarts)?;
-    let words = command_line_stated(rest)?;
+    let words = command_line_stated(rest, LONGEST_CODEC_WORD)?;
     Some(OwnedKind::Codec { restarts, words })
 }
 
@@ -188,7 +201,7 @@ fn card_stated(card: CardKind, names: &[u8]) -> Option<OwnedKind>
 {
     let (restarts, rest) = next_word(names)?;
     let restarts = number_between(0, MOST_CARD_RESTARTS, restarts)?;
-    let words = command_line_stated(rest)?;
+    let words = command_line_stated(rest, LONGEST_WORD)?;
     Some(OwnedKind::Card {
         card,
         restarts,

@@ -10,7 +10,7 @@ mod read;
 mod setting;
 
 pub use af_world::MOST_CARD_RESTARTS;
-pub use command_line::{MOST_RESTARTS, is_command_line};
+pub use command_line::{LONGEST_CODEC_WORD, LONGEST_WORD, MOST_RESTARTS, is_command_line};
 pub use fault::ConfigFault;
 pub use line_program::OwnedLineProgram;
 pub use read::read_config;

@@ -5,7 +5,7 @@ ghost use Rattle.af_text.specs.Lines.{words};
 ghost use Rattle.af_config.specs.Stating.{is_phone_line, line_program_of, line_program_with, has_program};
 ghost use Rattle.af_config.specs.Kept.{owned_program};
 
-use crate::command_line::command_line_stated;
+use crate::command_line::{LONGEST_WORD, command_line_stated};
 use af_limits::MOST_DEVICES;
 use af_process::CommandLine;
 use af_text::{is_word, next_word, number_between};
@@ -56,7 +56,7 @@ fn program_stated(arguments: &[u8]) -> Option<OwnedLineProgram>
     let device = number_between(0, LAST_DEVICE, device)?;
     let (restarts, rest) = next_word(rest)?;
     let restarts = number_between(0, MOST_CARD_RESTARTS, restarts)?;
-    let words = command_line_stated(rest)?;
+    let words = command_line_stated(rest, LONGEST_WORD)?;
     Some(OwnedLineProgram {
         device: device as u8,
         restarts,

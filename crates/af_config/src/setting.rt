@@ -123,6 +123,7 @@ impl Setting {
                 input: input.as_str(),
                 output: output.as_str(),
             },
+            OwnedKind::Loop => Kind::Loop,
             OwnedKind::Codec { restarts, words } => Kind::Codec {
                 restarts: *restarts,
                 words: words.words(),

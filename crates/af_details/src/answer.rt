@@ -32,7 +32,8 @@ pub fn as_tool_end(end: AnswerEnd) -> Option<ToolEnd>
     })
 }
 
-/// Tells of the end of an answering machine what its line does not, and counts the calls so far.
+/// Tells of the end of an answering machine what its line does not. It counts the calls so far, if the machine ended before it
+/// could write that itself.
 pub fn tell_answer(
     rt: &impl Eprint,
     alloc: Global,
@@ -61,5 +62,7 @@ pub fn tell_answer(
             _ => {}
         }
     }
-    let _ = eprintln!(rt; "af: {calls}");
+    if end != AnswerEnd::Done {
+        let _ = eprintln!(rt; "af: {calls}");
+    }
 }

@@ -1,4 +1,6 @@
 // The children of an answering machine, counted.
+ghost use Rattle.std.specs.Prelude.{◌≡◌};
+
 use af_io::Put;
 use af_process::{Finished, Spawner, Started, Words};
 use std::alloc::Global;
@@ -76,7 +78,9 @@ pub struct WatchedSpawner<S: Spawner + Drop> {
 
 impl<S: Spawner + Drop> WatchedSpawner<S> {
     /// A spawner over another.
-    pub fn new(spawner: S) -> WatchedSpawner<S> {
+    pub fn new(spawner: S) -> WatchedSpawner<S>
+        ensures { result.spawner ≡ spawner }
+    {
         WatchedSpawner {
             spawner,
             calls: Calls::new(),
@@ -84,7 +88,9 @@ impl<S: Spawner + Drop> WatchedSpawner<S> {
     }
 
     /// The spawner below it.
-    pub fn spawner(&self) -> &S {
+    pub fn spawner(&self) -> &S
+        ensures { result.now ≡ self.now.spawner }
+    {
         &self.spawner
     }
 

@@ -127,6 +127,17 @@ pub fn taken_for_samples<'a>(first: &[u8]) -> Option<TakenForSamples<'a>> {
     Some(TakenForSamples { kind, form })
 }
 
+/// Whether a file that begins so is of a kind that ffmpeg reads, and sox as Debian has it does not: MP3, MP4 and Matroska.
+pub fn is_for_ffmpeg(first: &[u8]) -> bool {
+    match first {
+        [b'I', b'D', b'3', ..] => true,
+        [0xff, second, ..] => second & 0xe0 == 0xe0,
+        [0x1a, 0x45, 0xdf, 0xa3, ..] => true,
+        [_, _, _, _, b'f', b't', b'y', b'p', ..] => true,
+        _ => false,
+    }
+}
+
 /// The ending of a file's name, by its form.
 pub fn ending<'a>(form: SoundForm) -> &'a str {
     match form {

@@ -32,6 +32,10 @@ pub fn tell_link(rt: &impl Eprint, seen: &Seen) {
     let Some(talk) = waiting(seen) else {
         return;
     };
+    if talk.silent {
+        tell_silence(rt, talk);
+        return;
+    }
     let address = talk.shown_address();
     match talk.reason {
         Some(reason) => {
@@ -45,6 +49,20 @@ pub fn tell_link(rt: &impl Eprint, seen: &Seen) {
         tell_asked(rt, talk);
     } else {
         let _ = eprintln!(rt; "af: it did so at once, as a server does that has 32 clients");
+    }
+}
+
+// Tells that a setup was not answered in time.
+fn tell_silence(rt: &impl Eprint, talk: &Talk) {
+    let address = talk.shown_address();
+    if talk.heard {
+        let _ = eprintln!(rt;
+            "af: the setup was not answered whole by {address} in 10 seconds, so it may be no AudioFile server"
+        );
+    } else {
+        let _ = eprintln!(rt;
+            "af: nothing came from {address} in 10 seconds, so it may be no AudioFile server"
+        );
     }
 }
 
@@ -102,6 +120,15 @@ pub fn tell_no_line(rt: &impl Eprint, talk: &Talk, device: u8) {
     let address = talk.shown_address();
     let _ = eprintln!(rt;
         "af: device {device} of {address} has no telephone line; the devices there are:"
+    );
+    tell_devices(rt, talk);
+}
+
+/// Tells which devices a server has, if none of them has a telephone line.
+pub fn tell_no_lines(rt: &impl Eprint, talk: &Talk) {
+    let address = talk.shown_address();
+    let _ = eprintln!(rt;
+        "af: no device of {address} has a telephone line; the devices there are:"
     );
     tell_devices(rt, talk);
 }

@@ -3,6 +3,7 @@ ghost use Rattle.std.specs.Prelude.{◌≡◌, ◌≤◌, ◌*◌, ◌^◌};
 
 use crate::counted::Counted;
 use af_time::DevTime;
+use af_toolkit::periods_before;
 use std::fmt;
 use std::fmt::{Formatter, Write};
 
@@ -32,7 +33,7 @@ impl Lost {
     pub fn note(&mut self, start: DevTime, frames: u32, time: DevTime)
         ensures none { frames ≡ 0 → self.new ≡ self.old }
     {
-        let before = u32::try_from(time.diff(start)).unwrap_or(0);
+        let before = periods_before(start, time);
         let lost = frames.min(before);
         if lost > 0 {
             self.frames = self.frames.saturating_add(u64::from(lost));

@@ -2,7 +2,8 @@
 ghost use Rattle.std.specs.Prelude.{◌≡◌};
 ghost use Rattle.af_details.specs.Pages.{page_asked};
 
-use crate::options::{Command, OptionRow};
+use crate::options::Command;
+use af_cli::{Absent, Argument, Tool, Values};
 use af_io::Args;
 use af_version::{About, VERSION, asked_about, page_text};
 use arrayvec::ArrayString;
@@ -11,13 +12,15 @@ use std::fmt;
 use std::fmt::{Formatter, Write};
 
 // All tools.
-static COMMANDS: [Command; 6] = [
-    Command::Play,
-    Command::Record,
-    Command::Set,
-    Command::Pass,
+static COMMANDS: [Command; 8] = [
+    Command::Tool(Tool::Play),
+    Command::Tool(Tool::Record),
+    Command::Tool(Tool::Set),
+    Command::Tool(Tool::Pass),
     Command::Answer,
-    Command::List,
+    Command::Events,
+    Command::Meter,
+    Command::Tool(Tool::List),
 ];
 
 /// What is told of the program itself.
@@ -102,40 +105,45 @@ fn show_options<W: Write>(f: &mut Formatter<W>, command: Command) -> fmt::Result
     let name = command.name();
     writeln!(f, "usage: {command}")?;
     writeln!(f, "{name} {what}")?;
-    if let Some((one, other)) = command.choice() {
-        show_choice(f, &one, other.name)?;
-        show_choice(f, &other, one.name)?;
-    }
-    for row in command.options() {
-        show_option(f, row)?;
+    for argument in command.arguments() {
+        if !matches!(argument.values, Values::Address) {
+            show_option(f, command, argument)?;
+        }
     }
     let manual = Manual;
     write!(f, "{manual}")
 }
 
-// An option that has to be there where another one is not.
-fn show_choice<W: Write>(f: &mut Formatter<W>, row: &OptionRow<'_>, other: &str) -> fmt::Result {
+fn show_option<W: Write>(
+    f: &mut Formatter<W>,
+    command: Command,
+    argument: &Argument<'_>,
+) -> fmt::Result {
     let mut shown = ArrayString::<64>::new();
-    write!(shown, "{row}")?;
+    write!(shown, "{argument}")?;
     let option = shown.as_str();
-    let what = row.what;
-    writeln!(
-        f,
-        "  {option:<30} {what}; this or --{other} has to be there"
-    )
+    let what = argument.what;
+    write!(f, "  {option:<30} {what}")?;
+    match argument.absent {
+        Absent::Missing => f.write_str("; has to be there")?,
+        Absent::Unless(flag) => write!(f, " (--{flag} needs none); has to be there")?,
+        Absent::Either => show_other(f, command, argument.name)?,
+        Absent::Default(default) => write!(f, " (default: {default})")?,
+        Absent::Otherwise("") => {}
+        Absent::Otherwise(text) => write!(f, " (default: {text})")?,
+    }
+    f.write_str("\n")
 }
 
-fn show_option<W: Write>(f: &mut Formatter<W>, row: &OptionRow<'_>) -> fmt::Result {
-    let mut shown = ArrayString::<64>::new();
-    write!(shown, "{row}")?;
-    let option = shown.as_str();
-    let what = row.what;
-    let default = row.default;
-    if row.needed {
-        writeln!(f, "  {option:<30} {what}; has to be there")
-    } else if default.is_empty() {
-        writeln!(f, "  {option:<30} {what}")
+// Tells that an option or the other one of its pair has to be there.
+fn show_other<W: Write>(f: &mut Formatter<W>, command: Command, name: &str) -> fmt::Result {
+    let Some((one, other)) = command.choice() else {
+        return Ok(());
+    };
+    let other = if name == one.name {
+        other.name
     } else {
-        writeln!(f, "  {option:<30} {what} (default: {default})")
-    }
+        one.name
+    };
+    write!(f, "; this or --{other} has to be there")
 }

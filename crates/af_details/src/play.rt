@@ -1,7 +1,7 @@
 // Details of a play: a file that does not fit, and frames that came too late.
 use crate::asked::channels_text;
 use crate::counted::Counted;
-use crate::file::{Unplayable, ending, taken_for_samples};
+use crate::file::{Unplayable, ending, is_for_ffmpeg, taken_for_samples};
 use crate::lost::{tell_greater, tell_late};
 use crate::source::WatchedSource;
 use crate::talk::Talk;
@@ -47,7 +47,7 @@ pub fn tell_sound<S: Source + Drop>(
         }
         _ => return,
     }
-    tell_remedy(rt, job, form, talk);
+    tell_remedy(rt, job, form, talk, source.first());
 }
 
 /// Tells that a sound file was taken for raw samples, and which words play it.
@@ -70,7 +70,7 @@ pub fn tell_samples<S: Source + Drop>(
             let _ = eprintln!(rt; "af: --file=au plays it");
         }
         None => {
-            tell_remedy(rt, job, SoundForm::Wave, talk);
+            tell_remedy(rt, job, SoundForm::Wave, talk, source.first());
             let _ = eprintln!(rt; "af: --file=wave plays that file");
         }
     }
@@ -92,16 +92,22 @@ fn tell_channels(rt: &impl Eprint, job: &PlayJob, talk: &Talk, from: u8, to: u8)
     let _ = eprintln!(rt; "af: the file has {from}, and device {device} of {address} has {to}");
 }
 
-// Tells which command makes a file that the device plays.
-fn tell_remedy(rt: &impl Eprint, job: &PlayJob, form: SoundForm, talk: &Talk) {
+// Tells which command makes a file that the device plays, of one that begins with these bytes.
+fn tell_remedy(rt: &impl Eprint, job: &PlayJob, form: SoundForm, talk: &Talk, first: &[u8]) {
     if let Some(info) = talk.devices.get(usize::from(job.device)) {
         let device = job.device;
         let rate = info.rate;
         let channels = info.channels;
         let ending = ending(form);
-        let _ = eprintln!(rt;
-            "af: this makes a file that device {device} plays: sox IN -r {rate} -c {channels} -b 16 OUT.{ending}"
-        );
+        let _ = if is_for_ffmpeg(first) {
+            eprintln!(rt;
+                "af: this makes a file that device {device} plays: ffmpeg -i IN -ar {rate} -ac {channels} OUT.{ending}"
+            )
+        } else {
+            eprintln!(rt;
+                "af: this makes a file that device {device} plays: sox IN -r {rate} -c {channels} -b 16 OUT.{ending}"
+            )
+        };
     }
 }
 
@@ -126,6 +132,9 @@ pub fn tell_played<S: Source + Drop>(
                 let enough = talk.enough_millis(job.device, job.lead, LONGEST_LEAD);
                 tell_greater(rt, "lead", job.lead, enough);
             }
+        }
+        if let Some(ahead) = job.ahead {
+            tell_greater(rt, "ahead", ahead, None);
         }
     }
     let silent = end == ToolEnd::Done && job.form.is_some() && talk.passage.blocks == 0;

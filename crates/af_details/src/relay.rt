@@ -56,6 +56,19 @@ fn tell_missing(rt: &impl Eprint, job: &PassJob, from: &Talk, to: &Talk) {
     }
 }
 
+/// Tells how a relay that goes on stands: its blocks, the frames by which it followed the clock, and the delay of the last block.
+pub fn tell_minute(rt: &impl Eprint, talk: &Talk) {
+    let passage = talk.passage;
+    let blocks = Counted(passage.blocks, "block");
+    let doubled = Counted(passage.doubled, "frame");
+    let left_out = Counted(passage.left_out, "frame");
+    let resynced = Counted(passage.resynced, "time");
+    let ahead = passage.ahead;
+    let _ = eprintln!(rt;
+        "af: passed {blocks}, played {doubled} twice, left {left_out} out, resynchronised {resynced}; {ahead} frames ahead"
+    );
+}
+
 /// Tells how many blocks were passed, how often the relay resynchronised, and what was lost.
 pub fn tell_passed(rt: &impl Eprint, job: &PassJob, from: &Talk, to: &Talk) {
     let passed = Counted(to.passage.blocks, "block");
@@ -70,6 +83,13 @@ pub fn tell_passed(rt: &impl Eprint, job: &PassJob, from: &Talk, to: &Talk) {
                 "af: passed {passed}, resynchronised {resynced}, the last time at block {last}"
             );
         }
+    }
+    if job.follow {
+        let doubled = Counted(to.passage.doubled, "frame");
+        let left_out = Counted(to.passage.left_out, "frame");
+        let _ = eprintln!(rt;
+            "af: played {doubled} twice to follow the clock, left {left_out} out"
+        );
     }
     if to.late.frames > 0 {
         let enough = to.enough_millis(job.to_device, job.delay, LONGEST_DELAY);

@@ -1,4 +1,6 @@
 // A source whose first bytes are kept.
+ghost use Rattle.std.specs.Prelude.{◌≡◌};
+
 use af_io::{Got, Source};
 use arrayvec::ArrayVec;
 
@@ -34,7 +36,9 @@ pub struct WatchedSource<S: Source + Drop> {
 
 impl<S: Source + Drop> WatchedSource<S> {
     /// A source over another.
-    pub fn new(source: S) -> WatchedSource<S> {
+    pub fn new(source: S) -> WatchedSource<S>
+        ensures { result.source ≡ source }
+    {
         WatchedSource {
             source,
             given: Given {
@@ -46,7 +50,9 @@ impl<S: Source + Drop> WatchedSource<S> {
     }
 
     /// The source below it.
-    pub fn source(&self) -> &S {
+    pub fn source(&self) -> &S
+        ensures { result.now ≡ self.now.source }
+    {
         &self.source
     }
 

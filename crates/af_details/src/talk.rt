@@ -1,14 +1,16 @@
 // What a client and a server sent each other on a link, as far as a person wants to know it afterwards.
 use crate::asked::Asked;
+use crate::due::Due;
 use crate::incoming::Incoming;
 use crate::lost::{Lost, millis_lasting};
 use crate::passage::Passage;
 use af_io::Reason;
 use af_limits::LONGEST_ADDRESS;
-use af_request::{Devices, Reply, Request, read_reply, read_request};
+use af_request::{DeviceInfo, Devices, Reply, Request, read_reply, read_request};
 use af_sample::SampleType;
 use af_shown::Shown;
 use af_time::DevTime;
+use af_toolkit::time_before;
 use af_wire::{Order, SetupFront, setup_of};
 use arrayvec::ArrayString;
 
@@ -28,6 +30,8 @@ pub struct Talk {
     pub address: Address,
     /// Why the link failed, if it did.
     pub reason: Option<Reason>,
+    /// Whether the setup was not answered in time.
+    pub silent: bool,
     /// Whether the server sent anything at all.
     pub heard: bool,
     /// The devices of the server, once it has told them.
@@ -45,6 +49,8 @@ pub struct Talk {
     // None before the setup is sent.
     order: Option<Order>,
     context: Option<Context>,
+    // The device's time, as it was told last.
+    now: Option<DevTime>,
     incoming: Incoming,
 }
 
@@ -54,6 +60,7 @@ impl Talk {
         Talk {
             address,
             reason: None,
+            silent: false,
             heard: false,
             devices: Devices::new(),
             asked: None,
@@ -63,6 +70,7 @@ impl Talk {
             passage: Passage::new(),
             order: None,
             context: None,
+            now: None,
             incoming: Incoming::new(),
         }
     }
@@ -142,15 +150,17 @@ impl Talk {
 
     // The reply to the last request has this time.
     fn note_time(&mut self, now: DevTime) {
+        self.now = Some(now);
         match self.asked {
             Some(Asked::Play { frames, time }) => {
                 self.passage.note_taken();
                 self.late.note(time, frames, now);
             }
             Some(Asked::Record { frames, time }) => {
-                let oldest = DevTime(now.0.wrapping_sub(self.horizon()));
+                let oldest = time_before(now, u64::from(self.horizon()));
                 self.gone.note(time, frames, oldest);
             }
+            Some(Asked::Time { device: _ }) => self.passage.note_time(now),
             _ => {}
         }
     }
@@ -167,12 +177,41 @@ impl Talk {
         }
     }
 
+    /// Whether the blocks that were played and taken fill one more minute since this was asked last.
+    pub fn completes_minute(&mut self) -> bool {
+        match self.device() {
+            Some(info) => {
+                let rate = info.rate;
+                self.passage.completes_minute(rate)
+            }
+            None => false,
+        }
+    }
+
+    /// What the server answers only later, if it was asked for that. A play is answered once its last frame is no more than the
+    /// device's horizon ahead, and a record once the device has its last frame.
+    pub fn due(&self) -> Option<Due> {
+        let now = self.now?;
+        let info = self.device()?;
+        match self.asked {
+            Some(Asked::Play { frames, time }) => {
+                let end = time.after(frames);
+                Due::at(time_before(end, u64::from(info.horizon)), now, info.rate)
+            }
+            Some(Asked::Record { frames, time }) => Due::at(time.after(frames), now, info.rate),
+            _ => None,
+        }
+    }
+
+    // The device of the context.
+    fn device(&self) -> Option<&DeviceInfo> {
+        let context = self.context?;
+        self.devices.get(usize::from(context.device))
+    }
+
     // How many frames of the past the context's device keeps.
     fn horizon(&self) -> u32 {
-        let Some(context) = self.context else {
-            return 0;
-        };
-        match self.devices.get(usize::from(context.device)) {
+        match self.device() {
             Some(info) => info.horizon,
             None => 0,
         }

@@ -7,7 +7,7 @@ use crate::play::{tell_played, tell_samples, tell_sound};
 use crate::relay::{tell_pair, tell_passed};
 use crate::source::WatchedSource;
 use crate::talk::Talk;
-use crate::usage::{states_option, tell_usage};
+use crate::usage::{states_option, tell_file_as_server, tell_usage};
 use af_cli::{Call, RecordJob, Task, call_of};
 use af_io::{Args, Reason, Source};
 use af_toolkit::ToolEnd;
@@ -34,6 +34,9 @@ pub fn tell_tool<S: Source + Drop>(
         return tell_usage(rt, alloc, words);
     }
     tell_end(rt, end, seen, streams);
+    if end == ToolEnd::DialFault {
+        tell_file_as_server(rt, words, seen.address.as_str());
+    }
     match call_of(alloc, words) {
         Ok(Call::One(call)) => {
             if let Some(talk) = &seen.first {

@@ -1,13 +1,15 @@
 // Which argument is wrong, and what it may be.
-use crate::options::{Command, OptionRow};
+use crate::options::Command;
 use crate::page::{Page, tell_manual, tell_page};
-use af_cli::{Argument, ArgumentKind, matches_for, number_at, text_of};
+use crate::values::Wanted;
+use af_answer::answer_arguments;
+use af_cli::{Absent, Argument, DEVICE, Tool, Values, device_at, matches_for, text_of};
 use af_io::Args;
 use af_limits::LONGEST_ADDRESS;
 use af_shown::Shown;
 use clap::error::ErrorKind;
 use clap::{ArgMatches, Error};
-use std::alloc::{AllocError, Global};
+use std::alloc::Global;
 
 /// Tells why words are none of a tool's, or the help that they ask for.
 pub fn tell_usage(rt: &impl Eprint, alloc: Global, words: &Args) {
@@ -48,6 +50,13 @@ fn tell_no_tool(rt: &impl Eprint, name: &str, words: &Args) {
     }
 }
 
+/// Tells how a file is played, if a play took its name for the address of a server.
+pub fn tell_file_as_server(rt: &impl Eprint, words: &Args, address: &str) {
+    if words.word(0) == Some("aplay") && !address.contains(":") && address.contains(".") {
+        tell_file(rt, address);
+    }
+}
+
 /// Tells that a word is no text.
 pub fn tell_no_text(rt: &impl Eprint) {
     let _ = eprintln!(rt; "af: a word is no UTF-8");
@@ -77,50 +86,25 @@ fn asks_help(words: &Args) -> bool {
 
 // Tells which argument of a tool is wrong, and the right usage.
 fn tell_mistake(rt: &impl Eprint, alloc: Global, command: Command, words: &Args) {
-    if let Ok(table) = command_words(alloc, command) {
-        match matches_for(alloc, command.name(), table.as_slice(), words.as_slice()) {
-            Ok(matches) => {
-                tell_values(rt, command, &matches);
-                tell_choice(rt, command, words);
-            }
-            Err(e) if e.kind() == ErrorKind::MissingRequiredArgument => {
-                tell_missing(rt, alloc, command, &e);
-                tell_choice(rt, command, words);
-            }
-            Err(e) => tell_error(rt, alloc, &e),
+    match matches_for(alloc, command.name(), command.arguments(), words.as_slice()) {
+        Ok(matches) => {
+            tell_values(rt, command, &matches);
+            tell_choice(rt, command, words);
+            tell_needed(rt, command, words);
+            tell_quiet(rt, command, words);
         }
+        Err(e) if e.kind() == ErrorKind::MissingRequiredArgument => {
+            tell_missing(rt, alloc, command, &e);
+            tell_choice(rt, command, words);
+            tell_needed(rt, command, words);
+        }
+        Err(e) => tell_error(rt, alloc, command, &e),
     }
     let _ = eprintln!(rt; "af: usage: {command}");
 }
 
-// The arguments of a tool's command.
-fn command_words<'a>(alloc: Global, command: Command) -> Result<Vec<Argument<'a>>, AllocError> {
-    let mut table = Vec::new(alloc);
-    for place in command.places() {
-        table.push(Argument(*place, ArgumentKind::Place))?;
-    }
-    if let Some((one, other)) = command.choice() {
-        table.push(Argument(one.name, kind_of(&one)))?;
-        table.push(Argument(other.name, kind_of(&other)))?;
-    }
-    for row in command.options() {
-        table.push(Argument(row.name, kind_of(row)))?;
-    }
-    Ok(table)
-}
-
-fn kind_of(row: &OptionRow<'_>) -> ArgumentKind {
-    if row.is_flag() {
-        ArgumentKind::Flag
-    } else if row.needed {
-        ArgumentKind::NeededOption
-    } else {
-        ArgumentKind::FreeOption
-    }
-}
-
 // Tells what is wrong with the arguments before their values are looked at.
-fn tell_error(rt: &impl Eprint, alloc: Global, error: &Error) {
+fn tell_error(rt: &impl Eprint, alloc: Global, command: Command, error: &Error) {
     let Ok(text) = error.to_string(alloc) else {
         return;
     };
@@ -133,7 +117,34 @@ fn tell_error(rt: &impl Eprint, alloc: Global, error: &Error) {
                 "af: a value that begins with - is one word with its option, as --gain=-6"
             );
         }
+        if command == Command::Tool(Tool::Play)
+            && error.kind() == ErrorKind::UnknownArgument
+            && let Some(word) = quoted(line)
+            && !word.starts_with("-")
+        {
+            tell_file(rt, word);
+        }
     }
+}
+
+// Tells how a file is played that was stated as a word.
+fn tell_file(rt: &impl Eprint, word: &str) {
+    let file = Shown::new(word.as_bytes());
+    let form = if word.ends_with(".wav") {
+        " --file=wave"
+    } else if word.ends_with(".au") {
+        " --file=au"
+    } else {
+        ""
+    };
+    let _ = eprintln!(rt; "af: sound comes from standard input: af aplay SERVER{form} < {file}");
+}
+
+// The word that a line quotes first.
+fn quoted<'a>(line: &'a str) -> Option<&'a str> {
+    let (_, rest) = line.split_once("'")?;
+    let (word, _) = rest.split_once("'")?;
+    Some(word)
 }
 
 // Whether a line quotes a number below 0.
@@ -150,17 +161,18 @@ fn tell_missing(rt: &impl Eprint, alloc: Global, command: Command, error: &Error
         return;
     };
     let text = text.as_str();
-    for word in command.places() {
-        if names(text, "<", word) {
-            let _ = eprintln!(rt;
-                "af: {word} is missing: the address of a server, such as 127.0.0.1:1701"
-            );
+    for argument in command.arguments() {
+        if !argument.is_needed() {
+            continue;
         }
-    }
-    for row in command.options() {
-        if row.needed && names(text, "--", row.name) {
-            let what = row.what;
-            let _ = eprintln!(rt; "af: {row} is missing: {what}");
+        let what = argument.what;
+        let name = argument.name;
+        if matches!(argument.values, Values::Address) {
+            if names(text, "<", name) {
+                let _ = eprintln!(rt; "af: {argument} is missing: {what}, such as 127.0.0.1:1701");
+            }
+        } else if names(text, "--", name) {
+            let _ = eprintln!(rt; "af: {argument} is missing: {what}");
         }
     }
 }
@@ -186,6 +198,35 @@ fn tell_choice(rt: &impl Eprint, command: Command, words: &Args) {
     }
 }
 
+// Tells which of the two options of a meter is missing that say what counts as quiet.
+fn tell_quiet(rt: &impl Eprint, command: Command, words: &Args) {
+    if command != Command::Meter {
+        return;
+    }
+    match (states_option(words, "below"), states_option(words, "for")) {
+        (true, false) => {
+            let _ = eprintln!(rt; "af: --for is missing: --below does not go without it");
+        }
+        (false, true) => {
+            let _ = eprintln!(rt; "af: --below is missing: --for does not go without it");
+        }
+        _ => {}
+    }
+}
+
+// Tells which options are missing that a flag makes needless.
+fn tell_needed(rt: &impl Eprint, command: Command, words: &Args) {
+    for argument in command.arguments() {
+        if let Absent::Unless(flag) = argument.absent
+            && !states_option(words, argument.name)
+            && !states_option(words, flag)
+        {
+            let what = argument.what;
+            let _ = eprintln!(rt; "af: {argument} is missing: {what} (--{flag} needs none)");
+        }
+    }
+}
+
 // Whether a line of a text begins with a mark and a name.
 fn names(text: &str, mark: &str, name: &str) -> bool {
     text.lines().any(|line| {
@@ -201,47 +242,38 @@ fn names(text: &str, mark: &str, name: &str) -> bool {
 
 // Tells which values are out of range.
 fn tell_values(rt: &impl Eprint, command: Command, matches: &ArgMatches<'_>) {
-    for place in command.places() {
-        if let Some(address) = text_of(matches, place) {
-            tell_address(rt, place, address);
+    for argument in command.arguments() {
+        if let Some(value) = text_of(matches, argument.name)
+            && !argument.values.has(value)
+        {
+            tell_value(rt, argument, value);
         }
     }
-    if let Some((one, other)) = command.choice() {
-        tell_value(rt, matches, &one);
-        tell_value(rt, matches, &other);
-    }
-    for row in command.options() {
-        tell_value(rt, matches, row);
-    }
-    if command == Command::Play && is_file(matches) && text_of(matches, "type").is_some() {
+    if command == Command::Tool(Tool::Play)
+        && is_file(matches)
+        && text_of(matches, "type").is_some()
+    {
         let _ = eprintln!(rt;
             "af: --type does not go with a sound file, which says itself of which type its samples are"
         );
     }
 }
 
-// Tells of the value of an option that is out of its range.
-fn tell_value(rt: &impl Eprint, matches: &ArgMatches<'_>, row: &OptionRow<'_>) {
-    if let Some(value) = text_of(matches, row.name)
-        && !row.values.has(value)
-    {
-        let name = row.name;
-        let takes = row.values.wanted();
-        let value = Shown::new(value.as_bytes());
-        let _ = eprintln!(rt; "af: '{value}' is no value of --{name}, which takes {takes}");
+// Tells of the value of an argument that is out of its range.
+fn tell_value(rt: &impl Eprint, argument: &Argument<'_>, value: &str) {
+    let name = argument.name;
+    if matches!(argument.values, Values::Address) {
+        return tell_address(rt, name, value);
     }
+    let takes = Wanted(argument.values);
+    let value = Shown::new(value.as_bytes());
+    let _ = eprintln!(rt; "af: '{value}' is no value of --{name}, which takes {takes}");
 }
 
 /// The device that the arguments of an answering machine name.
 pub fn device_in(alloc: Global, words: &Args) -> u8 {
-    let Ok(table) = command_words(alloc, Command::Answer) else {
-        return 0;
-    };
-    match matches_for(alloc, "answer", table.as_slice(), words.as_slice()) {
-        Ok(matches) => match number_at(&matches, "device", 0, 0, 7) {
-            Some(device) => device as u8,
-            None => 0,
-        },
+    match matches_for(alloc, "answer", answer_arguments(), words.as_slice()) {
+        Ok(matches) => device_at(&matches, &DEVICE).unwrap_or(0),
         Err(_) => 0,
     }
 }

@@ -1,24 +1,53 @@
--- What words ask for, by whether they name the answering machine.
-use Rattle.std.proofs.Common.{◌≡◌, ◌∙◌, Bool, true, false, List, ℕ, ap, if◌then◌else◌, is_some}
+-- What words ask for, by the tool that they name: the answering machine, the one that tells events, the meter, or another.
+use Rattle.std.proofs.Common.{◌≡◌, ◌∙◌, Bool, true, false, List, ℕ, ap, refl, if◌then◌else◌, is_some}
 use Rattle.std.specs.Prelude.{Option, Some}
 use Rattle.af_cli.specs.Words.{Job, is_spelled, job}
 use Rattle.af_answer.specs.AnswerWords.{AnswerWords, answer_words, is_answer_spelled, names_answer}
+use Rattle.af_events.specs.EventsWords.{EventsWords, events_call, is_events_spelled, names_events}
+use Rattle.af_meter.specs.MeterWords.{MeterWords, is_meter_spelled, meter_call, names_meter}
 use Rattle.af_environment.specs.Completed.{asks, is_valid}
 
-pub machine_asks : (words : List (List ℕ)) (asked : AnswerWords) → names_answer words ≡ true → answer_words words ≡ Some asked → asks words ≡ true
-unfolding asks
-machine_asks words asked named e =
-    ap (λ (b : Bool). if b then is_some (answer_words words) else is_some (job words)) named ∙ ap (λ (o : Option AnswerWords). is_some o) e
+-- what words ask for, and whether they are valid, by which tool they name
+abbrev asked_by : List (List ℕ) → (machine events meter : Bool) → Bool
+asked_by words machine events meter =
+    if machine then is_some (answer_words words) else if events then is_some (events_call words) else if meter then is_some (meter_call words) else is_some (job words)
 
-pub tool_asks : (words : List (List ℕ)) (asked : Job) → names_answer words ≡ false → job words ≡ Some asked → asks words ≡ true
-unfolding asks
-tool_asks words asked named e =
-    ap (λ (b : Bool). if b then is_some (answer_words words) else is_some (job words)) named ∙ ap (λ (o : Option Job). is_some o) e
+abbrev valid_by : List (List ℕ) → (machine events meter : Bool) → Bool
+valid_by words machine events meter =
+    if machine then is_answer_spelled words else if events then is_events_spelled words else if meter then is_meter_spelled words else is_spelled words
 
-pub machine_invalid : (words : List (List ℕ)) → names_answer words ≡ true → is_answer_spelled words ≡ false → is_valid words ≡ false
-unfolding is_valid
-machine_invalid words named e = ap (λ (b : Bool). if b then is_answer_spelled words else is_spelled words) named ∙ e
+module _ (words : List (List ℕ)) where
+  -- the same by what is known of the name
+  asks_by : {machine events meter : Bool} → names_answer words ≡ machine → names_events words ≡ events → names_meter words ≡ meter → asks words ≡ asked_by words machine events meter
+  unfolding asks
+  asks_by {machine} {events} is_machine is_events is_meter =
+      ap (λ (b : Bool). asked_by words b (names_events words) (names_meter words)) is_machine ∙ ap (λ (b : Bool). asked_by words machine b (names_meter words)) is_events ∙ ap (λ (b : Bool). asked_by words machine events b) is_meter
 
-pub tool_invalid : (words : List (List ℕ)) → names_answer words ≡ false → is_spelled words ≡ false → is_valid words ≡ false
-unfolding is_valid
-tool_invalid words named e = ap (λ (b : Bool). if b then is_answer_spelled words else is_spelled words) named ∙ e
+  valid_is : {machine events meter : Bool} → names_answer words ≡ machine → names_events words ≡ events → names_meter words ≡ meter → is_valid words ≡ valid_by words machine events meter
+  unfolding is_valid
+  valid_is {machine} {events} is_machine is_events is_meter =
+      ap (λ (b : Bool). valid_by words b (names_events words) (names_meter words)) is_machine ∙ ap (λ (b : Bool). valid_by words machine b (names_meter words)) is_events ∙ ap (λ (b : Bool). valid_by words machine events b) is_meter
+
+  pub machine_asks : (asked : AnswerWords) → names_answer words ≡ true → answer_words words ≡ Some asked → asks words ≡ true
+  machine_asks asked named e = asks_by named refl refl ∙ ap (λ (o : Option AnswerWords). is_some o) e
+
+  pub events_ask : (asked : EventsWords) → names_answer words ≡ false → names_events words ≡ true → events_call words ≡ Some asked → asks words ≡ true
+  events_ask asked other named e = asks_by other named refl ∙ ap (λ (o : Option EventsWords). is_some o) e
+
+  pub meter_asks : (asked : MeterWords) → names_answer words ≡ false → names_events words ≡ false → names_meter words ≡ true → meter_call words ≡ Some asked → asks words ≡ true
+  meter_asks asked other none named e = asks_by other none named ∙ ap (λ (o : Option MeterWords). is_some o) e
+
+  pub tool_asks : (asked : Job) → names_answer words ≡ false → names_events words ≡ false → names_meter words ≡ false → job words ≡ Some asked → asks words ≡ true
+  tool_asks asked other none no_meter e = asks_by other none no_meter ∙ ap (λ (o : Option Job). is_some o) e
+
+  pub machine_invalid : names_answer words ≡ true → is_answer_spelled words ≡ false → is_valid words ≡ false
+  machine_invalid named e = valid_is named refl refl ∙ e
+
+  pub events_invalid : names_answer words ≡ false → names_events words ≡ true → is_events_spelled words ≡ false → is_valid words ≡ false
+  events_invalid other named e = valid_is other named refl ∙ e
+
+  pub meter_invalid : names_answer words ≡ false → names_events words ≡ false → names_meter words ≡ true → is_meter_spelled words ≡ false → is_valid words ≡ false
+  meter_invalid other none named e = valid_is other none named ∙ e
+
+  pub tool_invalid : names_answer words ≡ false → names_events words ≡ false → names_meter words ≡ false → is_spelled words ≡ false → is_valid words ≡ false
+  tool_invalid other none no_meter e = valid_is other none no_meter ∙ e

@@ -12,7 +12,13 @@ use std::alloc::Global;
 fn is_tool_of_one(name: &str) -> bool
     ensures { result ≡ is_tool_of_one name.now }
 {
-    name == "aplay" || name == "arecord" || name == "aset" || name == "list" || name == "answer"
+    name == "aplay"
+        || name == "arecord"
+        || name == "aset"
+        || name == "list"
+        || name == "answer"
+        || name == "events"
+        || name == "meter"
 }
 
 /// Whether the first word names a tool that has one server.

@@ -4,7 +4,9 @@ ghost use Rattle.af_environment.specs.Completed.{asks, is_valid};
 
 use af_answer::names_answer;
 use af_cli::OptionsFault;
+use af_events::names_events;
 use af_io::Args;
+use af_meter::names_meter;
 use std::alloc::Global;
 
 /// Whether a tool takes these words: they ask for something, or are Usage, which valid words never are.
@@ -14,6 +16,16 @@ pub(crate) fn judged(alloc: Global, words: &Args) -> Result<(), OptionsFault>
 {
     if names_answer(words) {
         match af_answer::call_of(alloc, words) {
+            Ok(_) => Ok(()),
+            Err(fault) => Err(fault),
+        }
+    } else if names_events(words) {
+        match af_events::call_of(alloc, words) {
+            Ok(_) => Ok(()),
+            Err(fault) => Err(fault),
+        }
+    } else if names_meter(words) {
+        match af_meter::call_of(alloc, words) {
             Ok(_) => Ok(()),
             Err(fault) => Err(fault),
         }

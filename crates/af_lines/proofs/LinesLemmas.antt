@@ -1,5 +1,5 @@
 -- What goes by as lines are asked one after another, and what their calls leave alone.
-use Rattle.std.proofs.Common.{◌≡◌, ◌≢◌, ⊎_elim, ℕ, ◌+◌, ◌<◌, ◌≤◌, max, Bool, true, false, List, length, map, slice_set, option_map, refl, sym, ap, subst, ◌∙◌, arith}
+use Rattle.std.proofs.Common.{◌≡◌, ◌≢◌, ⊎_elim, ℕ, ◌+◌, ◌<◌, ◌≤◌, max, Bool, true, false, List, length, map, slice_set, option_map, refl, sym, ap, subst, ◌∙◌, if◌then◌else◌, arith}
 use Rattle.std.proofs.Math.Seq.{map-set_same}
 use Rattle.std.proofs.lemmas.Bool.{cases_lt, cases_eq, false≢true}
 use Rattle.std.proofs.lemmas.List.{get_or-set_same, get_or-set_other, get_or_past, length-set}
@@ -10,7 +10,7 @@ use Rattle.af_io.specs.declared.flow.Put.{Put}
 use Rattle.af_phone.specs.declared.line.LineChange.{LineChange}
 use Rattle.af_phone.specs.Lines.{is_change}
 use Rattle.af_lines.specs.ExchangeUse.{ExchangeUse, KeepsOrders, orders_of, exchange_orders}
-use Rattle.af_lines.specs.HeldLines.{LineState, LinesState, quiet, over, line_at, has_exchange, line_orders, all_line_orders, NoneFrom, IsAskedOf, LinesAsked, LineChanges, GoesOverLines, HooksBy, HooksLine, HooksAt}
+use Rattle.af_lines.specs.HeldLines.{LineState, LinesState, quiet, over, line_at, has_exchange, line_orders, all_line_orders, NoLines, NoneFrom, IsAskedOf, LinesAsked, LineChanges, GoesOverLines, HooksBy, HooksLine, HooksAt}
 
 -- What calls leave alone
 
@@ -144,3 +144,48 @@ none_beyond_hook end d off answer old new h before = λ k beyond.
     (cases_lt d (length old)))
     (λ other. ap (λ l. has_exchange (line_at l k)) h.2 ∙ ap has_exchange (get_or-set_other old d k h.0 None other) ∙ before k beyond)
     (cases_eq k d)
+
+-- No device gets a line by what its line is asked for
+
+asked_none : (at : ℕ) (change : Option LineChange) (l l' : Option LineState) → IsAskedOf at change l l' → l ≡ None → l' ≡ None
+asked_none at change None l' h none = h.1
+asked_none at change (Some quiet) l' h none = let never : Some quiet ≡ None = none in absurd cc
+asked_none at change (Some (over e)) l' h none = let never : Some (over e) ≡ None = none in absurd cc
+
+pub no_lines_asked : (at from to : ℕ) (old new : List (Option LineState)) → LinesAsked at from to old new → NoLines old → NoLines new
+no_lines_asked at from to old new asked none = λ d.
+    ⊎_elim (λ before. asked.below d before ∙ none d)
+    (λ on. ⊎_elim
+    (λ inside. asked_none at None (line_at old d) (line_at new d) (asked.inside d inside on) (none d))
+    (λ above. asked.above d above ∙ none d)
+    (cases_lt d to))
+    (cases_lt d from)
+
+-- a line gives a change only where there is one
+pub no_lines_changed : (at from d : ℕ) (change : LineChange) (old new : List (Option LineState)) → LineChanges at from d change old new → NoLines old → NoLines new
+no_lines_changed at from d change old new h none = λ e.
+    absurd (false≢true (sym (ap has_exchange (none d)) ∙ (asked_change at change (line_at old d) (line_at new d) h.changes).0))
+
+hooked_none : (off : Bool) (answer : Put) (l l' : Option LineState) → HooksBy off answer l l' → l ≡ None → l' ≡ None
+hooked_none off answer None l' h none = h.1
+hooked_none off answer (Some quiet) l' h none = let never : Some quiet ≡ None = none in absurd cc
+hooked_none off answer (Some (over e)) l' h none = let never : Some (over e) ≡ None = none in absurd cc
+
+no_lines_set : (d : ℕ) (l : Option LineState) (old : List (Option LineState)) → l ≡ None → NoLines old → NoLines (slice_set old d l)
+no_lines_set d l old is none = λ k.
+    ⊎_elim
+    (λ same. ⊎_elim
+    (λ fits. ap (λ n. line_at (slice_set old d l) n) same ∙ get_or-set_same old d l None fits ∙ is)
+    (λ past. get_or_past (slice_set old d l) k None (omega (arith, length-set old d l, past, same)))
+    (cases_lt d (length old)))
+    (λ other. get_or-set_other old d k l None other ∙ none k)
+    (cases_eq k d)
+
+pub no_lines_hooked : (d : ℕ) (off : Bool) (answer : Put) (old new : List (Option LineState)) → HooksLine d off answer old new → NoLines old → NoLines new
+no_lines_hooked d off answer old new h none =
+    subst (λ lines. NoLines lines) (sym h.2) (no_lines_set d h.0 old (hooked_none off answer (line_at old d) h.0 h.1 (none d)) none)
+
+-- a device without a line is attached
+pub no_lines_noted : (d : ℕ) (has_line : Bool) (old : List (Option LineState)) → has_line ≡ false → NoLines old →
+    NoLines (slice_set old d (if has_line then Some quiet else None))
+no_lines_noted d has_line old is none = no_lines_set d (if has_line then Some quiet else None) old (ap (λ (b : Bool). if b then Some quiet else None) is) none

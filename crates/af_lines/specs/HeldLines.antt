@@ -25,13 +25,17 @@ pub record LinesState : Type 0 where
   pub next : ℕ
   pub changed : Bool
 
--- no device has a line
+-- the lines before any device is attached
 abbrev pub no_lines : LinesState
 no_lines = record { lines = replicate most_devices None; next = 0; changed = false }
 
 -- the line of the device with a number, if it has one
 abbrev pub line_at : List (Option LineState) → ℕ → Option LineState
 line_at lines d = slice_index_or lines d None
+
+-- no device has a line
+abbrev pub NoLines : List (Option LineState) → Type 0
+NoLines lines = (d : ℕ) → line_at lines d ≡ None
 
 -- whether it has no program
 abbrev pub is_quiet : Option LineState → Bool

@@ -3,7 +3,7 @@ ghost use Rattle.std.specs.Prelude.{◌≡◌, IfOk, IfSome};
 ghost use Rattle.af_process.specs.Acts.{words_of};
 ghost use Rattle.af_lines.specs.ExchangeUse.{exchange_use, AsksExchange, CallsExchange, IsBegun};
 
-use af_config::is_command_line;
+use af_config::{LONGEST_WORD, is_command_line};
 use af_exchange::Exchange;
 use af_io::Put;
 use af_phone::LineChange;
@@ -43,7 +43,7 @@ impl<P: Program + Drop> LineExchange<P> {
         ensures begun { IfOk result
             (λ made. IfSome made (λ exchange. IsBegun program.entry.restarts (words_of program.entry.words.now) at exchange)) }
     {
-        if program.restarts > MOST_CARD_RESTARTS || !is_command_line(program.words) {
+        if program.restarts > MOST_CARD_RESTARTS || !is_command_line(program.words, LONGEST_WORD) {
             return Ok(None);
         }
         let made = programs.program(alloc, Ways::Both, INPUT_BYTES)?;

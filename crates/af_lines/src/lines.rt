@@ -1,10 +1,10 @@
 // The telephone lines of a world, each at the number of its device, and a round over them.
-ghost use Rattle.std.specs.Prelude.{◌≡◌, ◌≤◌, ◌<◌, true, if◌then◌else◌, MatchOption};
+ghost use Rattle.std.specs.Prelude.{◌≡◌, ◌≤◌, ◌<◌, true, false, if◌then◌else◌, MatchOption};
 ghost use Rattle.std.specs.declared.option.Option.TheVariants.{None, Some};
 ghost use Rattle.af_limits.specs.Limits.{most_devices};
 ghost use Rattle.af_process.specs.Acts.{words_of};
 ghost use Rattle.af_lines.specs.ExchangeUse.{exchange_use};
-ghost use Rattle.af_lines.specs.HeldLines.{no_lines, quiet, exchange_of, lines_after, lines_at_round_start, line_at, is_quiet, AsksUpTo, AttachesLine, GoesOverLines, HooksAt, HooksBy, HooksLine, IsAskedOf};
+ghost use Rattle.af_lines.specs.HeldLines.{no_lines, quiet, exchange_of, lines_after, NoLines, lines_at_round_start, line_at, is_quiet, AsksUpTo, AttachesLine, GoesOverLines, HooksAt, HooksBy, HooksLine, IsAskedOf};
 
 use crate::held_line::HeldLine;
 use crate::line_exchange::LineExchange;
@@ -21,6 +21,8 @@ use std::marker::Model;
 #[derive(Drop)]
 pub struct Lines<P: Program + Drop> {
     held: [Option<HeldLine<P>>; MOST_DEVICES],
+    // whether a device may have a line
+    some: bool,
     // no line at this number or above it has a program
     end: usize,
     next: usize,
@@ -28,15 +30,16 @@ pub struct Lines<P: Program + Drop> {
 }
 
 impl<P: Program + Drop> Model for Lines<P> {
-    ghost use Rattle.std.specs.Prelude.{◌≤◌};
+    ghost use Rattle.std.specs.Prelude.{◌≡◌, ◌≤◌, false};
     ghost use Rattle.af_limits.specs.Limits.{most_devices};
-    ghost use Rattle.af_lines.specs.HeldLines.{LinesState, NoneFrom};
+    ghost use Rattle.af_lines.specs.HeldLines.{LinesState, NoLines, NoneFrom};
 
     ghost Value = { LinesState };
 
     ghost view = { λ l. record { lines = l.held; next = l.next; changed = l.changed } };
 
-    ghost invariant = { λ l. (l.end ≤ most_devices) × (l.next ≤ most_devices) × NoneFrom l.end l.held };
+    ghost invariant = { λ l. (l.end ≤ most_devices) × (l.next ≤ most_devices) × NoneFrom l.end l.held
+        × (l.some ≡ false → NoLines l.held) };
 }
 
 impl<P: Program + Drop> Lines<P> {
@@ -46,6 +49,7 @@ impl<P: Program + Drop> Lines<P> {
     {
         Lines {
             held: [None, None, None, None, None, None, None, None],
+            some: false,
             end: 0,
             next: 0,
             changed: false,
@@ -58,9 +62,19 @@ impl<P: Program + Drop> Lines<P> {
         ensures { self.new ≡ lines_after attached device has_line self.old }
     {
         match attached {
-            Ready::Done => self.held[usize::from(device)] = new_line(has_line),
+            Ready::Done => {
+                self.held[usize::from(device)] = new_line(has_line);
+                self.some = self.some || has_line;
+            }
             Ready::Failed | Ready::OutOfMemory => {}
         }
+    }
+
+    /// Whether a device may have a line.
+    pub fn has_lines(&self) -> bool
+        ensures { result ≡ false → NoLines self.now.lines }
+    {
+        self.some
     }
 
     /// Whether a device has a line, and no program stands for its exchange.
@@ -96,6 +110,7 @@ impl<P: Program + Drop> Lines<P> {
         };
         let place = usize::from(device);
         self.held[place] = Some(HeldLine::over(exchange));
+        self.some = true;
         self.end = self.end.max(place + 1);
         Ready::Done
     }

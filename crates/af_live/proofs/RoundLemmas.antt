@@ -16,22 +16,22 @@ use Rattle.af_live.specs.Readings.{ClockState}
 use Rattle.af_live.specs.RealWorld.{GivesKept, PassesAll, LeadsRound, LosesNoFrame, frames_ticked_by}
 
 -- what a pace gives at one reading, and what stays due at another
-given_or_due : (rate answered first nanos t : ℕ) →
-    min ((t - first) * rate / 1000000000 - answered) longest_tick
-    ≤ min ((nanos - first) * rate / 1000000000 - answered) longest_tick + min ((t - first) * rate / 1000000000 - (answered + min ((nanos - first) * rate / 1000000000 - answered) longest_tick)) longest_tick
-given_or_due rate answered first nanos t = omega arith
+given_or_due : (rate most answered first nanos t : ℕ) →
+    min ((t - first) * rate / 1000000000 - answered) most
+    ≤ min ((nanos - first) * rate / 1000000000 - answered) most + min ((t - first) * rate / 1000000000 - (answered + min ((nanos - first) * rate / 1000000000 - answered) most)) most
+given_or_due rate most answered first nanos t = omega arith
 
 -- before its first reading nothing is due
-unread : (rate answered t : ℕ) → min ((t - t) * rate / 1000000000 - answered) longest_tick ≡ 0
-unread rate answered t = grind (arith, common_steps)
+unread : (rate most answered t : ℕ) → min ((t - t) * rate / 1000000000 - answered) most ≡ 0
+unread rate most answered t = grind (arith, common_steps)
 
-pace_keeps : (rate : ℕ) (first : Option ℕ) (answered nanos t : ℕ) → let p : PaceState = record { rate = rate; first = first; answered = answered } in due_at p t ≤ due_at p nanos + due_at (after_due p nanos) t
-pace_keeps rate None answered nanos t = omega (arith, unread rate answered t)
-pace_keeps rate (Some first) answered nanos t = given_or_due rate answered first nanos t
+pace_keeps : (rate most : ℕ) (first : Option ℕ) (answered nanos t : ℕ) → let p : PaceState = record { rate = rate; most = most; first = first; answered = answered } in due_at p t ≤ due_at p nanos + due_at (after_due p nanos) t
+pace_keeps rate most None answered nanos t = omega (arith, unread rate most answered t)
+pace_keeps rate most (Some first) answered nanos t = given_or_due rate most answered first nanos t
 
 device_keeps : (o : Option Source) (nanos t : ℕ) → due_of t o ≤ due_of nanos o + due_of t (some_source_after nanos o)
 device_keeps None nanos t = le_refl 0
-device_keeps (Some (source.Clock p)) nanos t = pace_keeps p.rate p.first p.answered nanos t
+device_keeps (Some (source.Clock p)) nanos t = pace_keeps p.rate p.most p.first p.answered nanos t
 device_keeps (Some source.Program) nanos t = le_refl 0
 
 -- devices that were asked lose only the frames that were due at the reading

@@ -1,5 +1,5 @@
 -- What a wait gives: what was kept ready, or what a poll finds if nothing was.
-use Rattle.std.proofs.Common.{◌≡◌, inl, inr, ap, ℕ, ◌<◌, true, List, length, refl, sym, subst, ◌∙◌, arith, IfSome, MatchOption}
+use Rattle.std.proofs.Common.{◌≡◌, ⊎_elim, inl, inr, ap, ℕ, ◌<◌, Bool, true, List, length, refl, sym, subst, ◌∙◌, arith, IfSome, MatchOption}
 use Rattle.std.proofs.lemmas.Bool.{false≢true}
 use Rattle.std.specs.declared.option.Option.{Option}
 use Rattle.std.specs.declared.option.Option.TheVariants.{None, Some}
@@ -10,10 +10,12 @@ use Rattle.af_world.specs.declared.happening.Wake.TheVariants as wake
 use Rattle.af_backend.specs.Rounds.{RoundState, next_round}
 use Rattle.af_backend.specs.Backends.{BackendState}
 use Rattle.af_live.specs.declared.link_table.LinkEntry.{LinkEntry}
-use Rattle.af_live.specs.LinkTable.{link_at, something_ready, GivesFirst, LinkWakeFits}
-use Rattle.af_live.specs.Polls.{LeadsLinks, PolledGives}
-use Rattle.af_lines.specs.HeldLines.{LinesState, lines_at_round_start}
-use Rattle.af_live.specs.Readings.{ClockState}
+use Rattle.af_live.specs.LinkTable.{link_at, something_ready, AreDrained, GivesFirst, LinkWakeFits}
+use Rattle.af_live.specs.Polls.{LatestPoll, LeadsLinks, PolledGives}
+use Rattle.af_live.specs.Shares.{some_cut}
+use Rattle.af_lines.specs.HeldLines.{LinesState, lines_at_round_start, NoLines}
+use Rattle.af_live.specs.declared.waking.Step.{Step}
+use Rattle.af_live.specs.Readings.{pause_of, ClockState, PausesBy, PausesFor}
 use Rattle.af_live.specs.RealWorld.{LeadsRound, LeadsLines, PassesLines, WakeFits}
 
 pub kept_links : (events : List Event) (w : Wake) (old new : List (Option LinkEntry)) → LinkWakeFits old w → GivesFirst old (Some w) new → LeadsLinks events (Some w) old new
@@ -73,6 +75,24 @@ polled_lines (Some wake.Idle) now links' links round round' lines past lines' fi
 polled_lines (Some (wake.Ticked d n)) now links' links round round' lines past lines' fits passes is = absurd fits
 polled_lines (Some (wake.Line d change)) now links' links round round' lines past lines' fits passes is = absurd fits
 polled_lines (Some wake.Stop) now links' links round round' lines past lines' fits passes is = absurd fits
+
+-- which lines there are stays as a new round begins
+lines_stay : (o : Option Wake) (lines lines' : LinesState) → MatchOption o (lines' ≡ lines) (λ w. lines' ≡ lines_at_round_start lines) → lines'.lines ≡ lines.lines
+lines_stay None lines lines' is = ap (λ (l : LinesState). l.lines) is
+lines_stay (Some w) lines lines' is = ap (λ (l : LinesState). l.lines) is
+
+-- a poll that comes after a round pauses as a wait does
+pub polled_pauses : (more : Bool) (step : Step) (links now : List (Option LinkEntry)) (round : RoundState) (lines lines' : LinesState) (o : Option Wake) (old new : LatestPoll) →
+    GivesFirst links None now → MatchOption o (lines' ≡ lines) (λ w. lines' ≡ lines_at_round_start lines) → PausesFor more step now round lines new.pause →
+    PausesBy more step.is_late links lines' old new
+polled_pauses more step links now round lines lines' o old new first begun h = inr (
+  h.0,
+  h.1,
+  ⊎_elim (λ same. inl same)
+      (λ drained. inr (drained.0, subst (λ ls. AreDrained ls) first.1 drained.1, subst (λ ls. NoLines ls) (sym (lines_stay o lines lines' begun)) drained.2))
+      h.2,
+  subst (λ ls. new.pause ≡ pause_of h.0 h.1 step.is_late (some_cut ls)) first.1 h.4,
+)
 
 -- the last reading of a round stays as a new round begins
 pub last_stays : (o : Option Wake) (past new : RoundState) (nanos : ℕ) → MatchOption o (new ≡ past) (λ w. new ≡ next_round past) →

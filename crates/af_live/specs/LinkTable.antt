@@ -155,3 +155,12 @@ is_drained (Some link) = link.drained
 abbrev pub may_hide : Option LinkEntry → Bool
 may_hide None = false
 may_hide (Some link) = link.hides
+
+-- all that had come by the link was read, if it is held
+abbrev pub nothing_unread : Option LinkEntry → Bool
+nothing_unread None = true
+nothing_unread (Some link) = link.drained
+
+-- all that had come by each link was read
+abbrev pub AreDrained : List (Option LinkEntry) → Type 0
+AreDrained links = (k : ℕ) → nothing_unread (link_at links k) ≡ true

@@ -1,9 +1,11 @@
 -- The times that a wait goes by: what the clock shows, the reading of a round, and how long a poll waits.
 use Rattle.std.specs.Prelude.{◌≡◌, ◌⊎◌, ℕ, ◌-◌, ◌/◌, ◌≤◌, ◌<◌, nat_le, ◌||◌, Bool, false, List, [], ◌∷◌, if◌then◌else◌, Option, Some, None}
 use Rattle.af_io.specs.Observed.{Appended}
-use Rattle.af_backend.specs.Rounds.{longest_step, reading_after}
+use Rattle.af_backend.specs.Rounds.{longest_step, reading_after, RoundState, NoneByProgram}
+use Rattle.af_lines.specs.HeldLines.{LinesState, NoLines}
 use Rattle.af_live.specs.declared.waking.Step.{Step}
 use Rattle.af_live.specs.declared.link_table.LinkEntry.{LinkEntry}
+use Rattle.af_live.specs.LinkTable.{AreDrained}
 use Rattle.af_live.specs.Polls.{LatestPoll}
 use Rattle.af_live.specs.Shares.{some_cut}
 use Rattle.af_live.specs.Timer.{TimerState, no_answers, whole_millis, AsksOnce}
@@ -73,7 +75,24 @@ late_millis step (Some last) = (step.shown - last) / 1000000
 abbrev pub pause_of : Bool → Bool → Bool → Bool → ℕ
 pause_of more went_on is_late cut = if more || went_on || is_late || cut then 0 else 10000000
 
+-- Whether what there is to do is to be done at once. It may wait where all that had come by each link was read and no device has
+-- a line: then a turn leaves reads alone, which give nothing before the system tells that more has come.
+abbrev pub IsUrgent : Bool → List (Option LinkEntry) → LinesState → Bool → Type 0
+IsUrgent more links lines urgent = (urgent ≡ more) ⊎ ((urgent ≡ false) × AreDrained links × NoLines lines.lines)
+
+-- Whether something may be due at once after a round: a device ticked in it, or a line changed. A tick leaves nothing due where
+-- no device goes by its program, and the reading of the round is less than a millisecond older than what the clock showed.
+abbrev pub HasWentOn : RoundState → LinesState → Step → Bool → Type 0
+HasWentOn round lines step went_on = (went_on ≡ round.ticked || lines.changed)
+    ⊎ ((went_on ≡ lines.changed) × NoneByProgram round.sources × (late_millis step round.last ≡ 0))
+
+-- So long a poll waits at most that comes after this round.
+abbrev pub PausesFor : Bool → Step → List (Option LinkEntry) → RoundState → LinesState → ℕ → Type 0
+PausesFor more step links round lines nanos = (urgent : Bool) × (went_on : Bool) × IsUrgent more links lines urgent
+    × HasWentOn round lines step went_on × (nanos ≡ pause_of urgent went_on step.is_late (some_cut links))
+
 -- The poll of a wait, if it polls, waits for such a pause at most: 10 milliseconds, or not at all.
-abbrev pub PausesBy : Bool → Bool → List (Option LinkEntry) → LatestPoll → LatestPoll → Type 0
-PausesBy more is_late links old new =
-    (new ≡ old) ⊎ ((went_on : Bool) × (new.pause ≡ pause_of more went_on is_late (some_cut links)))
+abbrev pub PausesBy : Bool → Bool → List (Option LinkEntry) → LinesState → LatestPoll → LatestPoll → Type 0
+PausesBy more is_late links lines old new = (new ≡ old)
+    ⊎ ((urgent : Bool) × (went_on : Bool) × IsUrgent more links lines urgent
+    × (new.pause ≡ pause_of urgent went_on is_late (some_cut links)))

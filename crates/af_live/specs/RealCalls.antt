@@ -132,7 +132,7 @@ pub record RealWaits (old : RealState) (more : Bool) (answer : Waited) (new : Re
   pub fits : IfSome (given_wake answer) (λ wake. WakeFits old.links old.round old.lines wake)
   pub opens : MatchOption (given_wake answer) (KeepsOpen old.links new.links)
       (λ wake. Opens wake old.links new.links)
-  pub pauses : PausesBy more new.clock.step.is_late old.links old.poll new.poll
+  pub pauses : PausesBy more new.clock.step.is_late old.links new.lines old.poll new.poll
   pub links : LeadsLinks new.poll.events (given_wake answer) old.links new.links
   pub least : TakesLeast old.links new.links
   pub round : LeadsRound (given_wake answer) old.links old.clock old.round old.backends

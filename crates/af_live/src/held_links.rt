@@ -1,16 +1,16 @@
 // The links that a world holds, by number.
 // Layout: a table with a place for each number, and bounds on the numbers of links with something ready. A search looks only
 // between the bounds, and nowhere if nothing is ready.
-ghost use Rattle.std.specs.Prelude.{◌≡◌, ◌<◌, ◌+◌, min, max, length, option_map, replicate, slice_set, IfSome};
+ghost use Rattle.std.specs.Prelude.{◌≡◌, ◌<◌, ◌+◌, min, max, true, length, option_map, replicate, slice_set, IfSome};
 ghost use Rattle.std.specs.declared.option.Option.TheVariants.{Some};
 ghost use Rattle.af_limits.specs.Limits.{most_links};
-ghost use Rattle.af_live.specs.LinkTable.{free_entry, link_at, new_link, IsLeastFree, GivesFirst, LinkWakeFits, Opens};
+ghost use Rattle.af_live.specs.LinkTable.{free_entry, link_at, new_link, AreDrained, IsLeastFree, GivesFirst, LinkWakeFits, Opens};
 ghost use Rattle.af_live.specs.Polls.{NotesAt};
 ghost use Rattle.af_live.specs.Shares.{all_renewed, some_cut, with_new_share};
 
 use crate::link_table::{
-    LinkEntry, Readiness, first_ready, free_number, held_at, is_cut, least_free, note_told, renew,
-    take_first,
+    LinkEntry, Readiness, first_ready, free_number, held_at, is_cut, is_drained, least_free,
+    note_told, renew, take_first,
 };
 use af_limits::MOST_LINKS;
 use af_world::Wake;
@@ -132,6 +132,18 @@ impl HeldLinks {
                 self.ready.include(number);
             }
         }
+    }
+
+    /// Whether all that had come by each link was read.
+    pub fn are_drained(&self) -> bool
+        ensures { result ≡ true → AreDrained self.now }
+    {
+        for number in 0..self.end {
+            if !is_drained(&self.entries[number]) {
+                return false;
+            }
+        }
+        true
     }
 
     /// Whether a link is cut.

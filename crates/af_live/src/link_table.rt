@@ -1,6 +1,6 @@
 // The links that a world holds, by number, and what is ready of each and was not given yet.
 ghost use Rattle.std.specs.Prelude.{◌≡◌, ◌≤◌, length, option_map, slice_set, slice_index_or, true, false};
-ghost use Rattle.af_live.specs.LinkTable.{free_entry, new_link, with_readiness, something_ready, wake_at, without_first_ready, IsLeastFree, IsFirstReady, NothingReadyBelow, NothingReadyFrom};
+ghost use Rattle.af_live.specs.LinkTable.{free_entry, new_link, with_readiness, nothing_unread, something_ready, wake_at, without_first_ready, IsLeastFree, IsFirstReady, NothingReadyBelow, NothingReadyFrom};
 ghost use Rattle.af_live.specs.Shares.{after_interrupt, after_read, after_read_cut, after_write, is_cut, to_write, with_new_share};
 
 use crate::share::Share;
@@ -120,6 +120,16 @@ fn is_ready(link: &Option<LinkEntry>) -> bool
     match link {
         Some(held) => held.opened || held.readable || held.writable,
         None => false,
+    }
+}
+
+/// Whether all that had come by a link was read, if it is held.
+pub(crate) fn is_drained(link: &Option<LinkEntry>) -> bool
+    ensures { result ≡ nothing_unread link.now }
+{
+    match link {
+        Some(held) => held.drained,
+        None => true,
     }
 }
 

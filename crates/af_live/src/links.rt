@@ -83,7 +83,8 @@ fn note_refused(kind: ErrorKind, held: LinkEntry, links: &mut HeldLinks, link: u
 }
 
 /// Offers a piece to a link, as much of it as its share has room for. Where that ends before the piece does, the link is ready
-/// after the next poll. A write that was interrupted took nothing, and is to be made again: the link stays ready.
+/// after the next poll. Where the system takes less, it tells when it takes more. A write that was interrupted took nothing, and
+/// is to be made again: the link stays ready.
 pub(crate) fn write_link(
     sockets: &mut Option<Sockets>,
     links: &mut HeldLinks,
@@ -109,7 +110,7 @@ pub(crate) fn write_link(
         links.put(link, held.after_write(0, piece.len()));
         return LinkTook::Took(0);
     }
-    match sockets.write(held.key, &piece[..offered]) {
+    match sockets.write(held.key, link, &piece[..offered]) {
         Ok(0) => LinkTook::Failed,
         Ok(count) => {
             links.put(link, held.after_write(count, piece.len()));

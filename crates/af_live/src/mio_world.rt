@@ -5,12 +5,16 @@
 // and the backend of each of 8 devices, and the one codec, which may be the backend of one. `lines` has their telephone lines.
 // Faults of links, devices, listens and waits are counted apart. Contracts see these tables and counts. Of the sockets they see
 // only whether there are any.
-ghost use Rattle.std.specs.Prelude.{◌≡◌, ◌≤◌, ◌<◌, List, [], length, true, is_some};
+ghost use Rattle.std.specs.Prelude.{◌≡◌, ◌≤◌, ◌<◌, List, [], length, true, is_some, MatchOption};
 ghost use Rattle.std.specs.declared.option.Option.{Option};
-ghost use Rattle.std.specs.declared.option.Option.TheVariants.{None};
+ghost use Rattle.std.specs.declared.option.Option.TheVariants.{None, Some};
 ghost use Rattle.af_limits.specs.Limits.{longest_read, output_room};
 ghost use Rattle.af_world.specs.World.{LinkGotFits, TookFits};
 ghost use Rattle.af_codec.specs.Codec.{TellsThese};
+ghost use Rattle.af_backend.specs.Backends.{backend_at, card_of};
+ghost use Rattle.af_backend.specs.CardUse.{card_use};
+ghost use Rattle.af_lines.specs.ExchangeUse.{exchange_use};
+ghost use Rattle.af_lines.specs.HeldLines.{exchange_of, line_at};
 ghost use Rattle.af_live.specs.Polls.{latest_poll};
 ghost use Rattle.af_live.specs.Readings.{late_millis};
 ghost use Rattle.af_live.specs.RealCalls.{RealAttaches, RealAttachesLine, RealCaptures, RealCloses, RealEmits, RealHooks, RealListens, RealReads, RealWaits, RealWrites};
@@ -137,12 +141,18 @@ impl<R: Net + ToldClock + Files + Drop, S: Spawner + Drop, G: Programs + Drop> M
     }
 
     /// The device with its program, if this device goes by one.
-    pub fn card(&self, device: u8) -> Option<&Card<G::Made>> {
+    pub fn card(&self, device: u8) -> Option<&Card<G::Made>>
+        ensures { MatchOption result (card_of (backend_at self.now.backends device) ≡ None)
+            (λ card. card_of (backend_at self.now.backends device) ≡ Some (card_use G.Made.acts card.now)) }
+    {
         self.devices.card(device)
     }
 
     /// The exchange of the telephone line of a device, if a program stands for it.
-    pub fn exchange(&self, device: u8) -> Option<&Exchange<G::Made>> {
+    pub fn exchange(&self, device: u8) -> Option<&Exchange<G::Made>>
+        ensures { MatchOption result (exchange_of (line_at self.now.lines.lines device) ≡ None)
+            (λ exchange. exchange_of (line_at self.now.lines.lines device) ≡ Some (exchange_use G.Made.acts exchange.now)) }
+    {
         self.lines.exchange(device)
     }
 

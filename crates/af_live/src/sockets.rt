@@ -16,7 +16,7 @@ use af_program::ProgramSockets;
 use mio::event::Event;
 use mio::net::{TcpListener, TcpStream};
 use mio::unix::SourceFd;
-use mio::{Events, Interest, Poll, Token};
+use mio::{Events, Interest, Poll, Registry, Token};
 use slab::Slab;
 use std::alloc::Global;
 use std::io::{self, ErrorKind, Read, Write};
@@ -45,6 +45,8 @@ pub struct Sockets {
     pub listener: TcpListener,
     /// How many connections came while all numbers were taken. The count stands still at 2^64 - 1.
     pub turned_away: u64,
+    /// Whether the link that failed last did so since its client had closed the connection. What it had not read was lost then.
+    pub was_left: bool,
     /// Whether connections may wait: their event comes once, and not for each.
     waiting: bool,
     pub(crate) streams: Slab<TcpStream>,
@@ -70,6 +72,7 @@ impl Sockets {
             pause: Duration::ZERO,
             listener,
             turned_away: 0,
+            was_left: false,
             waiting: false,
             streams,
             leaving: TurnedAway::new(),
@@ -177,11 +180,10 @@ impl Sockets {
         // An answer is to leave at once. If the system refuses that, it leaves later.
         let _ = stream.set_nodelay(true);
         keep_alive(&stream);
-        let all = Interest::READABLE | Interest::WRITABLE | Interest::PRIORITY;
         if self
             .poll
             .registry()
-            .register(&mut stream, Token(number), all)
+            .register(&mut stream, Token(number), of_reads())
             .is_err()
         {
             return;
@@ -196,22 +198,27 @@ impl Sockets {
         ensures streams { SameHeld self.old.streams self.new.streams }
         ensures poll { latest_poll (Some self.new) ≡ latest_poll (Some self.old) }
     {
-        match self.streams.get_mut(key) {
+        let read = match self.streams.get_mut(key) {
             Some(stream) => stream.read(into),
             None => Err(ErrorKind::NotConnected.into()),
-        }
+        };
+        self.was_left = is_left(&read);
+        read
     }
 
-    /// Hands the first bytes of a piece to a link, as many as it takes.
-    pub fn write(&mut self, key: usize, piece: &[u8]) -> io::Result<usize>
+    /// Hands the first bytes of a piece to a link, as many as it takes. Where it takes less than all, the system tells when it
+    /// takes something again.
+    pub fn write(&mut self, key: usize, link: u8, piece: &[u8]) -> io::Result<usize>
         ensures count { WritesAtMost result piece.now }
         ensures streams { SameHeld self.old.streams self.new.streams }
         ensures poll { latest_poll (Some self.new) ≡ latest_poll (Some self.old) }
     {
-        match self.streams.get_mut(key) {
-            Some(stream) => stream.write(piece),
+        let written = match self.streams.get_mut(key) {
+            Some(stream) => offer(stream, self.poll.registry(), link, piece),
             None => Err(ErrorKind::NotConnected.into()),
-        }
+        };
+        self.was_left = is_left(&written);
+        written
     }
 
     /// Closes a link.
@@ -236,6 +243,40 @@ fn bind<R: Net>(rt: &R, address: &str) -> io::Result<TcpListener> {
         }
     }
     Err(last)
+}
+
+/// What the system tells of a link until a write is cut short.
+fn of_reads() -> Interest {
+    Interest::READABLE | Interest::PRIORITY
+}
+
+/// Whether the system refused a read or a write since the other side has closed the connection.
+fn is_left(asked: &io::Result<usize>) -> bool {
+    match asked {
+        Ok(_) => false,
+        Err(e) => matches!(e.kind(), ErrorKind::ConnectionReset | ErrorKind::BrokenPipe),
+    }
+}
+
+/// Whether the system took less than all of a piece of so many bytes, and can tell when it takes more.
+fn is_short(written: &io::Result<usize>, piece: usize) -> bool {
+    match written {
+        Ok(count) => *count < piece,
+        Err(e) => e.kind() == ErrorKind::WouldBlock,
+    }
+}
+
+/// Hands the first bytes of a piece to a stream. Once a write is cut short, the system is to tell of room: else each event of
+/// bytes that came would tell of room too.
+fn offer(stream: &mut TcpStream, registry: &Registry, link: u8, piece: &[u8]) -> io::Result<usize>
+    ensures { WritesAtMost result piece.now }
+{
+    let written = stream.write(piece);
+    if is_short(&written, piece.len()) {
+        let token = Token(usize::from(link));
+        registry.reregister(stream, token, of_reads() | Interest::WRITABLE)?;
+    }
+    written
 }
 
 /// What an event tells of its link.

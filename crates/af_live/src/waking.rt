@@ -9,8 +9,7 @@ ghost use Rattle.af_backend.specs.Rounds.{next_round};
 ghost use Rattle.af_lines.specs.HeldLines.{lines_at_round_start};
 ghost use Rattle.af_live.specs.LinkTable.{link_at, something_ready, KeepsOpen, LinkWakeFits, Opens};
 ghost use Rattle.af_live.specs.Polls.{latest_poll, LeadsLinks, PolledGives};
-ghost use Rattle.af_live.specs.Readings.{late_millis, no_step, pause_of, PausesBy, ReadsBy};
-ghost use Rattle.af_live.specs.Shares.{some_cut};
+ghost use Rattle.af_live.specs.Readings.{late_millis, no_step, pause_of, HasWentOn, IsUrgent, PausesBy, PausesFor, ReadsBy};
 ghost use Rattle.af_live.specs.Streams.{KeepsOwn, StaysOwn};
 ghost use Rattle.af_live.specs.RealWorld.{given_wake, GivesKept, LeadsLines, LeadsRound, WakeFits};
 
@@ -94,20 +93,57 @@ fn reading<C: ToldClock>(
     Some(next)
 }
 
+/// Whether what there is to do is to be done at once. Where no device has a line, a turn leaves reads alone to do. Where all that
+/// had come by each link was read, these give nothing before the system tells that more has come.
+fn is_urgent<P: Program + Drop>(more: bool, links: &HeldLinks, lines: &Lines<P>) -> bool
+    ensures { IsUrgent more links.now lines.now result }
+{
+    if more && !lines.has_lines() && links.are_drained() {
+        false
+    } else {
+        more
+    }
+}
+
+/// Whether something may be due at once after this round: a device ticked in it, or a line changed. A tick leaves nothing due
+/// where no device goes by its program, and the reading of the round is what the clock showed.
+fn went_on<P: Program + Drop>(round: &Round, lines: &Lines<P>, step: &Step) -> bool
+    ensures { HasWentOn round.now lines.now step.now result }
+{
+    if !round.has_programs() && step.late_millis(round.last_reading()) == 0 {
+        lines.has_changed()
+    } else {
+        round.has_ticked() || lines.has_changed()
+    }
+}
+
+/// How long a poll after this round waits at most.
+fn pause_after<P: Program + Drop>(
+    more: bool,
+    step: &Step,
+    links: &HeldLinks,
+    round: &Round,
+    lines: &Lines<P>,
+) -> Duration
+    ensures { PausesFor more step.now links.now round.now lines.now (as_nanos result) }
+{
+    let urgent = is_urgent(more, links, lines);
+    let goes_on = went_on(round, lines, step);
+    pause(urgent, goes_on, step.is_late, links.some_cut())
+}
+
 /// What a poll finds first, at this reading of the clock. A new round over the devices and their lines begins after it. The poll
-/// waits only if there is nothing more to do, no device ticked and no line changed in the round, the server is not late, and no
-/// link is cut.
+/// waits only if there is nothing more to do, nothing may be due after the round, the server is not late, and no link is cut.
 fn poll_once<P: Program + Drop>(
     sockets: &mut Sockets,
     more: bool,
-    is_late: bool,
+    step: &Step,
     nanos: u64,
     links: &mut HeldLinks,
     round: &mut Round,
     lines: &mut Lines<P>,
 ) -> Option<Wake>
-    ensures pause { as_nanos sockets.new.pause
-        ≡ pause_of more (round.old.ticked || lines.old.changed) is_late (some_cut links.old) }
+    ensures pause { PausesFor more step.now links.old round.old lines.old (as_nanos sockets.new.pause) }
     ensures fits { IfSome result (λ wake. LinkWakeFits links.old wake) }
     ensures opens { MatchOption result (KeepsOpen links.old links.new) (λ wake. Opens wake links.old links.new) }
     ensures links { MatchOption result (links.new ≡ links.old)
@@ -116,8 +152,7 @@ fn poll_once<P: Program + Drop>(
     ensures lines { MatchOption result (lines.new ≡ lines.old) (λ wake. lines.new ≡ lines_at_round_start lines.old) }
     ensures own { KeepsOwn sockets.old.streams links.old sockets.new.streams links.new }
 {
-    let went_on = round.has_ticked() || lines.has_changed();
-    let pause = pause(more, went_on, is_late, links.some_cut());
+    let pause = pause_after(more, step, links, round, lines);
     if !sockets.poll(pause, nanos, links) {
         return None;
     }
@@ -147,7 +182,7 @@ pub(crate) fn next_wake<C: ToldClock, F: Read + Write + Drop, S: Spawner + Drop,
         GivesKept result links.old devices.old.round links.new devices.new.round }
     ensures fits { IfSome result (λ wake. WakeFits links.old devices.old.round lines.old wake) }
     ensures opens { MatchOption result (KeepsOpen links.old links.new) (λ wake. Opens wake links.old links.new) }
-    ensures pauses { PausesBy more step.new.is_late links.old (latest_poll sockets.old) (latest_poll sockets.new) }
+    ensures pauses { PausesBy more step.new.is_late links.old lines.new (latest_poll sockets.old) (latest_poll sockets.new) }
     ensures links { LeadsLinks (latest_poll sockets.new).events result links.old links.new }
     ensures round { LeadsRound result
         links.old (record { timer = timer.old; step = step.old; answers = C.answers clock.old })
@@ -173,7 +208,7 @@ pub(crate) fn next_wake<C: ToldClock, F: Read + Write + Drop, S: Spawner + Drop,
     }
     watch_programs(sockets, devices);
     let round = &mut devices.round;
-    poll_once(sockets, more, step.is_late, nanos, links, round, lines)
+    poll_once(sockets, more, step, nanos, links, round, lines)
 }
 
 /// Has the poll look at the programs that devices go by.

@@ -129,6 +129,7 @@ fn kept_kind(alloc: Global, kind: Kind<'_>) -> Result<ToldKind, OutOfMemory>
             input: Bytes::copied(alloc, input.as_bytes())?,
             output: Bytes::copied(alloc, output.as_bytes())?,
         },
+        Kind::Loop => ToldKind::Loop,
         Kind::Codec { restarts, words } => ToldKind::Codec {
             restarts,
             words: CommandLine::of(words),

@@ -4,8 +4,11 @@ ghost use Rattle.std.specs.Prelude.{◌≡◌};
 use af_io::Bytes;
 use arrayvec::{ArrayString, ArrayVec};
 
+/// A word of a child's command line.
+pub type Word = ArrayString<255>;
+
 /// The words of a child's command line. Contracts speak of the list of their bytes alone.
-pub type Words = ArrayVec<ArrayString<200>, 8>;
+pub type Words = ArrayVec<Word, 8>;
 
 /// The same words once more. It takes no memory.
 pub fn copied_words(words: &Words) -> Words

@@ -10,7 +10,7 @@ mod running;
 mod spawner;
 mod std_spawner;
 
-pub use act::{Act, BeganGot, Words, copied_words};
+pub use act::{Act, BeganGot, Word, Words, copied_words};
 pub use command_line::{CommandLine, command_of};
 pub use mem_spawner::MemSpawner;
 pub use running::shell_status;

@@ -10,12 +10,12 @@ use Rattle.af_toolkit.specs.declared.end.ToolEnd.{ToolEnd}
 use Rattle.af_toolkit.specs.declared.end.ToolEnd.TheVariants as end
 use Rattle.af_cli.specs.declared.job.PassJob.{PassJob}
 use Rattle.af_toolkit.specs.Trace.{Finish, ClientState, channel_mismatch, done, tool_end, ends, mismatch, no_device, one_shape, refused, value_by, writes_first}
-use Rattle.af_dialogue.specs.Parts.{Goes, Outcome, end_among, followed, goes_on, part_among, part_by}
+use Rattle.af_toolkit.specs.Parts.{Goes, Outcome, end_among, followed, goes_on, part_among, part_by}
 use Rattle.af_toolkit.specs.ToolParts.{IsClientOf, LinkSight}
 use Rattle.af_relay.specs.RelayParts.{RelayDid, SendsBoth, relaying}
 use Rattle.af_toolkit.specs.Ends.{MatchesTrace, ObservedTrace, is_outer}
 use Rattle.af_relay.specs.Pair.{pair_of, EndsByPair}
-use Rattle.af_relay.specs.Pass.{Both, RelayDeeds, RelayPart, apass_trace, both, deeds, doing, finish_of, on_from, passed_text, passes_between, relay_of, relays, writes_line}
+use Rattle.af_relay.specs.Pass.{Both, RelayDeeds, RelayPart, apass_trace, block_count, both, deeds, doing, finish_of, on_from, passed_text, passes_between, relay_of, relays, writes_line}
 use Rattle.af_relay.specs.Relayed.{ApassRan, IsRelayed}
 use Rattle.af_io.proofs.AppendedLemmas.{appended_none, appended_on}
 use Rattle.af_toolkit.proofs.ToolPartLemmas.{ended_at_once}
@@ -49,7 +49,7 @@ among_err (Err finish) is = (finish, refl, cc)
 
 -- what follows the last block
 abbrev pub reports : PassJob → ℕ → RelayPart Finish (Unit {0})
-reports job resynced = writes_line (passed_text job.blocks resynced)
+reports job resynced = writes_line (passed_text (block_count job.blocks) resynced)
 
 abbrev pub between : PassJob → DeviceInfo → RelayPart Finish (Unit {0})
 between job device = goes_on doing (part_among refused (passes_between job device)) (reports job)
@@ -75,12 +75,12 @@ module _ (job : PassJob) (device : DeviceInfo) (v w : ClientState) where
       record { did = c.0; matches = relay_stops (passes_between job device) (reports job) c.1; sink = subst (λ (l : List ℕ). Appended held l held) (sym c.2.2) (appended_none held); sent = (c.2.0, c.2.1) }
 
   pub between_reported : {how : ToolEnd} {resynced : ℕ} {before after : Both LinkSight} {held held' : Option (List ℕ)} → Goes (relaying refused) (passes_between job device) (Ok resynced) before after → IsClientOf before.from v → IsClientOf before.to w →
-      ObservedTrace (writes_first (passed_text job.blocks resynced) (ends done)) how after.from.sent after.from.sent held held' →
+      ObservedTrace (writes_first (passed_text (block_count job.blocks) resynced) (ends done)) how after.from.sent after.from.sent held held' →
       RelayDid (relay_of (between job device (both v w))) how held held' (λ did. SendsBoth did (both before.from.sent before.to.sent) (both after.from.sent after.to.sent))
   between_reported {how} {resynced} {before} {after} {held} {held'} g from to f =
       let c = g.came (both v w) (from, to) in
       let did = c.2 in
-      let text = passed_text job.blocks resynced in
+      let text = passed_text (block_count job.blocks) resynced in
       let line : MatchesTrace (record { sends = []; output = text; finish = done }) how [] f.output = record {
         unsent = [];
         unwritten = f.ended.unwritten;

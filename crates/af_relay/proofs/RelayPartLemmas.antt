@@ -1,8 +1,8 @@
 -- Requests on the two links of a relay, how its parts go by them, and how a relay follows its trace by its parts.
 use Rattle.std.proofs.Common.{◌≡◌, ◌<◌, ◌-◌, ◌++◌, ℕ, zero, suc, true, arith, List, [], ap, ap₂, ◌∙◌, append_assoc, refl, inl, inr}
 use Rattle.std.specs.Prelude.{Result, Ok, Err, Option, None}
-use Rattle.af_dialogue.specs.Parts.{Came, Goes, IsFront, IsProgramKind, Outcome, Stopped, called, end_among, followed, goes_on, outcome, part_among}
-use Rattle.af_dialogue.proofs.PartLemmas.{front_followed, goes_by}
+use Rattle.af_toolkit.specs.Parts.{Came, Goes, IsFront, IsProgramKind, Outcome, Stopped, called, end_among, followed, goes_on, outcome, part_among}
+use Rattle.af_toolkit.proofs.PartLemmas.{front_followed, goes_by}
 use Rattle.af_request.specs.Asked.{Asked}
 use Rattle.af_request.specs.Answer.{Answer}
 use Rattle.af_request.specs.Requests.{request_bytes}

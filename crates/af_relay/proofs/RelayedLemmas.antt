@@ -1,5 +1,5 @@
 -- A relay that is done passed all blocks.
-use Rattle.std.proofs.Common.{◌≡◌, ◌<◌, ◌≤◌, ◌+◌, ◌-◌, ◌*◌, ◌%◌, ◌^◌, ◌==◌, ◌-ℤ◌, ℕ, ℤ, pos, zero, suc, nat_lt, unsigned_abs, Bool, true, false, List, [], ◌∷◌, ◌++◌, length, map, slice_get, sym, ap, ap₂, ◌∙◌, subst, refl, append_assoc, append-nil, if◌then◌else◌, arith, to_z-of_z}
+use Rattle.std.proofs.Common.{◌≡◌, ◌<◌, ◌≤◌, ◌+◌, ◌-◌, ◌*◌, ◌%◌, ◌^◌, ◌==◌, ◌-ℤ◌, ℕ, ℤ, pos, zero, suc, negsuc, int_lt, nat_lt, unsigned_abs, Bool, true, false, ◌&&◌, List, [], ◌∷◌, ◌++◌, length, map, slice_get, sym, ap, ap₂, ◌∙◌, subst, refl, append_assoc, append-nil, if◌then◌else◌, arith, to_z-of_z}
 use Rattle.std.proofs.lemmas.Int.{ints}
 use Rattle.std.proofs.lemmas.Bool.Decides.{nat_tests}
 use Rattle.std.specs.Int.{w32, cast_signed, cast_unsigned}
@@ -23,13 +23,15 @@ use Rattle.af_relay.specs.RelayParts.{RelayDid, SendsBoth}
 use Rattle.af_relay.specs.declared.pass.RelayPace.{RelayPace}
 use Rattle.af_relay.specs.declared.pass.RelayProgress.{RelayProgress}
 use Rattle.af_relay.specs.declared.pass.PlayMoment.{PlayMoment}
+use Rattle.af_relay.specs.declared.pass.LastFrame.{LastFrame}
+use Rattle.af_relay.specs.declared.pass.LastFrame.TheVariants.{Once, Twice, LeftOut}
 use Rattle.af_toolkit.proofs.ToolEndLemmas.{is_whole}
 use Rattle.af_toolkit.specs.Trace.{ClientState, Finish, answer_on, after_reply, done, refused}
 use Rattle.af_cli.specs.Ranges.{IsPaced}
-use Rattle.af_dialogue.specs.Parts.{Outcome, after_deeds, answered, end_among, followed, goes_on, outcome}
-use Rattle.af_dialogue.proofs.PartLemmas.{IsAnswered, called_first, called_last, first_ok, goes_by}
-use Rattle.af_relay.specs.Pass.{Both, RelayDeeds, RelayPart, pace_from, type_from, time_after, apass_trace, as_word, asks_from, asks_to, begins_both, both, deeds, doing, ends_contexts, finish_of, from_context, has_drifted, in_step, no_progress, after_block, passed_text, passes, passes_between, passes_block, moment_of, relay_of, to_context}
-use Rattle.af_relay.specs.Relayed.{AreTold, ApassRan, PassedBlock, Relayed, is_moved, moves, play_requests, record_replies, record_requests}
+use Rattle.af_toolkit.specs.Parts.{Outcome, after_deeds, answered, end_among, followed, goes_on, outcome}
+use Rattle.af_toolkit.proofs.PartLemmas.{IsAnswered, called_first, called_last, first_ok, goes_by}
+use Rattle.af_relay.specs.Pass.{Both, RelayDeeds, RelayPart, pace_from, type_from, time_after, apass_trace, as_word, asks_from, asks_to, begins_both, block_count, both, deeds, doing, ends_contexts, finish_of, frames_played, from_context, gap_of, has_drifted, in_step, is_early, is_late, no_progress, after_block, passed_text, passes, passes_between, passes_block, moment_of, played_samples, relay_of, to_context}
+use Rattle.af_relay.specs.Relayed.{AreTold, ApassRan, KeepStep, KeepsStep, PassedBlock, Relayed, is_moved, moves, play_requests, record_replies, record_requests}
 use Rattle.af_relay.specs.Pair.{pair_of}
 use Rattle.af_relay.proofs.RelayEndLemmas.{between, pair_is, pass_ran, relays_by, reports}
 use Rattle.af_relay.proofs.TimeWordLemmas.{told_low}
@@ -94,16 +96,58 @@ eq_not : (m n : ℕ) → (m ≡ n → ⊥) → (m == n) ≡ false
 eq_not m n apart = grind (arith, nat_tests, apart)
 
 -- a place that was found again differs from the one that was due
-moved_by : (b : Bool) (due now : DevTime) (delay slack : ℕ) → has_drifted due now delay slack ≡ b → now.0 < 2 ^ 32 → delay < 2 ^ 31 →
-    (let place : PlayMoment = if b then in_step now delay true else record { time = due; resynced = false } in is_moved (Some due) place.time ≡ (if place.resynced then 1 else 0))
-moved_by true due now delay slack drifted word small =
+moved_by : (b : Bool) (due now : DevTime) (last : LastFrame) (delay slack : ℕ) → has_drifted due now delay slack ≡ b → now.0 < 2 ^ 32 → delay < 2 ^ 31 →
+    (let place : PlayMoment = if b then in_step now delay true else record { time = due; resynced = false; last = last } in is_moved (Some due) place.time ≡ (if place.resynced then 1 else 0))
+moved_by true due now last delay slack drifted word small =
     let apart : ((time_after now delay).0 % 2 ^ 32 == due.0 % 2 ^ 32) ≡ false = eq_not ((time_after now delay).0 % 2 ^ 32) (due.0 % 2 ^ 32) (λ same. let bad : true ≡ false = sym drifted ∙ in_step_holds due now delay slack word small same in cc) in
     ap (λ (b : Bool). if b then 0 else 1) apart
-moved_by false due now delay slack drifted word small = ap (λ (b : Bool). if b then 0 else 1) (eq_same (due.0 % 2 ^ 32))
+moved_by false due now last delay slack drifted word small = ap (λ (b : Bool). if b then 0 else 1) (eq_same (due.0 % 2 ^ 32))
 
-moved_so : (due : Option DevTime) (now : DevTime) (delay slack : ℕ) → now.0 < 2 ^ 32 → delay < 2 ^ 31 → is_moved due (moment_of due now delay slack).time ≡ (if (moment_of due now delay slack).resynced then 1 else 0)
-moved_so None now delay slack word small = refl
-moved_so (Some due) now delay slack word small = moved_by (has_drifted due now delay slack) due now delay slack refl word small
+moved_so : (pace : RelayPace) (due : Option DevTime) (now : DevTime) → now.0 < 2 ^ 32 → pace.delay < 2 ^ 31 → is_moved due (moment_of pace due now).time ≡ (if (moment_of pace due now).resynced then 1 else 0)
+moved_so pace None now word small = refl
+moved_so pace (Some due) now word small = moved_by (has_drifted due now pace.delay pace.slack) due now _ pace.delay pace.slack refl word small
+
+-- a block that is due late is not due early
+late_not_early : (gap : ℤ) → is_late gap ≡ true → is_early gap ≡ false
+late_not_early (pos n) late = refl
+late_not_early (negsuc n) late = cc late
+
+-- the last frame of a block that nothing moves is played once
+once_by : (drifted : Bool) (due now : DevTime) (delay : ℕ) → (let place : PlayMoment = if drifted then in_step now delay true else record { time = due; resynced = false; last = Once } in place.last ≡ Once)
+once_by true due now delay = refl
+once_by false due now delay = refl
+
+alone : (follow late : Bool) → (let last : LastFrame = if follow && false then Twice else if follow && late && false then LeftOut else Once in last ≡ Once)
+alone true true = refl
+alone true false = refl
+alone false late = refl
+
+placed : (drifted follow some : Bool) (due now : DevTime) (delay : ℕ) →
+    (let place : PlayMoment = if drifted then in_step now delay true else record { time = due; resynced = false; last = if follow && false then Twice else if follow && false && some then LeftOut else Once } in place.last ≡ Once)
+placed true follow some due now delay = refl
+placed false true some due now delay = refl
+placed false false some due now delay = refl
+
+-- a block that is played at its moment
+abbrev block_at : RelayPace → Option DevTime → (now : DevTime) → List ℕ → PassedBlock
+block_at pace due now samples = let place = moment_of pace due now in record { told = now; time = place.time; samples = samples; last = place.last }
+
+keeps_step : (pace : RelayPace) (due now : DevTime) (samples : List ℕ) → KeepsStep pace due (block_at pace (Some due) now samples)
+keeps_step pace due now samples = record {
+  afresh = λ drifted. rw drifted (refl, refl);
+  touches = λ drifted. rw drifted refl;
+  plain = λ follow. rw follow (once_by (has_drifted due now pace.delay pace.slack) due now pace.delay);
+  twice = λ drifted follow early. rw (drifted, follow, early) refl;
+  left_out = λ drifted follow late some. rw (drifted, follow, late_not_early _ late, late, some) refl;
+  single = λ drifted late one. rw (drifted, late_not_early _ late, one) (alone pace.follow (is_late (gap_of due now pace.delay)));
+  in_place = λ early late. rw (early, late) (placed (has_drifted due now pace.delay pace.slack) pace.follow (nat_lt 1 pace.frames) due now pace.delay);
+}
+
+keep_step : (pace : RelayPace) (due : Option DevTime) (now : DevTime) (samples : List ℕ) (blocks : List PassedBlock) →
+    (let b = block_at pace due now samples in KeepStep pace (Some (time_after b.time (frames_played b.last pace.frames))) blocks) → KeepStep pace due (block_at pace due now samples ∷ blocks)
+unfolding KeepStep
+keep_step pace None now samples blocks more = (refl, refl, more)
+keep_step pace (Some due) now samples blocks more = (keeps_step pace due now samples, more)
 
 -- what n blocks came to
 record AllPassed (n : ℕ) (job : PassJob) (pace : RelayPace) (passed : RelayProgress) (at : Both ClientState) (o : RelayOutcome RelayProgress) : Type 0 where
@@ -115,14 +159,15 @@ record AllPassed (n : ℕ) (job : PassJob) (pace : RelayPace) (passed : RelayPro
   order_to : at'.to.order ≡ at.to.order
   number : length blocks ≡ n
   told : AreTold job at.to blocks
+  stepped : KeepStep pace passed.due blocks
   bytes : map (λ (b : PassedBlock). b.samples) blocks ≡ record_replies n pace passed.at at.from
-  sent : o.did.to ≡ play_requests at.to.order job blocks
+  sent : o.did.to ≡ play_requests at.to.order job pace.frame blocks
   recorded : o.did.from ≡ record_requests at.from.order n pace passed.at
   silent : o.did.output ≡ []
   count : passed'.resynced ≡ passed.resynced + moves pace.frames passed.due blocks
 
 passes_made : (n : ℕ) (job : PassJob) (pace : RelayPace) (passed : RelayProgress) (at : Both ClientState) → pace.delay < 2 ^ 31 → IsOk (passes n job pace passed at).end → AllPassed n job pace passed at (passes n job pace passed at)
-unfolding AreTold record_replies record_requests moves
+unfolding AreTold KeepStep record_replies record_requests moves
 passes_made zero job pace passed at small ok = record {
   passed' = passed;
   at' = at;
@@ -132,6 +177,7 @@ passes_made zero job pace passed at small ok = record {
   order_to = refl;
   number = refl;
   told = tt;
+  stepped = tt;
   bytes = refl;
   sent = refl;
   recorded = refl;
@@ -144,11 +190,12 @@ passes_made (suc n) job pace passed at small ok =
     let r : Recorded = a.value in
     let b = to_first (get_time job.to_device) as_word _ (both (after_reply at.from) at.to) a.last in
     let now : DevTime = b.value in
-    let place = moment_of passed.due now pace.delay pace.slack in
-    let c = to_first (play_run false 1 place.time.0 r.samples) as_time _ (both (after_reply at.from) (after_reply at.to)) b.last in
+    let place = moment_of pace passed.due now in
+    let played = played_samples place.last pace.frame r.samples in
+    let c = to_first (play_run false 1 place.time.0 played) as_time _ (both (after_reply at.from) (after_reply at.to)) b.last in
     let record_one = request_bytes at.from.order (record_run true 1 passed.at.0 pace.size) in
     let get = request_bytes at.to.order (get_time job.to_device) in
-    let play = request_bytes at.to.order (play_run false 1 place.time.0 r.samples) in
+    let play = request_bytes at.to.order (play_run false 1 place.time.0 played) in
     let passed1 = after_block passed place pace.frames in
     let at1 = both (after_reply at.from) (after_reply (after_reply at.to)) in
     let block : passes_block job pace passed at ≡ outcome (deeds record_one (get ++ play) []) (Ok (passed1, at1)) =
@@ -160,23 +207,21 @@ passes_made (suc n) job pace passed at small ok =
       passed' = d.passed';
       at' = d.at';
       end = ap (λ (o : RelayOutcome RelayProgress). o.end) whole ∙ d.end;
-      blocks = record { told = now; time = place.time; samples = r.samples } ∷ d.blocks;
+      blocks = block_at pace passed.due now r.samples ∷ d.blocks;
       order_from = d.order_from;
       order_to = d.order_to;
       number = ap suc d.number;
       told = (b.good, d.told);
+      stepped = keep_step pace passed.due now r.samples d.blocks d.stepped;
       bytes = ap (λ (l : List (List ℕ)). r.samples ∷ l) d.bytes
           ∙ ap (λ (x : Result Recorded ConnFault). (let replies : List (List ℕ) = elim x [ Ok r ↦ r.samples ∷ record_replies n pace (time_after passed.at pace.frames) (after_reply at.from) | Err fault ↦ [] ] in replies)) (sym a.good);
       sent = ap (λ (o : RelayOutcome RelayProgress). o.did.to) whole ∙ ap (λ (l : List ℕ). (get ++ play) ++ l) d.sent;
       recorded = ap (λ (o : RelayOutcome RelayProgress). o.did.from) whole ∙ ap (λ (l : List ℕ). record_one ++ l) d.recorded;
       silent = ap (λ (o : RelayOutcome RelayProgress). o.did.output) whole ∙ d.silent;
       count =
-          let here = moved_so passed.due now pace.delay pace.slack (told_low (get_time job.to_device) at.to now b.good) small in
-          d.count ∙ ap (λ (k : ℕ). passed.resynced + k + moves pace.frames (Some (time_after place.time pace.frames)) d.blocks) (sym here) ∙ omega arith;
+          let here = moved_so pace passed.due now (told_low (get_time job.to_device) at.to now b.good) small in
+          d.count ∙ ap (λ (k : ℕ). passed.resynced + k + moves pace.frames (Some (time_after place.time (frames_played place.last pace.frames))) d.blocks) (sym here) ∙ omega arith;
     }
-
-one_after_another : (a b c d : List ℕ) → ((a ++ b) ++ (c ++ (d ++ []))) ++ [] ≡ a ++ b ++ c ++ d
-one_after_another a b c d = simp (append_assoc, append-nil)
 
 -- the beginning of a relay, and its end
 begins_made : (job : PassJob) (ty : SampleType) (n m : ℕ) (at : Both ClientState) → IsOk (begins_both job ty n m at).end → (now : DevTime) × (answer_on (get_time job.from_device) as_time (after_reply at.from) ≡ Ok now)
@@ -213,11 +258,11 @@ between_made job device v w small ok =
     let pace = pace_from job device in
     let channels = device.channels in
     let a = begins_made job ty channels channels (both v w) (first_ok doing (begins_both job ty channels channels) _ (both v w) ok) in
-    let passing = passes job.blocks job pace (no_progress a.0) in
+    let passing = passes (block_count job.blocks) job pace (no_progress a.0) in
     let at = both (after_reply (after_reply v)) (after_reply w) in
     let first = goes_by doing (begins_both job ty channels channels) _ a.2 in
     let ok_then = subst (λ (o : RelayOutcome ℕ). IsOk o.end) first ok in
-    let d = passes_made job.blocks job pace (no_progress a.0) at small (first_ok doing passing _ at ok_then) in
+    let d = passes_made (block_count job.blocks) job pace (no_progress a.0) at small (first_ok doing passing _ at ok_then) in
     let did = (passing at).did in
     let second = goes_by doing passing _ (ap (λ r. outcome did r) d.end) in
     let ok_last = subst (λ (o : RelayOutcome ℕ). IsOk o.end) second ok_then in
@@ -233,13 +278,14 @@ between_made job device v w small ok =
       blocks = d.blocks;
       number = d.number;
       told = d.told;
+      stepped = d.stepped;
       bytes = d.bytes;
       recorded = ap (λ (x : RelayDeeds). x.from) whole ∙ from_in_turn make_from time did.from (request_bytes d.at'.from.order (free_ac 1))
           ∙ ap₂ (λ (l : List ℕ) (o : Order). make_from ++ time ++ l ++ request_bytes o (free_ac 1)) d.recorded d.order_from;
       played = ap (λ (x : RelayDeeds). x.to) whole ∙ to_in_turn make_to did.to (request_bytes d.at'.to.order (free_ac 1))
           ∙ ap₂ (λ (l : List ℕ) (o : Order). make_to ++ l ++ request_bytes o (free_ac 1)) d.sent d.order_to;
       resynced = d.passed'.resynced;
-      wrote = ap (λ (x : RelayDeeds). x.output) whole ∙ ap (λ (l : List ℕ). (l ++ []) ++ passed_text job.blocks d.passed'.resynced) d.silent;
+      wrote = ap (λ (x : RelayDeeds). x.output) whole ∙ ap (λ (l : List ℕ). (l ++ []) ++ passed_text (block_count job.blocks) d.passed'.resynced) d.silent;
       moved = d.count ∙ omega arith;
     }
 

@@ -1,6 +1,6 @@
 -- How far a relay came, on each of its two links.
-use Rattle.std.specs.Prelude.{◌≡◌, ◌≤◌, ◌⊎◌, ℕ, List, [], Result, Err, IsOk, IsSome, Option, None}
-use Rattle.af_dialogue.specs.Parts.{Goes, ProgramKind}
+use Rattle.std.specs.Prelude.{◌≡◌, ◌<◌, ◌≤◌, ◌+◌, ◌^◌, ◌⊎◌, ℕ, List, [], Result, Err, IsOk, IsSome, Option, None}
+use Rattle.af_toolkit.specs.Parts.{Goes, ProgramKind}
 use Rattle.af_io.specs.Observed.{Appended, FaultCounted}
 use Rattle.af_lib.specs.declared.fault.ConnFault.{ConnFault}
 use Rattle.af_lib.specs.Calls.{ConnState}
@@ -9,6 +9,8 @@ use Rattle.af_toolkit.specs.declared.end.ToolEnd.TheVariants as end
 use Rattle.af_toolkit.specs.Trace.{ClientState, Finish, refused, tool_end}
 use Rattle.af_toolkit.specs.Ends.{MatchesTrace, is_outer}
 use Rattle.af_toolkit.specs.ToolParts.{IsClientOf, LinkSight, link_sight}
+use Rattle.af_cli.specs.Sizes.{greatest_block, greatest_play}
+use Rattle.af_relay.specs.declared.pass.RelayPace.{RelayPace}
 use Rattle.af_relay.specs.Pass.{Both, RelayDeeds, RelayPart, RelayTrace, both, doing, on_from, on_to}
 
 -- Parts of a relay that write nothing, as programs that may end for such causes: each link shows what was sent on it.
@@ -45,6 +47,14 @@ pub record KeepsConnections {L M X : Type 0} (left_from : L → Option (List ℕ
   pub tells_to : IsSome (left_to to.link) → IsSome (left_to to'.link)
   pub counts : CountsEither (result ≡ Err end.LinkFault)
       (faults_from from.link) (faults_from from'.link) (faults_to to.link) (faults_to to'.link)
+
+-- A pace that can be kept: a block has a frame, and it can be recorded, and played with one frame more.
+pub record IsPace (pace : RelayPace) : Type 0 where
+  pub frames : pace.frames ≤ 4000
+  pub some : pace.frame ≤ pace.size
+  pub records : pace.size ≤ greatest_block
+  pub plays : pace.size + pace.frame ≤ greatest_play
+  pub delay : pace.delay < 2 ^ 40
 
 -- A relay ended, and did this: all of its trace, as each of its links sees it, or prefixes if something from outside ended it.
 pub record MatchesRelay (relay : RelayTrace) (how : ToolEnd) (did : RelayDeeds) : Type 0 where

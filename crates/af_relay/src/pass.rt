@@ -1,10 +1,9 @@
 // Block after block is recorded on one server, and played on another.
-ghost use Rattle.std.specs.Prelude.{◌≡◌, ◌<◌, ◌≤◌, ◌+◌, ◌^◌, true, length, IfErr, IfOk};
+ghost use Rattle.std.specs.Prelude.{◌≡◌, ◌<◌, ◌≤◌, ◌+◌, ◌-◌, ◌^◌, true, length, take, IfErr, IfOk};
 ghost use Rattle.std.specs.declared.option.Option.TheVariants.{None};
 ghost use Rattle.af_toolkit.specs.Ends.{is_of_link};
-ghost use Rattle.af_relay.specs.Pass.{has_drifted, in_step, no_progress, after_block, passes, passes_block, moment_of};
-ghost use Rattle.af_relay.specs.RelayParts.{GoesBetween, KeepsConnections};
-ghost use Rattle.af_cli.specs.Sizes.{greatest_block};
+ghost use Rattle.af_relay.specs.Pass.{after_block, block_count, frames_played, gap_of, in_step, last_frame_of, moment_of, no_progress, passes, passes_block, played_samples};
+ghost use Rattle.af_relay.specs.RelayParts.{GoesBetween, IsPace, KeepsConnections};
 
 use af_cli::PassJob;
 use af_io::Link;
@@ -12,14 +11,16 @@ use af_lib::Conn;
 use af_time::DevTime;
 use af_toolkit::{CONTEXT, ToolEnd, time_after_frames};
 
-/// The pace of a relay: the frames and the bytes of a block, and in frames how far ahead of the other server's time it plays, and
-/// by how much it may drift from that.
+/// The pace of a relay: the frames of a block, and the bytes of a frame and of a block. In frames, how far ahead of the other
+/// server's time it plays, and by how much it may drift from that. Whether it follows that server's clock.
 #[derive(Clone, Copy)]
 pub struct RelayPace {
     pub frames: u32,
+    pub frame: usize,
     pub size: usize,
     pub delay: u64,
     pub slack: u64,
+    pub follow: bool,
 }
 
 /// What a relay keeps to: its job, and its pace at the rate of its devices.
@@ -29,11 +30,23 @@ pub struct RelayPlan {
     pub pace: RelayPace,
 }
 
-/// When a block is played, and whether the relay fell in step again for it.
+/// How often the last frame of a block is played.
+#[derive(Clone, Copy, Debug, PartialEq, Eq)]
+pub enum LastFrame {
+    /// As it was recorded.
+    Once,
+    /// The block is a frame longer.
+    Twice,
+    /// The block is a frame shorter.
+    LeftOut,
+}
+
+/// When a block is played, whether the relay fell in step again for it, and how often its last frame is played.
 #[derive(Clone, Copy)]
 pub struct PlayMoment {
     pub time: DevTime,
     pub resynced: bool,
+    pub last: LastFrame,
 }
 
 /// How far a relay has come: when the next block is recorded, when it is due to be played where one was played before, and how
@@ -42,16 +55,69 @@ pub struct PlayMoment {
 pub struct RelayProgress {
     pub at: DevTime,
     pub due: Option<DevTime>,
-    pub resynced: u32,
+    pub resynced: u64,
 }
 
-// Whether a block at `due` is further than the slack from its place, the delay ahead of now.
-fn has_drifted(due: DevTime, now: DevTime, delay: u64, slack: u64) -> bool
-    requires { delay < 2 ^ 40 }
-    ensures { result ≡ has_drifted due now delay slack }
+/// How many blocks a relay passes. One that is to go on until a link ends has more to pass than its clocks have time for.
+pub fn block_count(blocks: Option<u32>) -> u64
+    ensures { result ≡ block_count blocks }
 {
-    let ahead = i64::from(due.diff(now)) - delay as i64;
-    ahead.unsigned_abs() > slack
+    match blocks {
+        Some(blocks) => u64::from(blocks),
+        None => u64::MAX,
+    }
+}
+
+// How many frames a block that is due then is due after its place, the delay ahead of now; below 0 if before it.
+fn gap_of(due: DevTime, now: DevTime, delay: u64) -> i64
+    requires { delay < 2 ^ 40 }
+    ensures { result ≡ gap_of due now delay }
+{
+    i64::from(due.diff(now)) - delay as i64
+}
+
+// What becomes of the last frame of a block that has not drifted, by how many frames it is due after its place.
+fn last_frame_of(pace: &RelayPace, gap: i64) -> LastFrame
+    ensures { result ≡ last_frame_of pace.now gap }
+{
+    if pace.follow && gap < -1 {
+        LastFrame::Twice
+    } else if pace.follow && gap > 1 && pace.frames > 1 {
+        LastFrame::LeftOut
+    } else {
+        LastFrame::Once
+    }
+}
+
+// How many frames of a block are played.
+fn frames_played(last: LastFrame, frames: u32) -> u32
+    requires { frames ≤ 4000 }
+    ensures { result ≡ frames_played last frames }
+{
+    match last {
+        LastFrame::Once => frames,
+        LastFrame::Twice => frames + 1,
+        LastFrame::LeftOut => frames.saturating_sub(1),
+    }
+}
+
+// Lays a block out as it is played, in room for one frame more: how many bytes that are.
+fn lay_out(room: &mut [u8], pace: &RelayPace, last: LastFrame) -> usize
+    requires room { length room.old ≡ pace.now.size + pace.now.frame }
+    requires some { pace.now.frame ≤ pace.now.size }
+    ensures bytes { take result room.new ≡ played_samples last pace.now.frame (take pace.now.size room.old) }
+    ensures within { result ≤ length room.new }
+    ensures size { length room.new ≡ length room.old }
+{
+    match last {
+        LastFrame::Once => pace.size,
+        LastFrame::Twice => {
+            let (block, again) = room.split_at_mut(pace.size);
+            again.copy_from_slice(&block[pace.size - pace.frame..]);
+            pace.size + pace.frame
+        }
+        LastFrame::LeftOut => pace.size - pace.frame,
+    }
 }
 
 // A block that is played exactly the delay ahead of the other server's time.
@@ -61,37 +127,41 @@ fn in_step(now: DevTime, delay: u64, resynced: bool) -> PlayMoment
     PlayMoment {
         time: time_after_frames(now, delay),
         resynced,
+        last: LastFrame::Once,
     }
 }
 
-// When a block is played, at the other server's time.
-fn moment_of(due: Option<DevTime>, now: DevTime, delay: u64, slack: u64) -> PlayMoment
-    requires { delay < 2 ^ 40 }
-    ensures { result ≡ moment_of due now delay slack }
+// When a block is played, at the other server's time, and how.
+fn moment_of(pace: &RelayPace, due: Option<DevTime>, now: DevTime) -> PlayMoment
+    requires { pace.now.delay < 2 ^ 40 }
+    ensures { result ≡ moment_of pace.now due now }
 {
     let Some(due) = due else {
-        return in_step(now, delay, false);
+        return in_step(now, pace.delay, false);
     };
-    if has_drifted(due, now, delay, slack) {
-        in_step(now, delay, true)
+    let gap = gap_of(due, now, pace.delay);
+    if gap.unsigned_abs() > pace.slack {
+        in_step(now, pace.delay, true)
     } else {
         PlayMoment {
             time: due,
             resynced: false,
+            last: last_frame_of(pace, gap),
         }
     }
 }
 
 // How far a relay has come after one more block of n frames.
 fn after_block(passed: RelayProgress, place: PlayMoment, frames: u32) -> RelayProgress
-    requires { passed.resynced + 1 < 2 ^ 32 }
+    requires frames { frames ≤ 4000 }
+    requires few { passed.resynced + 1 < 2 ^ 64 }
     ensures value { result ≡ after_block passed place frames }
     ensures few { result.resynced ≤ passed.resynced + 1 }
 {
     RelayProgress {
         at: passed.at.after(frames),
-        due: Some(place.time.after(frames)),
-        resynced: passed.resynced + u32::from(place.resynced),
+        due: Some(place.time.after(frames_played(place.last, frames))),
+        resynced: passed.resynced + u64::from(place.resynced),
     }
 }
 
@@ -101,23 +171,24 @@ fn pass_block<L: Link + Drop, M: Link + Drop>(
     passed: RelayProgress,
     from: &mut Conn<L>,
     to: &mut Conn<M>,
-    block: &mut [u8],
+    room: &mut [u8],
 ) -> Result<RelayProgress, ToolEnd>
     requires usable { (from.old.cause ≡ None) × (to.old.cause ≡ None) }
-    requires block { (length block.old ≡ plan.now.pace.size) × (length block.old ≤ greatest_block) }
-    requires pace { plan.now.pace.delay < 2 ^ 40 }
-    requires few { passed.resynced + 1 < 2 ^ 32 }
+    requires pace { IsPace plan.now.pace }
+    requires room { length room.old ≡ plan.now.pace.size + plan.now.pace.frame }
+    requires few { passed.resynced + 1 < 2 ^ 64 }
     ensures goes { GoesBetween L.left L.sent M.left M.sent from.old from.new to.old to.new
         (passes_block plan.now.job plan.now.pace passed) result }
     ensures holds { KeepsConnections L.left L.faults M.left M.faults from.old from.new to.old to.new result }
     ensures end { IfErr result (λ how. is_of_link how ≡ true) }
     ensures few { IfOk result (λ p. p.resynced ≤ passed.resynced + 1) }
-    ensures size { length block.new ≡ length block.old }
+    ensures size { length room.new ≡ length room.old }
 {
-    from.record_run(CONTEXT, passed.at, true, block)?;
+    from.record_run(CONTEXT, passed.at, true, &mut room[..plan.pace.size])?;
     let now = to.get_time(plan.job.to_device)?;
-    let place = moment_of(passed.due, now, plan.pace.delay, plan.pace.slack);
-    to.play_run(CONTEXT, place.time, block)?;
+    let place = moment_of(&plan.pace, passed.due, now);
+    let played = lay_out(room, &plan.pace, place.last);
+    to.play_run(CONTEXT, place.time, &room[..played])?;
     Ok(after_block(passed, place, plan.pace.frames))
 }
 
@@ -127,13 +198,13 @@ pub fn pass_blocks<L: Link + Drop, M: Link + Drop>(
     start: DevTime,
     from: &mut Conn<L>,
     to: &mut Conn<M>,
-    block: &mut [u8],
+    room: &mut [u8],
 ) -> Result<RelayProgress, ToolEnd>
     requires usable { (from.old.cause ≡ None) × (to.old.cause ≡ None) }
-    requires block { (length block.old ≡ plan.now.pace.size) × (length block.old ≤ greatest_block) }
-    requires pace { plan.now.pace.delay < 2 ^ 40 }
+    requires pace { IsPace plan.now.pace }
+    requires room { length room.old ≡ plan.now.pace.size + plan.now.pace.frame }
     ensures goes { GoesBetween L.left L.sent M.left M.sent from.old from.new to.old to.new
-        (passes plan.now.job.blocks plan.now.job plan.now.pace (no_progress start)) result }
+        (passes (block_count plan.now.job.blocks) plan.now.job plan.now.pace (no_progress start)) result }
     ensures holds { KeepsConnections L.left L.faults M.left M.faults from.old from.new to.old to.new result }
     ensures end { IfErr result (λ how. is_of_link how ≡ true) }
 {
@@ -142,9 +213,9 @@ pub fn pass_blocks<L: Link + Drop, M: Link + Drop>(
         due: None,
         resynced: 0,
     };
-    let mut left = plan.job.blocks;
+    let mut left = block_count(plan.job.blocks);
     while left > 0 {
-        passed = pass_block(plan, passed, from, to, block)?;
+        passed = pass_block(plan, passed, from, to, room)?;
         left -= 1;
     }
     Ok(passed)

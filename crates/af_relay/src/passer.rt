@@ -5,17 +5,18 @@ ghost use Rattle.af_io.specs.Observed.{CountsFault};
 ghost use Rattle.af_sample.specs.Channels.{IsChannelCount};
 ghost use Rattle.af_request.specs.Replies.{IsDeviceInfo};
 ghost use Rattle.af_lib.specs.Calls.{device_channels};
-ghost use Rattle.af_dialogue.specs.Parts.{end_among};
+ghost use Rattle.af_toolkit.specs.Parts.{end_among};
 ghost use Rattle.af_toolkit.specs.Trace.{tool_end};
 ghost use Rattle.af_toolkit.specs.Ends.{is_of_link, is_of_report, Reports};
-ghost use Rattle.af_relay.specs.RelayParts.{CountsEither, GoesBetween, KeepsConnections};
+ghost use Rattle.af_relay.specs.RelayParts.{CountsEither, GoesBetween, IsPace, KeepsConnections};
 ghost use Rattle.af_relay.specs.Pair.{is_of_pass, pair_of, EndsByPair};
 ghost use Rattle.af_relay.specs.Relayed.{RunsBetween};
 ghost use Rattle.af_cli.specs.Ranges.{IsPaced};
-ghost use Rattle.af_relay.specs.Pass.{begins_both, ends_contexts, pace_of, passes_between, passed_text};
-ghost use Rattle.af_cli.specs.Sizes.{greatest_block};
+ghost use Rattle.af_relay.specs.Pass.{begins_both, block_count, ends_contexts, pace_of, passes_between, passed_text};
+ghost use Rattle.af_sample.specs.SampleTypes.{frame_bytes};
+ghost use Rattle.af_cli.specs.Sizes.{greatest_play};
 
-use crate::pass::{RelayPace, RelayPlan, pass_blocks};
+use crate::pass::{RelayPace, RelayPlan, block_count, pass_blocks};
 use af_cli::{PassJob, block_frames};
 use af_io::{Link, Sink};
 use af_lib::Conn;
@@ -24,20 +25,22 @@ use af_sample::{Gain, SampleType};
 use af_time::DevTime;
 use af_toolkit::{CONTEXT, ToolEnd, device_with, put, put_number, write_text};
 
-// The pace of a job, by the bytes of a frame and the rate.
-fn pace_of(job: &PassJob, frame: usize, rate: u32) -> RelayPace
-    requires some { 0 < frame }
-    requires delay { job.now.delay ≤ 3000 }
-    ensures value { result ≡ pace_of job.now frame rate }
-    ensures size { result.size ≤ greatest_block }
-    ensures delay { result.delay < 2 ^ 40 }
+// The pace of a job, by the type of the samples, the channels and the rate.
+fn pace_of(job: &PassJob, ty: SampleType, channels: u8, rate: u32) -> RelayPace
+    requires range { IsPaced job.now }
+    requires count { IsChannelCount channels }
+    ensures value { result ≡ pace_of job.now (frame_bytes ty channels) rate }
+    ensures pace { IsPace result }
 {
+    let frame = ty.frame_bytes(channels);
     let frames = block_frames(job.block, frame);
     RelayPace {
         frames,
+        frame,
         size: frames as usize * frame,
         delay: u64::from(rate) * u64::from(job.delay) / 1000,
         slack: u64::from(rate) * u64::from(job.slack) / 1000,
+        follow: job.follow,
     }
 }
 
@@ -84,44 +87,44 @@ fn pass_between<L: Link + Drop, M: Link + Drop>(
     from: &mut Conn<L>,
     to: &mut Conn<M>,
     room: &mut [u8],
-) -> Result<u32, ToolEnd>
+) -> Result<u64, ToolEnd>
     requires usable { (from.old.cause ≡ None) × (to.old.cause ≡ None) }
     requires range { IsPaced job.now }
     requires alike { (device_channels from.old.devices job.now.from_device ≡ device.channels)
         × (device_channels to.old.devices job.now.to_device ≡ device.channels) }
     requires count { IsChannelCount device.channels }
-    requires room { greatest_block ≤ length room.old }
+    requires room { greatest_play ≤ length room.old }
     ensures goes { GoesBetween L.left L.sent M.left M.sent from.old from.new to.old to.new
         (passes_between job.now device) result }
     ensures holds { KeepsConnections L.left L.faults M.left M.faults from.old from.new to.old to.new result }
     ensures end { IfErr result (λ how. is_of_link how ≡ true) }
 {
     let ty = job.ty.unwrap_or(device.ty);
-    let pace = pace_of(job, ty.frame_bytes(device.channels), device.rate);
+    let pace = pace_of(job, ty, device.channels, device.rate);
     let start = begin_both(job, ty, from, to)?;
-    let block = &mut room[..pace.size];
+    let room = &mut room[..pace.size + pace.frame];
     let plan = RelayPlan { job: *job, pace };
-    let passed = pass_blocks(&plan, start, from, to, block)?;
+    let passed = pass_blocks(&plan, start, from, to, room)?;
     finish_both(from, to)?;
     Ok(passed.resynced)
 }
 
 // Writes the line into a buffer, and answers its length.
-fn write_line(out: &mut [u8], blocks: u32, resynced: u32) -> usize
+fn write_line(out: &mut [u8], blocks: u64, resynced: u64) -> usize
     requires { 128 ≤ length out.old }
     ensures within { result ≤ length out.new }
     ensures some { 0 < result }
     ensures bytes { take result out.new ≡ passed_text blocks resynced }
 {
     let at = put(out, 0, b"passed ");
-    let at = put_number(out, at, u64::from(blocks));
+    let at = put_number(out, at, blocks);
     let at = put(out, at, b" resynced ");
-    let at = put_number(out, at, u64::from(resynced));
+    let at = put_number(out, at, resynced);
     put(out, at, b"\n")
 }
 
 // Writes how many blocks were passed, and how often the relay fell in step again.
-fn report<K: Sink>(sink: &mut K, blocks: u32, resynced: u32) -> ToolEnd
+fn report<K: Sink>(sink: &mut K, blocks: u64, resynced: u64) -> ToolEnd
     ensures followed { Reports K.held (passed_text blocks resynced) result sink.old sink.new }
     ensures end { is_of_report result ≡ true }
     ensures fault { CountsFault (result ≡ ToolEnd.SinkFault) (K.faults sink.old) (K.faults sink.new) }
@@ -159,8 +162,9 @@ fn pair_of<L: Link + Drop, M: Link + Drop>(
 
 /// Passes blocks from a device of one server to a device of another that has the same rate and as many channels: each block is
 /// recorded, and played ahead of the other server's time by the delay. If the two clocks drift apart by more than the slack, the
-/// relay resynchronises. At the end it writes how many blocks were passed, and how often it resynchronised. The connections are
-/// ones that were just made, and the room has the bytes of the greatest block.
+/// relay resynchronises. One that follows the clock plays the last frame of a block twice or not at all before that. At the end
+/// it writes how many blocks were passed, and how often it resynchronised. The connections are ones that were just made, and the
+/// room has the bytes of the greatest play.
 pub fn apass<L: Link + Drop, M: Link + Drop, K: Sink>(
     job: &PassJob,
     from: &mut Conn<L>,
@@ -170,7 +174,7 @@ pub fn apass<L: Link + Drop, M: Link + Drop, K: Sink>(
 ) -> ToolEnd
     requires usable { (from.old.cause ≡ None) × (to.old.cause ≡ None) }
     requires range { IsPaced job.now }
-    requires room { greatest_block ≤ length room.old }
+    requires room { greatest_play ≤ length room.old }
 
     // what was sent, played and written, and when it is done
     ensures ran { RunsBetween L.left L.sent M.left M.sent K.held job.now result
@@ -189,7 +193,7 @@ pub fn apass<L: Link + Drop, M: Link + Drop, K: Sink>(
         Err(end) => return end,
     };
     match pass_between(job, device, from, to, room) {
-        Ok(resynced) => report(sink, job.blocks, resynced),
+        Ok(resynced) => report(sink, block_count(job.blocks), resynced),
         Err(end) => end,
     }
 }

@@ -4,8 +4,8 @@ use Rattle.std.proofs.lemmas.List.{drop_all, drop_more}
 use Rattle.std.specs.Prelude.{Result, Ok, IsOk, slice_index_or}
 use Rattle.std.specs.declared.option.Option.{Option}
 use Rattle.std.specs.declared.option.Option.TheVariants.{None, Some}
-use Rattle.af_dialogue.specs.Parts.{Goes, after_deeds, goes_on, has_value, outcome}
-use Rattle.af_dialogue.proofs.PartLemmas.{Reached, first_ok, goes_by, reached_on}
+use Rattle.af_toolkit.specs.Parts.{Goes, after_deeds, goes_on, has_value, outcome}
+use Rattle.af_toolkit.proofs.PartLemmas.{Reached, first_ok, goes_by, reached_on}
 use Rattle.af_request.specs.declared.reply.DeviceInfo.{DeviceInfo}
 use Rattle.af_request.specs.declared.reply.Phone.{Phone}
 use Rattle.af_request.specs.Asked.{get_time, query_controls, query_phone}

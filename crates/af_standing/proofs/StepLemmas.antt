@@ -4,8 +4,8 @@ use Rattle.std.proofs.lemmas.List.{drop_all, drop_more}
 use Rattle.std.specs.Prelude.{slice_index_or}
 use Rattle.af_io.specs.Observed.{Appended}
 use Rattle.af_lib.specs.declared.fault.ConnFault.{ConnFault}
-use Rattle.af_dialogue.specs.Parts.{Goes, Outcome, goes_on}
-use Rattle.af_dialogue.proofs.PartLemmas.{Reached, goes_value, reached_goes, reached_here, reached_on}
+use Rattle.af_toolkit.specs.Parts.{Goes, Outcome, goes_on}
+use Rattle.af_toolkit.proofs.PartLemmas.{Reached, goes_value, reached_goes, reached_here, reached_on}
 use Rattle.af_request.specs.declared.reply.DeviceInfo.{DeviceInfo}
 use Rattle.af_toolkit.specs.declared.end.ToolEnd.{ToolEnd}
 use Rattle.af_toolkit.specs.Trace.{ClientState, refused}

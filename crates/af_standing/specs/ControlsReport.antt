@@ -6,7 +6,7 @@ use Rattle.std.specs.declared.option.Option.TheVariants.{None, Some}
 use Rattle.af_request.specs.declared.reply.Phone.{Phone}
 use Rattle.af_request.specs.Asked.{query_controls, query_phone}
 use Rattle.af_lib.specs.Calls.{as_controls, as_phone}
-use Rattle.af_dialogue.specs.Parts.{goes_on, has_value}
+use Rattle.af_toolkit.specs.Parts.{goes_on, has_value}
 use Rattle.af_toolkit.specs.ToolParts.{ToolPart, asks, doing}
 use Rattle.af_standing.specs.declared.controls_report.ControlsReport.{ControlsReport}
 

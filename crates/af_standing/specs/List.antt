@@ -10,7 +10,7 @@ use Rattle.af_request.specs.Asked.{get_time}
 use Rattle.af_lib.specs.Calls.{ConnState, as_time}
 use Rattle.af_toolkit.specs.declared.end.ToolEnd.{ToolEnd}
 use Rattle.af_toolkit.specs.declared.end.ToolEnd.TheVariants as end
-use Rattle.af_dialogue.specs.Parts.{goes_on, has_value}
+use Rattle.af_toolkit.specs.Parts.{goes_on, has_value}
 use Rattle.af_toolkit.specs.Trace.{Trace, ClientState, done, ends, refused}
 use Rattle.af_toolkit.specs.ToolParts.{ToolPart, asks, doing, trace_of, writes}
 use Rattle.af_toolkit.specs.Steps.{WroteThrough}

@@ -1,3 +1,4 @@
+pub mod PartLemmas
 pub mod ToolPartLemmas
 pub mod ToolEndLemmas
 pub mod StepLemmas

@@ -3,8 +3,8 @@ use Rattle.std.proofs.Common.{◌≡◌, ◌⊎◌, ℕ, true, List, [], ◌++�
 use Rattle.af_io.specs.Observed.{Appended}
 use Rattle.af_io.proofs.AppendedLemmas.{appended_none, appended_on}
 use Rattle.af_lib.specs.declared.fault.ConnFault.{ConnFault}
-use Rattle.af_dialogue.specs.Parts.{Goes, Outcome, goes_on}
-use Rattle.af_dialogue.proofs.PartLemmas.{goes_by}
+use Rattle.af_toolkit.specs.Parts.{Goes, Outcome, goes_on}
+use Rattle.af_toolkit.proofs.PartLemmas.{goes_by}
 use Rattle.af_toolkit.specs.declared.end.ToolEnd.{ToolEnd}
 use Rattle.af_toolkit.specs.declared.end.ToolEnd.TheVariants as end
 use Rattle.af_toolkit.specs.Trace.{ClientState, refused}

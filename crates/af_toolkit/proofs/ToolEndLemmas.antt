@@ -2,9 +2,9 @@
 use Rattle.std.proofs.Common.{◌≡◌, ℕ, true, false, List, [], ◌++◌, append-nil, sym, ap, ◌∙◌, refl, inl, inr, ◌⊎◌}
 use Rattle.std.specs.Prelude.{Result, Ok, Err, IsOk}
 use Rattle.std.specs.declared.option.Option.{Option}
-use Rattle.af_dialogue.specs.Parts.{goes_on, outcome}
-use Rattle.af_dialogue.proofs.PartLemmas as parts
-use Rattle.af_dialogue.proofs.PartLemmas.{called_first, called_last}
+use Rattle.af_toolkit.specs.Parts.{goes_on, outcome}
+use Rattle.af_toolkit.proofs.PartLemmas as parts
+use Rattle.af_toolkit.proofs.PartLemmas.{called_first, called_last}
 use Rattle.af_request.specs.Asked.{Asked}
 use Rattle.af_request.specs.Answer.{Answer}
 use Rattle.af_request.specs.Requests.{request_bytes}
@@ -12,9 +12,9 @@ use Rattle.af_lib.specs.declared.fault.ConnFault.{ConnFault}
 use Rattle.af_lib.specs.declared.fault.ConnFault.TheVariants as fault
 use Rattle.af_toolkit.specs.declared.end.ToolEnd.{ToolEnd}
 use Rattle.af_toolkit.specs.declared.end.ToolEnd.TheVariants as end
-use Rattle.af_toolkit.specs.Trace.{Trace, ClientState, Finish, after_reply, answer_on, after_answer, bad_sound, channel_mismatch, done, ends, tool_end, fault_end, mismatch, no_device, not_dialled, refused, sound_cut, too_long}
+use Rattle.af_toolkit.specs.Trace.{Trace, ClientState, Finish, after_reply, answer_on, after_answer, bad_sound, channel_mismatch, done, ends, tool_end, fault_end, mismatch, no_device, not_dialled, refused, sound_cut, sound_lost, too_long}
 use Rattle.af_toolkit.specs.ToolParts.{ToolPart, asks, deeds, doing, trace_ending}
-use Rattle.af_toolkit.specs.Ends.{MatchesTrace, EndsByReply, ObservedTrace, IsAnswered, ToolRan, is_of_reply, is_outer}
+use Rattle.af_toolkit.specs.Ends.{MatchesTrace, EndsByReply, EndsIfLost, ObservedTrace, IsAnswered, ToolRan, has_done_all, is_of_reply, is_outer}
 
 -- the finish of an end that is not from outside
 abbrev told_by : ToolEnd → Finish
@@ -24,6 +24,7 @@ told_by (end.RateMismatch from to) = mismatch from to
 told_by (end.ChannelMismatch from to) = channel_mismatch from to
 told_by (end.BadSound f) = bad_sound f
 told_by end.SoundCut = sound_cut
+told_by end.SoundLost = sound_lost
 told_by (end.Refused code value) = refused (fault.ServerError code value)
 told_by (end.BadReply header first) = refused (fault.BadReply header first)
 told_by end.EventFlood = refused fault.EventFlood
@@ -73,6 +74,13 @@ reply_of trace how sends output e = record {
 pub ends_by_reply : (trace : Trace) (how : ToolEnd) (s s' h h' : Option (List ℕ)) → ObservedTrace trace how s s' h h' → EndsByReply trace how
 ends_by_reply trace how s s' h h' f = reply_of trace how f.sends f.output f.ended
 
+-- an end for lost sound is that of the trace, and of no other
+pub ends_if_lost : {trace : Trace} {how : ToolEnd} {sends output : List ℕ} → MatchesTrace trace how sends output → EndsIfLost trace how
+ends_if_lost {trace} {how} {sends} {output} e = record {
+  only = λ same. finish_is trace how sends output e sound_lost refl same;
+  always = λ is. ends_as trace how sends output e sound_lost is;
+}
+
 -- a trace whose device exists, and which is not too long, is done if each request gets its reply
 abbrev pub IsDoneOrRefused : Finish → Type 0
 IsDoneOrRefused finish = (finish ≡ done) ⊎ ((f : ConnFault) × (finish ≡ refused f))
@@ -93,6 +101,7 @@ unfoldable pub tool_ran : {ready : Type 0} {trace : Trace} {how : ToolEnd} {s s'
 tool_ran {trace = trace} {how = how} {s = s} {s' = s'} {h = h} {h' = h'} f finish = record {
   followed = f;
   reply = ends_by_reply trace how s s' h h' f;
+  lost = ends_if_lost f.ended;
   complete = λ fit answered. done_where_answered trace how f.sends f.output f.ended (finish fit) answered;
 }
 
@@ -125,18 +134,57 @@ is_whole {trace} {how} {sends} {output} e way =
       wrote = all_done trace.output output e.unwritten e.wrote whole.2;
     }
 
--- a setup in a trace that is done was answered
-pub answered_done : {X : Type 0} (r : Result X ConnFault) (w : ClientState) (next : X → ClientState → Trace) → (after_answer r w next).finish ≡ done → (x : X) × (r ≡ Ok x) × (after_answer r w next ≡ next x w)
-answered_done (Ok x) w next is = (x, refl, refl)
-answered_done (Err fault) w next is = absurd (cc)
+-- a trace that goes to its end
+abbrev pub IsToEnd : Finish → Type 0
+IsToEnd finish = has_done_all (tool_end finish) ≡ true
 
--- A tool that begins with a part is done only if that came to a value, where no cause of its end is that it is done.
-pub part_ok : {X F : Type 0} (finish_of : F → Finish) → ((cause : F) → finish_of cause ≡ done → ⊥) → (end : Result (X × ClientState) F) (next : X → Trace) → (trace_ending finish_of end next).finish ≡ done → IsOk end
-part_ok finish_of undone (Ok y) next way = refl
-part_ok finish_of undone (Err cause) next way = absurd (undone cause way)
+-- no fault goes to the end
+pub fault_short : (f : ConnFault) → IsToEnd (refused f) → ⊥
+fault_short fault.LinkFault is = cc
+fault_short fault.LinkEnded is = cc
+fault_short (fault.Spent first) is = cc
+fault_short (fault.ServerError code value) is = cc
+fault_short (fault.BadReply header first) is = cc
+fault_short fault.OutOfMemory is = cc
+fault_short fault.EventFlood is = cc
+
+all_inner : (how : ToolEnd) → has_done_all how ≡ true → is_outer how ≡ false
+all_inner end.Done is = refl
+all_inner end.SoundLost is = refl
+all_inner how is = cc
+
+-- a tool that did all has sent and written all of its trace, and ends as that does
+pub record IsAll (trace : Trace) (how : ToolEnd) (sends output : List ℕ) : Type 0 where
+  pub finish : IsToEnd trace.finish
+  pub way : how ≡ tool_end trace.finish
+  pub sent : sends ≡ trace.sends
+  pub wrote : output ≡ trace.output
+
+pub is_all : {trace : Trace} {how : ToolEnd} {sends output : List ℕ} → MatchesTrace trace how sends output → has_done_all how ≡ true → IsAll trace how sends output
+is_all {trace} {how} {sends} {output} e way =
+    let whole = e.whole (all_inner how way) in
+    record {
+      finish = ap has_done_all (sym whole.0) ∙ way;
+      way = whole.0;
+      sent = all_done trace.sends sends e.unsent e.sent whole.1;
+      wrote = all_done trace.output output e.unwritten e.wrote whole.2;
+    }
+
+-- a setup in a trace that goes to its end was answered
+pub answered_all : {X : Type 0} (r : Result X ConnFault) (w : ClientState) (next : X → ClientState → Trace) → IsToEnd (after_answer r w next).finish → (x : X) × (r ≡ Ok x) × (after_answer r w next ≡ next x w)
+answered_all (Ok x) w next is = (x, refl, refl)
+answered_all (Err f) w next is = absurd (fault_short f is)
+
+-- A tool that begins with a part ends so only if that came to a value, where no cause of its end is such an end.
+pub part_ok : {X F : Type 0} (Is : Finish → Type 0) (finish_of : F → Finish) → ((cause : F) → Is (finish_of cause) → ⊥) → (end : Result (X × ClientState) F) (next : X → Trace) → Is (trace_ending finish_of end next).finish → IsOk end
+part_ok Is finish_of undone (Ok y) next way = refl
+part_ok Is finish_of undone (Err cause) next way = absurd (undone cause way)
 
 pub part_answered : {X : Type 0} (end : Result (X × ClientState) ConnFault) (next : X → Trace) → (trace_ending refused end next).finish ≡ done → IsOk end
-part_answered end next way = part_ok refused (λ f is. cc) end next way
+part_answered end next way = part_ok (λ f. f ≡ done) refused (λ f is. cc) end next way
+
+pub part_to_end : {X : Type 0} (end : Result (X × ClientState) ConnFault) (next : X → Trace) → IsToEnd (trace_ending refused end next).finish → IsOk end
+part_to_end end next way = part_ok IsToEnd refused fault_short end next way
 
 -- it is done or refused where what follows its value is
 pub part_finish : {X : Type 0} (end : Result (X × ClientState) ConnFault) (next : X → Trace) → ((x : X) → IsDoneOrRefused (next x).finish) → IsDoneOrRefused (trace_ending refused end next).finish

@@ -3,7 +3,7 @@ use Rattle.std.proofs.Common.{◌≡◌, ◌≢◌, ◌⊎◌, ℕ, true, false,
 use Rattle.std.specs.Prelude.{Result, Ok, Err}
 use Rattle.std.specs.declared.option.Option.{Option}
 use Rattle.std.specs.declared.option.Option.TheVariants.{None, Some}
-use Rattle.af_dialogue.specs.Parts.{Came, Goes, IsProgramKind, Outcome, Part, Stopped, called, end_among, outcome, part_among}
+use Rattle.af_toolkit.specs.Parts.{Came, Goes, IsProgramKind, Outcome, Part, Stopped, called, end_among, outcome, part_among}
 use Rattle.af_io.specs.Observed.{Appended}
 use Rattle.af_io.specs.Flow.{AppendedPrefix}
 use Rattle.af_wire.specs.declared.order.Order.{Order}
@@ -17,7 +17,7 @@ use Rattle.af_lib.specs.declared.fault.ConnFault.TheVariants as fault
 use Rattle.af_lib.specs.Ring.{RingState}
 use Rattle.af_lib.specs.Calls.{Called, ConnState, IsSetUp, Sends, next_sequence}
 use Rattle.af_toolkit.specs.declared.end.ToolEnd.{ToolEnd}
-use Rattle.af_toolkit.specs.Trace.{Trace, Finish, ClientState, answer_on, after_answer, after_reply, connects, new_client, tool_end, ends, fault_end, next_message, refused, sends_first, client_after_setup, setup_answer}
+use Rattle.af_toolkit.specs.Trace.{Trace, Finish, ClientState, answer_on, after_answer, after_reply, connects, new_client, tool_end, ends, fault_end, next_message, refused, sends_first, writes_first, client_after_setup, setup_answer}
 use Rattle.af_toolkit.specs.Ends.{KeepsConnection, MatchesTrace, ObservedTrace, Writes, is_outer, client_of}
 use Rattle.af_toolkit.specs.ToolParts.{IsClientOf, LinkSight, ToolDeeds, ToolSight, asks, deeds, link_sight, tool_sight, tooling, trace_ending, trace_of, writes}
 use Rattle.af_io.proofs.AppendedLemmas.{appended_none, appended_on}
@@ -56,10 +56,6 @@ ended_at_once c how s o sent wrote is = record {
 pub ended_early : (c : Trace) (how : ToolEnd) (s o s' o' : List ℕ) → is_outer how ≡ true → c.sends ≡ s ++ s' → c.output ≡ o ++ o' → MatchesTrace c how s o
 ended_early c how s o s' o' outer sent wrote = record { unsent = s'; unwritten = o'; sent = sent; wrote = wrote; whole = λ inner. absurd (let bad : true ≡ false = sym outer ∙ inner in cc bad) }
 
--- the same bytes, for a trace that equals another
-pub ended_same : (c d : Trace) (how : ToolEnd) (s o : List ℕ) → d ≡ c → MatchesTrace c how s o → MatchesTrace d how s o
-ended_same c d how s o is e = subst (λ (x : Trace). MatchesTrace x how s o) (sym is) e
-
 -- a tool that something from outside ended before it did anything
 pub followed_early : (trace : Trace) (how : ToolEnd) {s h : Option (List ℕ)} → is_outer how ≡ true → ObservedTrace trace how s s h h
 followed_early trace how {s} {h} outer = record { sends = []; output = []; ended = ended_early trace how [] [] trace.sends trace.output outer refl refl; link = appended_none s; sink = appended_none h }
@@ -67,6 +63,25 @@ followed_early trace how {s} {h} outer = record { sends = []; output = []; ended
 -- one whose trace ends at once
 pub followed_end : (finish : Finish) {how : ToolEnd} {s h : Option (List ℕ)} → how ≡ tool_end finish → ObservedTrace (ends finish) how s s h h
 followed_end finish {how} {s} {h} way = record { sends = []; output = []; ended = ended_at_once (ends finish) how [] [] refl refl way; link = appended_none s; sink = appended_none h }
+
+-- one that writes a text at its end: all of it, or the first of it and then the sink failed
+pub wrote_all : (text : List ℕ) (finish : Finish) {how : ToolEnd} {s h h' : Option (List ℕ)} → how ≡ tool_end finish → Appended h text h' → ObservedTrace (writes_first text (ends finish)) how s s h h'
+wrote_all text finish {how} {s} way appended = record {
+  sends = [];
+  output = text;
+  ended = ended_at_once (writes_first text (ends finish)) how [] text refl (append-nil text) way;
+  link = appended_none s;
+  sink = appended;
+}
+
+pub wrote_part : (text : List ℕ) (finish : Finish) {how : ToolEnd} {s h h' : Option (List ℕ)} → is_outer how ≡ true → AppendedPrefix h text h' → ObservedTrace (writes_first text (ends finish)) how s s h h'
+wrote_part text finish {how} {s} outer part = record {
+  sends = [];
+  output = part.front;
+  ended = ended_early (writes_first text (ends finish)) how [] part.front [] part.rest outer refl (append-nil text ∙ part.whole);
+  link = appended_none s;
+  sink = part.appended;
+}
 
 -- what a part does to its connection: nothing at first, and then what each step does
 pub keeps_all : {L : Type 0} {left : L → Option (List ℕ)} {faults : L → ℕ} {conn : ConnState L} → conn.cause ≡ None → KeepsConnection {X = Unit {0}} left faults conn conn (Ok tt)

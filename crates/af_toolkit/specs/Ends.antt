@@ -8,7 +8,7 @@ use Rattle.af_lib.specs.declared.fault.ConnFault.{ConnFault}
 use Rattle.af_lib.specs.Calls.{ConnState}
 use Rattle.af_toolkit.specs.declared.end.ToolEnd.{ToolEnd}
 use Rattle.af_toolkit.specs.declared.end.ToolEnd.TheVariants as end
-use Rattle.af_toolkit.specs.Trace.{Trace, ClientState, Finish, done, tool_end, ends, fault_end, refused, writes_first}
+use Rattle.af_toolkit.specs.Trace.{Trace, ClientState, Finish, done, tool_end, ends, fault_end, refused, sound_lost, writes_first}
 
 -- the ends that come from outside: no bytes decide whether they come
 abbrev pub is_outer : ToolEnd → Bool
@@ -18,6 +18,18 @@ is_outer end.ReadFault = true
 is_outer end.SinkFault = true
 is_outer end.OutOfMemory = true
 is_outer _ = false
+
+-- the ends of a tool that did all that it was asked: a strict one says if sound was lost
+abbrev pub has_done_all : ToolEnd → Bool
+has_done_all end.Done = true
+has_done_all end.SoundLost = true
+has_done_all _ = false
+
+-- those of a tool that is strict, or not
+abbrev pub is_of_all : (strict : Bool) → ToolEnd → Bool
+is_of_all strict end.Done = true
+is_of_all strict end.SoundLost = strict
+is_of_all strict _ = false
 
 -- a tool ended for want of a value, as is stated of it, or for something from outside
 abbrev pub EndsFor : {X : Type 0} → Result X Finish → ToolEnd → Type 0
@@ -40,10 +52,14 @@ pub record ObservedTrace (trace : Trace) (how : ToolEnd) (sent sent' held held' 
   pub link : Appended sent sends sent'
   pub sink : Appended held output held'
 
--- a tool wrote a text, as the last thing that it does
+-- a tool wrote a text before it ends so, as the last thing that it does
+abbrev pub ReportsBefore : {K : Type 0} → (held : K → Option (List ℕ)) → Finish → List ℕ → ToolEnd → (sink sink' : K) → Type 0
+ReportsBefore held finish text how sink sink' =
+    (sent : Option (List ℕ)) → ObservedTrace (writes_first text (ends finish)) how sent sent (held sink) (held sink')
+
+-- the same of a tool that is done
 abbrev pub Reports : {K : Type 0} → (held : K → Option (List ℕ)) → List ℕ → ToolEnd → (sink sink' : K) → Type 0
-Reports held text how sink sink' =
-    (sent : Option (List ℕ)) → ObservedTrace (writes_first text (ends done)) how sent sent (held sink) (held sink')
+Reports held text how sink sink' = ReportsBefore held done text how sink sink'
 
 -- a connection whose link gives these bytes
 abbrev pub client_of : {L : Type 0} → ConnState L → List ℕ → ClientState
@@ -79,15 +95,25 @@ pub record EndsByReply (trace : Trace) (how : ToolEnd) : Type 0 where
   pub only : (fault : ConnFault) → is_of_reply (fault_end fault) ≡ true → how ≡ fault_end fault → trace.finish ≡ refused fault
   pub always : (fault : ConnFault) → trace.finish ≡ refused fault → (how ≡ fault_end fault) ⊎ (is_outer how ≡ true)
 
+-- A tool ends for lost sound exactly where its trace does, unless something from outside has ended it.
+pub record EndsIfLost (trace : Trace) (how : ToolEnd) : Type 0 where
+  pub only : how ≡ end.SoundLost → trace.finish ≡ sound_lost
+  pub always : trace.finish ≡ sound_lost → (how ≡ end.SoundLost) ⊎ (is_outer how ≡ true)
+
+-- no sound is lost, or that is no end of the tool, which is not strict
+abbrev pub IsKept : (strict : Bool) → Trace → Type 0
+IsKept strict trace = strict ≡ true → trace.finish ≢ sound_lost
+
 -- each request gets its reply
 abbrev pub IsAnswered : Trace → Type 0
 IsAnswered trace = (fault : ConnFault) → trace.finish ≢ refused fault
 
--- A tool followed its trace, and ends for a reply where that does. If this holds and each request gets its reply, it is done,
--- unless something from outside ended it.
+-- A tool followed its trace, and ends for a reply or for lost sound where that does. If this holds and each request gets its
+-- reply, it is done, unless something from outside ended it.
 pub record ToolRan (ready : Type 0) (trace : Trace) (how : ToolEnd) (sent sent' held held' : Option (List ℕ)) : Type 0 where
   pub followed : ObservedTrace trace how sent sent' held held'
   pub reply : EndsByReply trace how
+  pub lost : EndsIfLost trace how
   pub complete : ready → IsAnswered trace → (how ≡ end.Done) ⊎ (is_outer how ≡ true)
 
 -- some bytes were written to a sink, or the first of them before it failed

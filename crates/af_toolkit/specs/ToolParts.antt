@@ -2,7 +2,7 @@
 use Rattle.std.specs.Prelude.{◌≡◌, ℕ, List, [], ◌++◌, Result, Ok, Err}
 use Rattle.std.specs.declared.option.Option.{Option}
 use Rattle.std.specs.declared.option.Option.TheVariants.{Some}
-use Rattle.af_dialogue.specs.Parts.{Deeds, Goes, Outcome, Part, ProgramKind, called, goes_on}
+use Rattle.af_toolkit.specs.Parts.{Deeds, Goes, Outcome, Part, ProgramKind, called, goes_on}
 use Rattle.af_time.specs.declared.DevTime.{DevTime}
 use Rattle.af_io.specs.Observed.{Appended}
 use Rattle.af_request.specs.Asked.{Asked, get_time}

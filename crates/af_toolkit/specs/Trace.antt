@@ -38,6 +38,8 @@ pub data Finish : Type 0 where
   -- the source does not begin with the header of a sound file, or ends within one
   bad_sound : (fault : SoundFault) → Finish
   sound_cut : Finish
+  -- a strict tool did all, and some of the sound was lost
+  sound_lost : Finish
   too_long : Finish
   -- a request was answered with this fault
   refused : (fault : ConnFault) → Finish
@@ -147,5 +149,6 @@ tool_end (mismatch from to) = end.RateMismatch from to
 tool_end (channel_mismatch from to) = end.ChannelMismatch from to
 tool_end (bad_sound fault) = end.BadSound fault
 tool_end sound_cut = end.SoundCut
+tool_end sound_lost = end.SoundLost
 tool_end too_long = end.TooLong
 tool_end (refused fault) = fault_end fault

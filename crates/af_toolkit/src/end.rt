@@ -27,6 +27,9 @@ pub enum ToolEnd {
     BadSound { fault: SoundFault },
     /// The source ended inside of the header of a sound file.
     SoundCut,
+    /// The tool is strict. It did all, and some of the sound was lost: frames that it played came too late to be heard, or frames
+    /// that it recorded had left the server.
+    SoundLost,
     /// The server refused a request, for this value.
     Refused { code: u8, value: u32 },
     /// What came is no message, or not the awaited one: its header, and the first bytes of its body, filled with zeros.

@@ -6,7 +6,8 @@ use Rattle.af_request.specs.Replies.{IsDeviceInfo}
 use Rattle.af_toolkit.specs.declared.end.ToolEnd.{ToolEnd}
 use Rattle.af_toolkit.specs.declared.end.ToolEnd.TheVariants as end
 use Rattle.af_cli.specs.declared.job.PlayJob.{PlayJob}
-use Rattle.af_toolkit.specs.Trace.{Trace, ClientState, done, ends, no_device, with_job_device, writes_first}
+use Rattle.af_toolkit.specs.Trace.{Trace, ClientState, ends, no_device, with_job_device, writes_first}
+use Rattle.af_toolkit.specs.Lost.{finish_by}
 use Rattle.af_toolkit.specs.Device.{device_or_end}
 use Rattle.af_toolkit.specs.Talk.{creates}
 use Rattle.af_toolkit.specs.declared.talk.ToolContext.{ToolContext}
@@ -59,7 +60,7 @@ missing_at devices number none d get = absurd (none-some d (sym none ∙ get))
 
 -- a sound is played on a device, and then that is written
 abbrev pub reported : PlayJob → DeviceInfo → ClientState → SourceSound × List ℕ → Trace
-reported job device w given = trace_of play_finish (plays_on job given.0 device given.1 w) (λ p. writes_first (played_text p.frames p.start.0) (ends done))
+reported job device w given = trace_of play_finish (plays_on job given.0 device given.1 w) (λ p. writes_first (played_text p.frames p.start.0) (ends (finish_by job.strict p.late)))
 
 module _ {trace : Trace} {number : ℕ} {devices : List DeviceInfo} (each : DeviceInfo → Trace) (is : trace ≡ with_job_device number devices each) where
   -- a tool whose device exists follows its trace on that

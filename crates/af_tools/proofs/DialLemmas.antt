@@ -1,5 +1,5 @@
 -- Tools that dial: one server, or the two of a relay.
-use Rattle.std.proofs.Common.{◌≡◌, ℕ, ◌≤◌, ◌⊎◌, inl, inr, true, false, List, [], ◌∷◌, ◌++◌, length, sym, ap, ◌∙◌, subst, refl, append-nil, ◌+◌, arith, length-append, Result, Ok, Err, Option, None, Some}
+use Rattle.std.proofs.Common.{◌≡◌, ℕ, ◌≤◌, ◌⊎◌, inl, inr, Bool, true, false, List, [], ◌∷◌, ◌++◌, length, sym, ap, ◌∙◌, subst, refl, append-nil, ◌+◌, arith, length-append, Result, Ok, Err, Option, None, Some}
 use Rattle.std.proofs.lemmas.List.{append_cancel_left}
 use Rattle.clap.specs.Words.{Text}
 use Rattle.af_io.specs.Observed.{Appended}
@@ -15,11 +15,11 @@ use Rattle.af_toolkit.specs.declared.end.ToolEnd.{ToolEnd}
 use Rattle.af_toolkit.specs.declared.end.ToolEnd.TheVariants as end
 use Rattle.af_cli.specs.declared.job.PassJob.{PassJob}
 use Rattle.af_cli.specs.declared.job.Task.{Task}
-use Rattle.af_toolkit.specs.Trace.{Trace, ClientState, new_client, connects, fault_end, client_after_setup, setup_answer, Finish, done, not_dialled, refused, too_long}
-use Rattle.af_dialogue.specs.Parts.{Stopped, called}
+use Rattle.af_toolkit.specs.Trace.{Trace, ClientState, new_client, connects, fault_end, client_after_setup, setup_answer, Finish, done, not_dialled, refused, sound_lost, too_long}
+use Rattle.af_toolkit.specs.Parts.{Stopped, called}
 use Rattle.af_toolkit.specs.ToolParts.{LinkSight}
 use Rattle.af_relay.specs.RelayParts.{MatchesRelay, RelayDid, SendsBoth, relaying}
-use Rattle.af_tools.specs.Run.{is_of_job, job_reads, no_client, relay_trace, relays_to, sets_up_from, sets_up_to, task_trace, IsEarly, IsServed, JobRan, ReturnsBoth}
+use Rattle.af_tools.specs.Run.{is_of_job, job_reads, job_strict, no_client, relay_trace, relays_to, sets_up_from, sets_up_to, task_trace, IsEarly, IsServed, JobRan, ReturnsBoth}
 use Rattle.af_tools.specs.Reading.{TellsIfRead, UsesSource, is_unfit}
 use Rattle.af_toolkit.specs.Ends.{MatchesTrace, ObservedTrace, is_outer}
 use Rattle.af_relay.specs.Pass.{Both, RelayDeeds, RelayTrace, apass_trace, both, deeds, doing, relay_of, relays}
@@ -209,12 +209,21 @@ not_too_long {left} {bytes} {source} {source'} (one server order (task.Play job)
 not_too_long {how} (one server order t) is uses tells few long = never (λ (e : ToolEnd). is_of_job (one server order t) e) how end.TooLong is refl long
 not_too_long {how} (relay from to order job) is uses tells few long = never (λ (e : ToolEnd). is_of_job (relay from to order job) e) how end.TooLong is refl long
 
+-- a tool that ends for lost sound is strict
+pub lost_strict : (j : Job) → is_of_job j end.SoundLost ≡ true → job_strict j ≡ true
+lost_strict (one server order (task.Play job)) is = is
+lost_strict (one server order (task.Record job)) is = is
+lost_strict (one server order (task.Set job)) is = cc
+lost_strict (one server order task.List) is = cc
+lost_strict (relay from to order job) is = cc
+
 -- a tool that is served is done, unless something from outside ends it
-pub served_done : (trace : Trace) (how : ToolEnd) (sends output : List ℕ) → MatchesTrace trace how sends output → (how ≡ end.TooLong → ⊥) → IsServed trace → (how ≡ end.Done) ⊎ (is_outer how ≡ true)
-served_done trace how sends output e short served = by trace.finish refl where
+pub served_done : (strict : Bool) (trace : Trace) (how : ToolEnd) (sends output : List ℕ) → MatchesTrace trace how sends output → (how ≡ end.TooLong → ⊥) → (how ≡ end.SoundLost → strict ≡ true) → IsServed strict trace → (how ≡ end.Done) ⊎ (is_outer how ≡ true)
+served_done strict trace how sends output e short lost served = by trace.finish refl where
   by : (finish : Finish) → trace.finish ≡ finish → (how ≡ end.Done) ⊎ (is_outer how ≡ true)
   by done is = done_unless_outer trace how sends output e is
   by not_dialled is = elim (ends_as trace how sends output e not_dialled is) [ inl way ↦ inr (ap is_outer way) | inr outer ↦ inr outer ]
   by too_long is = elim (ends_as trace how sends output e too_long is) [ inl way ↦ absurd (short way) | inr outer ↦ inr outer ]
+  by sound_lost is = elim (ends_as trace how sends output e sound_lost is) [ inl way ↦ absurd (served.kept (lost way) is) | inr outer ↦ inr outer ]
   by (refused f) is = absurd (served.answered f is)
   by finish is = absurd (let fits : is_unfit finish ≡ false = ap is_unfit (sym is) ∙ served.fits in cc fits)

@@ -1,5 +1,5 @@
 -- A sound is played in step with what is read of it: block after block, each read once those before it were played.
-use Rattle.std.proofs.Common.{◌≡◌, ◌⊎◌, ℕ, ◌+◌, ◌*◌, ◌/◌, ◌<◌, ◌≤◌, List, [], ◌++◌, length, take, sym, ap, ◌∙◌, refl, subst, arith, append-nil, append_assoc, length-append, inl, inr, true, false, IsErrOf, Result, Ok, Err, Option, None, Some}
+use Rattle.std.proofs.Common.{◌≡◌, ◌⊎◌, ℕ, ◌+◌, ◌*◌, ◌/◌, ◌<◌, ◌≤◌, List, [], ◌++◌, length, take, sym, ap, ◌∙◌, refl, subst, arith, append-nil, append_assoc, length-append, inl, inr, true, IsErrOf, Result, Ok, Err, Option, None, Some}
 use Rattle.std.proofs.lemmas.Bool.{cases_lt}
 use Rattle.std.proofs.lemmas.List.{take_all}
 use Rattle.af_time.specs.declared.DevTime.{DevTime}
@@ -7,14 +7,12 @@ use Rattle.af_io.specs.Observed.{Appended, Consumed}
 use Rattle.af_io.specs.Flow.{IsSpent}
 use Rattle.af_io.proofs.AppendedLemmas.{appended_on}
 use Rattle.af_io.proofs.ConsumedLemmas.{consumed_on}
-use Rattle.af_request.specs.Asked.{play_run}
-use Rattle.af_lib.specs.Calls.{as_time}
-use Rattle.af_dialogue.specs.Parts.{Goes, Outcome, Part, goes_on}
-use Rattle.af_dialogue.proofs.PartLemmas.{Reached, goes_by, goes_value, reached_goes, reached_here}
+use Rattle.af_toolkit.specs.Parts.{Goes, Outcome, Part, goes_on}
+use Rattle.af_toolkit.proofs.PartLemmas.{Reached, goes_by, goes_value, reached_goes, reached_here}
 use Rattle.af_sound.specs.declared.head.Coding.{Coding}
 use Rattle.af_toolkit.specs.declared.end.ToolEnd.{ToolEnd}
 use Rattle.af_toolkit.specs.Trace.{ClientState, Finish, refused}
-use Rattle.af_toolkit.specs.ToolParts.{IsClientOf, ToolDeeds, ToolSight, asks, doing, tooling}
+use Rattle.af_toolkit.specs.ToolParts.{IsClientOf, ToolDeeds, ToolSight, doing, tooling}
 use Rattle.af_tools.specs.declared.sound.SourceSound.{SourceSound}
 use Rattle.af_tools.specs.Sounds.{as_served, block_bytes, source_width, stated_after, stated_part, stated_room, FitsStated}
 use Rattle.af_toolkit.specs.declared.end.ToolEnd.TheVariants as end
@@ -23,7 +21,10 @@ use Rattle.af_tools.specs.declared.fill.FillFault.{FillFault}
 use Rattle.af_tools.specs.declared.fill.FillFault.TheVariants as fill
 use Rattle.af_tools.specs.Reading.{FillsBlock}
 use Rattle.af_tools.proofs.EndLemmas.{never, of_err}
-use Rattle.af_tools.specs.Play.{PlayFault, PlayPart, block_time, blocks, play_finish, plays, plays_sound}
+use Rattle.af_tools.specs.declared.pace.Course.{Course}
+use Rattle.af_tools.specs.declared.pace.Pace.{Pace}
+use Rattle.af_tools.specs.Pacing.{course_from, course_on}
+use Rattle.af_tools.specs.Play.{PlayFault, PlayPart, blocks, play_finish, plays, plays_block, plays_sound}
 use Rattle.af_tools.specs.Steps.{HasFirst, ReadsInStep, WentThrough}
 use Rattle.af_tools.proofs.PlayBlockLemmas.{blocks_empty, plays_none}
 use Rattle.af_tools.proofs.PlayStepLemmas.{IsFilled, is_play, play_reached}
@@ -89,43 +90,43 @@ went_then {part = part} {w} {more} extra {a} {b} {c} went then = record {
 }
 
 -- Blocks of a sound were played, and these bytes were read after them: whatever the source has left, playing goes on from here.
-pub record IsStepped (coding : Option Coding) (width start size head frames given : ℕ) (ahead : List ℕ) (left left' : Option (List ℕ)) (o p : ToolSight) : Type 0 where
+pub record IsStepped (coding : Option Coding) (width : ℕ) (pace : Pace) (told : DevTime) (size head : ℕ) (course : Course) (given : ℕ) (ahead : List ℕ) (left left' : Option (List ℕ)) (o p : ToolSight) : Type 0 where
   pub played : List ℕ
   pub all : length played ≡ given
   pub begun : (given ≡ 0) ⊎ (size ≤ given)
   pub read : Consumed left (played ++ ahead) left'
-  pub reached : (rest : List ℕ) → Reached (tooling play_finish) (plays coding width start 0 head (blocks size (played ++ rest))) (plays coding width start frames (head + given) (blocks size rest)) o p
+  pub reached : (rest : List ℕ) → Reached (tooling play_finish) (plays coding width pace (course_from told) head (blocks size (played ++ rest))) (plays coding width pace course (head + given) (blocks size rest)) o p
 
-pub stepped_begin : (coding : Option Coding) (width start size head : ℕ) {ahead : List ℕ} {left left' : Option (List ℕ)} {o : ToolSight} → Consumed left ahead left' → IsStepped coding width start size head 0 0 ahead left left' o o
-stepped_begin coding width start size head {o} first = record {
+pub stepped_begin : (coding : Option Coding) (width : ℕ) (pace : Pace) (told : DevTime) (size head : ℕ) {ahead : List ℕ} {left left' : Option (List ℕ)} {o : ToolSight} → Consumed left ahead left' → IsStepped coding width pace told size head (course_from told) 0 ahead left left' o o
+stepped_begin coding width pace told size head {o} first = record {
   played = [];
   all = refl;
   begun = inl refl;
   read = first;
-  reached = λ rest. (let same : head ≡ head + 0 = omega arith in subst (λ (n : ℕ). Reached (tooling play_finish) (plays coding width start 0 head (blocks size rest)) (plays coding width start 0 n (blocks size rest)) o o) same (reached_here is_play));
+  reached = λ rest. (let same : head ≡ head + 0 = omega arith in subst (λ (n : ℕ). Reached (tooling play_finish) (plays coding width pace (course_from told) head (blocks size rest)) (plays coding width pace (course_from told) n (blocks size rest)) o o) same (reached_here is_play));
 }
 
 -- a whole block more was played
-pub stepped_on : {coding : Option Coding} {width start size head frames given n at : ℕ} (room : List ℕ) {left left' : Option (List ℕ)} {o p q : ToolSight} {now : DevTime} → IsStepped coding width start size head frames given (take n room) left left' o p →
-    length (take n room) ≡ n → n ≡ size → BlockFits n size width (head + given) → at ≡ block_time start frames → 0 < n / width →
-    Goes (tooling refused) (asks (play_run false 1 at (as_served coding (take (n / width * width) room))) as_time) (Ok now) p q →
-    (ahead : List ℕ) {left'' : Option (List ℕ)} → Consumed left' ahead left'' → IsStepped coding width start size head (frames + n / width) (given + n) ahead left left'' o q
-stepped_on {coding} {width} {start} {size} {head} {frames} {given} {n} room {left} {left'} {o} {p} {q} s full whole fits place some goes ahead {left''} more = record {
+pub stepped_on : {coding : Option Coding} {width : ℕ} {pace : Pace} {told : DevTime} {size head : ℕ} {course : Course} {given n : ℕ} (room : List ℕ) {left left' : Option (List ℕ)} {o p q : ToolSight} {now : DevTime} → IsStepped coding width pace told size head course given (take n room) left left' o p →
+    length (take n room) ≡ n → n ≡ size → BlockFits n size width (head + given) → 0 < n / width →
+    Goes (tooling refused) (plays_block pace course (as_served coding (take (n / width * width) room))) (Ok now) p q →
+    (ahead : List ℕ) {left'' : Option (List ℕ)} → Consumed left' ahead left'' → IsStepped coding width pace told size head (course_on pace course (n / width) now) (given + n) ahead left left'' o q
+stepped_on {coding} {width} {pace} {told} {size} {head} {course} {given} {n} room {left} {left'} {o} {p} {q} s full whole fits some goes ahead {left''} more = record {
   played = s.played ++ take n room;
   all = omega (arith, length-append s.played (take n room), s.all);
   begun = inr (omega arith);
   read = consumed_on left left' left'' (s.played ++ take n room) ahead s.read more;
   reached = λ rest.
-      let f : IsFilled (plays coding width start 0 head (blocks size ((s.played ++ take n room) ++ rest))) coding width start size frames (head + given) n None room (Some rest) o p =
+      let f : IsFilled (plays coding width pace (course_from told) head (blocks size ((s.played ++ take n room) ++ rest))) coding width pace size course (head + given) n None room (Some rest) o p =
       record {
         after = rest;
         is_left = refl;
         full = full;
         ended = λ short. absurd (omega arith);
-        reached = subst (λ (l : List ℕ). Reached (tooling play_finish) (plays coding width start 0 head (blocks size l)) (plays coding width start frames (head + given) (blocks size (take n room ++ rest))) o p) (sym (append_assoc s.played (take n room) rest)) (s.reached (take n room ++ rest));
+        reached = subst (λ (l : List ℕ). Reached (tooling play_finish) (plays coding width pace (course_from told) head (blocks size l)) (plays coding width pace course (head + given) (blocks size (take n room ++ rest))) o p) (sym (append_assoc s.played (take n room) rest)) (s.reached (take n room ++ rest));
       } in
       let count : head + given + n ≡ head + (given + n) = omega arith in
-      play_reached f fits place some goes count;
+      play_reached f fits some goes count;
 }
 
 whole_part : (of : Option ℕ) (part : List ℕ) → FitsStated of (length part) → stated_part of part ≡ part
@@ -133,18 +134,18 @@ whole_part None part fits = refl
 whole_part (Some m) part fits = take_all m part fits
 
 -- a sound of just these bytes was played
-stepped_goes : (sound : SourceSound) (block start width : ℕ) → width ≡ source_width sound.coding sound.ty sound.channels → {frames given : ℕ} {ahead : List ℕ} {left left' : Option (List ℕ)} {o p : ToolSight}
-    (s : IsStepped sound.coding width start (block * width) sound.head frames given ahead left left' o p) → FitsStated sound.length given → Goes (tooling play_finish) (plays_sound sound block start s.played) (Ok frames) o p
+stepped_goes : (sound : SourceSound) (block : ℕ) (pace : Pace) (told : DevTime) (width : ℕ) → width ≡ source_width sound.coding sound.ty sound.channels → {course : Course} {given : ℕ} {ahead : List ℕ} {left left' : Option (List ℕ)} {o p : ToolSight}
+    (s : IsStepped sound.coding width pace told (block * width) sound.head course given ahead left left' o p) → FitsStated sound.length given → Goes (tooling play_finish) (plays_sound sound block pace told s.played) (Ok course) o p
 unfolding plays_sound
-stepped_goes sound block start width same {frames} {given} {o = o} {p} s fits =
-    let none = ap (plays sound.coding width start frames (sound.head + given)) (blocks_empty (block * width) [] refl) ∙ plays_none sound.coding width start frames (sound.head + given) in
+stepped_goes sound block pace told width same {course} {given} {o = o} {p} s fits =
+    let none = ap (plays sound.coding width pace course (sound.head + given)) (blocks_empty (block * width) [] refl) ∙ plays_none sound.coding width pace course (sound.head + given) in
     let part : s.played ≡ stated_part sound.length s.played = sym (whole_part sound.length s.played (subst (λ (n : ℕ). FitsStated sound.length n) (sym s.all) fits)) in
-    let r = subst (λ (l : List ℕ). Reached (tooling play_finish) (plays sound.coding width start 0 sound.head (blocks (block * width) l)) (plays sound.coding width start frames (sound.head + given) (blocks (block * width) [])) o p) (append-nil s.played ∙ part) (s.reached []) in
-    subst (λ (n : ℕ). Goes (tooling play_finish) (plays sound.coding n start 0 sound.head (blocks (block * n) (stated_part sound.length s.played))) (Ok frames) o p) same
+    let r = subst (λ (l : List ℕ). Reached (tooling play_finish) (plays sound.coding width pace (course_from told) sound.head (blocks (block * width) l)) (plays sound.coding width pace course (sound.head + given) (blocks (block * width) [])) o p) (append-nil s.played ∙ part) (s.reached []) in
+    subst (λ (n : ℕ). Goes (tooling play_finish) (plays sound.coding n pace (course_from told) sound.head (blocks (block * n) (stated_part sound.length s.played))) (Ok course) o p) same
     (reached_goes is_play _ r (rw none (goes_value is_play _)))
 
-module _ (sound : SourceSound) (block start width : ℕ) (same : width ≡ source_width sound.coding sound.ty sound.channels) {frames given : ℕ} {ahead : List ℕ} {left left' : Option (List ℕ)} {o p : ToolSight}
-    (s : IsStepped sound.coding width start (block * width) sound.head frames given ahead left left' o p) (fits : FitsStated sound.length given) (few : length ahead ≤ block * width) where
+module _ (sound : SourceSound) (block : ℕ) (pace : Pace) (told : DevTime) (width : ℕ) (same : width ≡ source_width sound.coding sound.ty sound.channels) {course : Course} {given : ℕ} {ahead : List ℕ} {left left' : Option (List ℕ)} {o p : ToolSight}
+    (s : IsStepped sound.coding width pace told (block * width) sound.head course given ahead left left' o p) (fits : FitsStated sound.length given) (few : length ahead ≤ block * width) where
   -- the first block is there
   pub step_first : (of : Option ℕ) → of ≡ stated_after sound.length given → (length ahead < block * width → IsSpent left' ⊎ (of ≡ Some (length ahead))) → HasFirst sound block (length (s.played ++ ahead)) left'
   step_first of rest ended =
@@ -174,9 +175,9 @@ module _ (sound : SourceSound) (block start width : ℕ) (same : width ≡ sourc
   -- how far it was read where the code ends
   pub step_ends : (failed : Type 0) → HasFirst sound block (length (s.played ++ ahead)) left' → {w : ClientState} → IsClientOf o.link w → {q' : Option (List ℕ)} → (failed → Appended p.link.sent [] q') →
       ((v : ClientState) → IsClientOf p.link v → (more : List ℕ) × Appended p.link.sent more q') → (failed → 1 ≤ given) →
-      (steps : ReadsInStep sound block (plays_sound sound block start) w failed ⊥ left left' o.link.sent q') × (failed → 1 ≤ length steps.played)
+      (steps : ReadsInStep sound block (plays_sound sound block pace told) w failed ⊥ left left' o.link.sent q') × (failed → 1 ≤ length steps.played)
   step_ends failed first stands still more later =
-      let goes = stepped_goes sound block start width same s fits in (
+      let goes = stepped_goes sound block pace told width same s fits in (
         record {
           played = s.played;
           ahead = ahead;

@@ -1,4 +1,5 @@
 pub mod EndLemmas
+pub mod PacingLemmas
 pub mod PlayBlockLemmas
 pub mod PlayStepLemmas
 pub mod InStepLemmas

@@ -1,5 +1,5 @@
 -- What a tool that dials has done, if it is done.
-use Rattle.std.proofs.Common.{length, ◌≡◌, ◌≤◌, ℕ, List, [], ◌∷◌, sym, ap, ◌∙◌, subst, refl, slice_get, Result, Ok, Option, Some}
+use Rattle.std.proofs.Common.{length, ◌≡◌, ◌≤◌, ℕ, true, List, [], ◌∷◌, sym, ap, ◌∙◌, subst, refl, slice_get, Result, Ok, Option, Some}
 use Rattle.af_toolkit.proofs.ToolPartLemmas.{ended_at_once}
 use Rattle.std.proofs.lemmas.Option.{get_or_from_slice_get, slice_get_within}
 use Rattle.clap.specs.Words.{Text}
@@ -26,19 +26,19 @@ use Rattle.af_toolkit.specs.Trace.{Trace, ClientState, Finish, connects, done, t
 use Rattle.af_cli.specs.Call.{IsCall, job_of_call}
 use Rattle.af_cli.specs.Ranges.{IsPaced, IsRanged}
 use Rattle.af_relay.specs.Pass.{Both, RelayDeeds, RelayTrace, apass_trace, both, doing, finish_of, relay_of, relays}
-use Rattle.af_tools.specs.Run.{no_client, relay_trace, relays_to, JobDone, JobRan, RelayRan, UsedServer, one_trace, task_trace}
+use Rattle.af_tools.specs.Run.{job_strict, no_client, relay_trace, relays_to, JobDone, JobRan, RelayRan, UsedServer, one_trace, task_trace}
 use Rattle.af_tools.specs.Reading.{SetUpFirst}
 use Rattle.af_tools.specs.Play.{IsPlayed}
 use Rattle.af_tools.specs.Sounds.{most_bytes}
 use Rattle.af_tools.specs.Record.{IsRecorded}
-use Rattle.af_toolkit.specs.Ends.{ObservedTrace}
+use Rattle.af_toolkit.specs.Ends.{ObservedTrace, has_done_all}
 use Rattle.af_relay.specs.Relayed.{IsRelayed}
 use Rattle.af_standing.specs.List.{HasLines}
 use Rattle.af_standing.proofs.ListLemmas.{list_ran}
 use Rattle.af_cli.specs.Words.{Job, one, relay}
-use Rattle.af_toolkit.proofs.ToolEndLemmas.{answered_done, is_whole, reply_of}
+use Rattle.af_toolkit.proofs.ToolEndLemmas.{IsToEnd, answered_all, ends_if_lost, is_all, is_whole, reply_of}
 use Rattle.af_tools.proofs.EndLemmas.{ends_if_unfit}
-use Rattle.af_dialogue.specs.Parts.{Outcome, goes_on}
+use Rattle.af_toolkit.specs.Parts.{Outcome, goes_on}
 use Rattle.af_relay.proofs.RelayPartLemmas.{on_first, on_second}
 use Rattle.af_relay.proofs.RelayedLemmas.{setup_answered, trace_relayed}
 use Rattle.af_tools.proofs.PlayedBlockLemmas.{is_played}
@@ -46,9 +46,9 @@ use Rattle.af_tools.proofs.FiledLemmas.{is_recorded}
 use Rattle.af_tools.proofs.DialLemmas.{served_done}
 
 -- a trace that is sent and written to its end
-followed_whole : (trace : Trace) (how : ToolEnd) (held held' : Option (List ℕ)) → how ≡ end.Done → trace.finish ≡ done → Appended held trace.output held' → ObservedTrace trace how (Some []) (Some trace.sends) held held'
-followed_whole trace how held held' way finish sink =
-    record { sends = trace.sends; output = trace.output; ended = ended_at_once trace how trace.sends trace.output refl refl (way ∙ ap tool_end (sym finish)); link = refl; sink = sink }
+followed_whole : (trace : Trace) (how : ToolEnd) (held held' : Option (List ℕ)) → how ≡ tool_end trace.finish → Appended held trace.output held' → ObservedTrace trace how (Some []) (Some trace.sends) held held'
+followed_whole trace how held held' way sink =
+    record { sends = trace.sends; output = trace.output; ended = ended_at_once trace how trace.sends trace.output refl refl way; link = refl; sink = sink }
 
 -- the values of a job are in range
 abbrev pub IsInRange : Job → Type 0
@@ -119,17 +119,17 @@ module _ (order : Order) where
     server : SetUpFirst order links
     whole : one_trace order t links bytes ≡ sends_first (setup_bytes order) (task_trace t server.devices bytes (client_after_setup order server.link.gives))
 
-  after_dial_setup : (t : Task) (bytes : List ℕ) (links : List ToldLink) → (one_trace order t links bytes).finish ≡ done → AfterSetup t bytes links
+  after_dial_setup : (t : Task) (bytes : List ℕ) (links : List ToldLink) → IsToEnd (one_trace order t links bytes).finish → AfterSetup t bytes links
   unfolding connects
   after_dial_setup t bytes [] is = cc
   after_dial_setup t bytes (first ∷ rest) is =
-      let a = answered_done (setup_answer order first.gives) (client_after_setup order first.gives) (λ devices w. task_trace t devices bytes w) is in
+      let a = answered_all (setup_answer order first.gives) (client_after_setup order first.gives) (λ devices w. task_trace t devices bytes w) is in
       record { server = record { link = first; rest = rest; links_are = refl; devices = a.0; set = a.1 }; whole = ap (sends_first (setup_bytes order)) a.2 }
 
-  module _ {bytes : List ℕ} {how : ToolEnd} {links : List ToldLink} {links' : Option (List ToldLink)} {held held' : Option (List ℕ)} {back back' : Option (List (List ℕ))} (way : how ≡ end.Done) where
+  module _ {bytes : List ℕ} {how : ToolEnd} {links : List ToldLink} {links' : Option (List ToldLink)} {held held' : Option (List ℕ)} {back back' : Option (List (List ℕ))} where
     -- a relay that is done has passed all blocks
-    ran_relayed : {from to : Text} (job : PassJob) → JobRan (relay from to order job) bytes how links links' held held' back back' → IsPaced job → RelayRan order job links links' held held' back back'
-    ran_relayed job r paced =
+    ran_relayed : {from to : Text} (job : PassJob) → how ≡ end.Done → JobRan (relay from to order job) bytes how links links' held held' back back' → IsPaced job → RelayRan order job links links' held held' back back'
+    ran_relayed job way r paced =
         let recorded = is_whole r.ran.matches.recorded way in
         let played = is_whole r.ran.matches.played way in
         let b = after_both job links held held' paced recorded.finish in
@@ -144,57 +144,58 @@ module _ (order : Order) where
           link = rw (recorded.sent ∙ ap (λ (x : RelayDeeds). x.from) b.whole, played.sent ∙ ap (λ (x : RelayDeeds). x.to) b.whole) at r.ran.sent;
         }
 
-    -- a tool with one server that is done followed its trace to the end
-    one_done : {server : Text} (t : Task) → JobRan (one server order t) bytes how links links' held held' back back' →
+    -- a tool with one server that did all followed its trace to the end
+    one_done : {server : Text} (t : Task) → has_done_all how ≡ true → JobRan (one server order t) bytes how links links' held held' back back' →
         UsedServer order links links' back back' (λ devices w sends. ObservedTrace (task_trace t devices bytes w) how (Some []) (Some sends) held held')
-    one_done t r =
-        let recorded = is_whole r.ran.matches.recorded way in
+    one_done t way r =
+        let recorded = is_all r.ran.matches.recorded way in
         let b = after_dial_setup t bytes links recorded.finish in
         let inner = task_trace t b.server.devices bytes (client_after_setup order b.server.link.gives) in
         let output = recorded.wrote ∙ ap (λ (x : Trace). x.output) b.whole in
         record {
           server = b.server;
           sends = inner.sends;
-          used = followed_whole inner how held held' way (ap (λ (x : Trace). x.finish) (sym b.whole) ∙ recorded.finish) (subst (λ (l : List ℕ). Appended held l held') output r.ran.sink);
-          link = rw (recorded.sent ∙ ap (λ (x : Trace). x.sends) b.whole, (is_whole r.ran.matches.played way).sent) at r.ran.sent;
+          used = followed_whole inner how held held' (recorded.way ∙ ap (λ (x : Trace). tool_end x.finish) b.whole) (subst (λ (l : List ℕ). Appended held l held') output r.ran.sink);
+          link = rw (recorded.sent ∙ ap (λ (x : Trace). x.sends) b.whole, (is_all r.ran.matches.played way).sent) at r.ran.sent;
         }
 
     -- aplay: what it has played is heard as it was intended
-    ran_played : {server : Text} (job : PlayJob) → JobRan (one server order (task.Play job)) bytes how links links' held held' back back' → 1 ≤ job.block →
-        UsedServer order links links' back back' (λ devices w sends. IsPlayed job devices bytes w (Some []) (Some sends) held held')
-    ran_played job r some =
-        let d = one_done (task.Play job) r in
+    ran_played : {server : Text} (job : PlayJob) → has_done_all how ≡ true → JobRan (one server order (task.Play job)) bytes how links links' held held' back back' → 1 ≤ job.block →
+        UsedServer order links links' back back' (λ devices w sends. IsPlayed job devices bytes w how (Some []) (Some sends) held held')
+    ran_played job way r some =
+        let d = one_done (task.Play job) way r in
         let server = d.server in
         let stated = answered_at job.device (next_message (client_before_setup order server.link.gives)).found server.devices server.set in
         record { server = server; sends = d.sends; used = is_played job server.devices bytes (client_after_setup order server.link.gives) how _ _ held held' d.used way some stated; link = d.link }
 
     -- arecord: what it has recorded is in its sink
-    ran_recorded : {server : Text} (job : RecordJob) → JobRan (one server order (task.Record job)) bytes how links links' held held' back back' →
+    ran_recorded : {server : Text} (job : RecordJob) → has_done_all how ≡ true → JobRan (one server order (task.Record job)) bytes how links links' held held' back back' →
         UsedServer order links links' back back' (λ devices w sends. IsRecorded job devices w (Some []) (Some sends) held held')
-    ran_recorded job r =
-        let d = one_done (task.Record job) r in
+    ran_recorded job way r =
+        let d = one_done (task.Record job) way r in
         record { server = d.server; sends = d.sends; used = is_recorded job d.server.devices (client_after_setup order d.server.link.gives) how _ _ held held' d.used way; link = d.link }
 
     -- list: it has told each device
-    ran_listed : {server : Text} → JobRan (one server order task.List) bytes how links links' held held' back back' →
+    ran_listed : {server : Text} → how ≡ end.Done → JobRan (one server order task.List) bytes how links links' held held' back back' →
         UsedServer order links links' back back' (λ devices w sends. (output : List ℕ) × HasLines 0 devices output × Appended held output held')
-    ran_listed r =
-        let d = one_done task.List r in
+    ran_listed way r =
+        let d = one_done task.List (ap has_done_all way) r in
         let l = list_ran d.server.devices (client_after_setup order d.server.link.gives) how _ _ held held' d.used in
         record { server = d.server; sends = d.sends; used = (l.ran.followed.output, l.listed way, l.ran.followed.sink); link = d.link }
 
 -- what a tool did that ran
 pub did : (j : Job) (bytes : List ℕ) (how : ToolEnd) (links : List ToldLink) (links' : Option (List ToldLink)) (held held' : Option (List ℕ)) (back back' : Option (List (List ℕ))) →
-    JobRan j bytes how links links' held held' back back' → (how ≡ end.Done → IsInRange j) → (length bytes ≤ most_bytes → how ≡ end.TooLong → ⊥) → JobDone j bytes how links links' held held' back back'
-did j bytes how links links' held held' back back' r ranged short =
+    JobRan j bytes how links links' held held' back back' → (has_done_all how ≡ true → IsInRange j) → (length bytes ≤ most_bytes → how ≡ end.TooLong → ⊥) → (how ≡ end.SoundLost → job_strict j ≡ true) → JobDone j bytes how links links' held held' back back'
+did j bytes how links links' held held' back back' r ranged short strict =
     let ran : (k : Job) → j ≡ k → JobRan k bytes how links links' held held' back back' = λ k same. subst (λ (x : Job). JobRan x bytes how links links' held held' back back') same r in
     record {
       ran = r;
       reply = reply_of _ _ _ _ r.ran.matches.recorded;
       unfit = ends_if_unfit r.ran.matches.recorded;
-      heard = λ server order play same way. (let range = subst IsInRange same (ranged way) in ran_played order way play (ran (one server order (task.Play play)) same) range.0);
-      recorded = λ server order recording same way. ran_recorded order way recording (ran (one server order (task.Record recording)) same);
+      lost = ends_if_lost r.ran.matches.recorded;
+      heard = λ server order play same way. (let range = subst IsInRange same (ranged way) in ran_played order play way (ran (one server order (task.Play play)) same) range.0);
+      recorded = λ server order recording same way. ran_recorded order recording way (ran (one server order (task.Record recording)) same);
       listed = λ server order same way. ran_listed order way (ran (one server order task.List) same);
-      relayed = λ from to order pass same way. ran_relayed order way pass (ran (relay from to order pass) same) (subst IsInRange same (ranged way));
-      complete = λ few served. served_done _ how _ _ r.ran.matches.recorded (short few) served;
+      relayed = λ from to order pass same way. ran_relayed order pass way (ran (relay from to order pass) same) (subst IsInRange same (ranged (ap has_done_all way)));
+      complete = λ few served. served_done (job_strict j) _ how _ _ r.ran.matches.recorded (short few) strict served;
     }

@@ -5,13 +5,14 @@ use Rattle.std.proofs.lemmas.List.{take_at, drop_at, take_all, drop_all}
 use Rattle.std.proofs.lemmas.Bool.{cases_lt}
 use Rattle.std.proofs.Math.Nat.{div-le_self}
 use Rattle.af_io.specs.Observed.{Consumed}
-use Rattle.af_request.specs.Asked.{play_run}
-use Rattle.af_lib.specs.Calls.{as_time}
-use Rattle.af_dialogue.specs.Parts.{goes_on, has_value, stops}
+use Rattle.af_toolkit.specs.Parts.{goes_on, has_value, part_among, stops}
 use Rattle.af_toolkit.specs.ToolParts.{doing}
 use Rattle.af_sound.specs.declared.head.Coding.{Coding}
 use Rattle.af_tools.specs.Sounds.{most_bytes, as_served}
-use Rattle.af_tools.specs.Play.{block_time, blocks, cut_blocks, frames_in, of_source, play_asks, plays, whole_frames}
+use Rattle.af_tools.specs.declared.pace.Course.{Course}
+use Rattle.af_tools.specs.declared.pace.Pace.{Pace}
+use Rattle.af_tools.specs.Pacing.{course_on}
+use Rattle.af_tools.specs.Play.{blocks, cut_blocks, frames_in, of_reply, of_source, plays, plays_block, whole_frames}
 
 -- a source gave exactly n bytes
 pub record ConsumedAll (count : ℕ) (before after : Option (List ℕ)) : Type 0 where
@@ -63,51 +64,51 @@ unfolding blocks
 blocks_empty size [] none = refl
 blocks_empty size (x ∷ rest) none = absurd (omega arith)
 
-module _ (coding : Option Coding) (width start frames given : ℕ) where
-  pub plays_block : (block : List ℕ) (more : List (List ℕ)) → given + length block ≤ most_bytes → 0 < length block / width →
-      plays coding width start frames given (block ∷ more)
-      ≡ goes_on doing (play_asks (play_run false 1 (block_time start frames) (as_served coding (whole_frames width block))) as_time) (λ _. plays coding width start (frames + frames_in width block) (given + length block) more)
+module _ (coding : Option Coding) (width : ℕ) (pace : Pace) (course : Course) (given : ℕ) where
+  pub plays_some : (block : List ℕ) (more : List (List ℕ)) → given + length block ≤ most_bytes → 0 < length block / width →
+      plays coding width pace course given (block ∷ more)
+      ≡ goes_on doing (part_among of_reply (plays_block pace course (as_served coding (whole_frames width block)))) (λ told. plays coding width pace (course_on pace course (frames_in width block) told) (given + length block) more)
   unfolding plays
-  plays_block block more within some =
+  plays_some block more within some =
       let fits : nat_lt most_bytes (given + length block) ≡ false = grind (arith, nat_tests) in
       let whole : nat_lt 0 (length block / width) ≡ true = grind (arith, nat_tests) in
       rw (fits, whole) refl
 
-  pub plays_last : (block : List ℕ) (more : List (List ℕ)) → given + length block ≤ most_bytes → length block / width ≡ 0 → plays coding width start frames given (block ∷ more) ≡ has_value doing frames
+  pub plays_last : (block : List ℕ) (more : List (List ℕ)) → given + length block ≤ most_bytes → length block / width ≡ 0 → plays coding width pace course given (block ∷ more) ≡ has_value doing course
   unfolding plays
   plays_last block more within none =
       let fits : nat_lt most_bytes (given + length block) ≡ false = grind (arith, nat_tests) in
       let whole : nat_lt 0 (length block / width) ≡ false = grind (arith, nat_tests) in
       rw (fits, whole) refl
 
-  pub plays_long : (block : List ℕ) (more : List (List ℕ)) → most_bytes < given + length block → plays coding width start frames given (block ∷ more) ≡ stops doing of_source
+  pub plays_long : (block : List ℕ) (more : List (List ℕ)) → most_bytes < given + length block → plays coding width pace course given (block ∷ more) ≡ stops doing of_source
   unfolding plays
   plays_long block more beyond =
       let long : nat_lt most_bytes (given + length block) ≡ true = grind (arith, nat_tests) in
       rw long refl
 
-  pub plays_none : plays coding width start frames given [] ≡ has_value doing frames
+  pub plays_none : plays coding width pace course given [] ≡ has_value doing course
   unfolding plays
   plays_none = refl
 
   -- the block that was read is played
   pub plays_next : (size : ℕ) (rest block later : List ℕ) → 0 < size → length block ≤ size → rest ≡ block ++ later → (length block < size → later ≡ []) → given + length block ≤ most_bytes → 0 < length block / width →
-      plays coding width start frames given (blocks size rest)
-      ≡ goes_on doing (play_asks (play_run false 1 (block_time start frames) (as_served coding (whole_frames width block))) as_time) (λ _. plays coding width start (frames + frames_in width block) (given + length block) (blocks size later))
+      plays coding width pace course given (blocks size rest)
+      ≡ goes_on doing (part_among of_reply (plays_block pace course (as_served coding (whole_frames width block)))) (λ told. plays coding width pace (course_on pace course (frames_in width block) told) (given + length block) (blocks size later))
   plays_next size rest block later some fits is ended within whole =
       let least = div-le_self (length block) width in
-      ap (plays coding width start frames given) (blocks_read size rest block later some (omega arith) fits is ended) ∙ plays_block block (blocks size later) within whole
+      ap (plays coding width pace course given) (blocks_read size rest block later some (omega arith) fits is ended) ∙ plays_some block (blocks size later) within whole
 
   -- fewer bytes than a frame has are left
-  pub plays_over : (size : ℕ) (rest : List ℕ) → 0 < size → length rest ≤ size → given + length rest ≤ most_bytes → length rest / width ≡ 0 → plays coding width start frames given (blocks size rest) ≡ has_value doing frames
+  pub plays_over : (size : ℕ) (rest : List ℕ) → 0 < size → length rest ≤ size → given + length rest ≤ most_bytes → length rest / width ≡ 0 → plays coding width pace course given (blocks size rest) ≡ has_value doing course
   plays_over size rest some fits within none = elim (cases_lt 0 (length rest)) [
-    | inl more ↦ ap (plays coding width start frames given) (blocks_read size rest rest [] some more fits (sym (append-nil rest)) (λ _. refl)) ∙ plays_last rest (blocks size []) within none
-    | inr no_more ↦ ap (plays coding width start frames given) (blocks_empty size rest (omega arith)) ∙ plays_none
+    | inl more ↦ ap (plays coding width pace course given) (blocks_read size rest rest [] some more fits (sym (append-nil rest)) (λ _. refl)) ∙ plays_last rest (blocks size []) within none
+    | inr no_more ↦ ap (plays coding width pace course given) (blocks_empty size rest (omega arith)) ∙ plays_none
   ]
 
   -- a block that goes beyond what is allowed
-  pub plays_beyond : (size : ℕ) (rest part later : List ℕ) → 0 < size → rest ≡ part ++ later → length part ≤ size → most_bytes < given + length part → given ≤ most_bytes → plays coding width start frames given (blocks size rest) ≡ stops doing of_source
+  pub plays_beyond : (size : ℕ) (rest part later : List ℕ) → 0 < size → rest ≡ part ++ later → length part ≤ size → most_bytes < given + length part → given ≤ most_bytes → plays coding width pace course given (blocks size rest) ≡ stops doing of_source
   plays_beyond size rest part later some is fits beyond so_far =
       let len : length rest ≡ length part + length later = ap length is ∙ length-append part later in
       let first : length part ≤ length (take size rest) = omega (arith, length-take size rest) in
-      ap (plays coding width start frames given) (blocks_some size rest some (omega arith)) ∙ plays_long (take size rest) (blocks size (drop size rest)) (omega arith)
+      ap (plays coding width pace course given) (blocks_some size rest some (omega arith)) ∙ plays_long (take size rest) (blocks size (drop size rest)) (omega arith)

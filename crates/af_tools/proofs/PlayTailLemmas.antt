@@ -4,12 +4,15 @@ use Rattle.af_io.specs.Observed.{Consumed}
 use Rattle.af_io.specs.Flow.{ConsumedWithin}
 use Rattle.af_toolkit.specs.declared.end.ToolEnd.{ToolEnd}
 use Rattle.af_toolkit.specs.declared.end.ToolEnd.TheVariants as end
-use Rattle.af_dialogue.specs.Parts.{Goes}
+use Rattle.af_toolkit.specs.Parts.{Goes}
 use Rattle.af_toolkit.specs.ToolParts.{ToolSight, tooling}
 use Rattle.af_io.proofs.ConsumedLemmas.{consumed_known, consumed_none, consumed_told}
 use Rattle.af_toolkit.proofs.ToolPartLemmas.{cut_goes}
 use Rattle.af_tools.specs.declared.fill.FillFault.{FillFault}
 use Rattle.af_tools.specs.declared.fill.FillFault.TheVariants as fill
+use Rattle.af_time.specs.declared.DevTime.{DevTime}
+use Rattle.af_tools.specs.declared.pace.Course.{Course}
+use Rattle.af_tools.specs.declared.pace.Pace.{Pace}
 use Rattle.af_tools.specs.declared.sound.SourceSound.{SourceSound}
 use Rattle.af_tools.specs.Sounds.{most_bytes, block_bytes, source_width}
 use Rattle.af_tools.specs.Reading.{fill_end, left_before, FillsBlock, IsEarlyBlock, IsFirstBlock, TakesSound}
@@ -18,14 +21,14 @@ use Rattle.af_tools.proofs.PlayStepLemmas.{play_begin, play_too_long}
 use Rattle.af_tools.proofs.SourceFrameLemmas.{some_size_of}
 
 -- the first block is not had
-pub first_unfilled : (sound : SourceSound) {block : ℕ} (start : ℕ) {bytes room : List ℕ} {gives gives' : Option (List ℕ)} {o : ToolSight} (fault : FillFault) → IsBlock sound.ty sound.channels block → sound.head ≤ most_bytes → gives ≡ Some bytes →
-    FillsBlock (block_bytes sound block) (most_bytes - sound.head) sound.length (Err fault) room gives gives' → IsSome gives' → Goes {X = ℕ} (tooling play_finish) (plays_sound sound block start bytes) (Err (fill_end fault)) o o
+pub first_unfilled : (sound : SourceSound) {block : ℕ} (pace : Pace) (told : DevTime) {bytes room : List ℕ} {gives gives' : Option (List ℕ)} {o : ToolSight} (fault : FillFault) → IsBlock sound.ty sound.channels block → sound.head ≤ most_bytes → gives ≡ Some bytes →
+    FillsBlock (block_bytes sound block) (most_bytes - sound.head) sound.length (Err fault) room gives gives' → IsSome gives' → Goes {X = Course} (tooling play_finish) (plays_sound sound block pace told bytes) (Err (fill_end fault)) o o
 unfolding plays_sound
-first_unfilled sound start fill.ReadFault b low is unfilled tells = cut_goes play_finish end.ReadFault refl
-first_unfilled sound {block} start {bytes} {gives} {gives'} fill.TooLong b low is unfilled tells =
+first_unfilled sound pace told fill.ReadFault b low is unfilled tells = cut_goes play_finish end.ReadFault refl
+first_unfilled sound {block} pace told {bytes} {gives} {gives'} fill.TooLong b low is unfilled tells =
     let width = source_width sound.coding sound.ty sound.channels in
     let some = some_size_of sound.coding sound.ty sound.channels block width b.count b.some refl in
-    play_too_long (play_begin sound block start width bytes gives refl refl is) (most_bytes - sound.head) gives' some (omega arith) (unfilled.long refl) tells
+    play_too_long (play_begin sound block pace told width bytes gives refl refl is) (most_bytes - sound.head) gives' some (omega arith) (unfilled.long refl) tells
 
 -- a block that was read early, where it could not be too long
 pub early_fault : {T : Type 0} (fault : FillFault) → (IsErrOf {T = T} (Err fault) fill.TooLong → ⊥) → IsErrOf {T = T} (Err fault) fill.ReadFault × (fill_end fault ≡ end.ReadFault)

@@ -1,5 +1,5 @@
 -- Blocks that are recorded, one after the other, and what is left of recording once a device's time was told.
-use Rattle.std.proofs.Common.{◌≡◌, ◌≢◌, ℕ, suc, ◌+◌, ◌-◌, ◌*◌, ◌/◌, ◌%◌, ◌^◌, ◌<◌, ◌≤◌, ◌==◌, min, max, nat_lt, unsigned_abs, Bool, ℤ, map, true, false, List, [], ◌∷◌, ◌++◌, length, sym, ap, ap₂, ◌∙◌, subst, refl, arith, inl, inr, if◌then◌else◌, Ok, Err, Result, Option, None, Some}
+use Rattle.std.proofs.Common.{◌≡◌, ◌≢◌, ℕ, suc, ◌+◌, ◌-◌, ◌*◌, ◌/◌, ◌%◌, ◌^◌, ◌<◌, ◌≤◌, ◌==◌, min, max, nat_lt, unsigned_abs, ◌||◌, Bool, ℤ, map, true, false, List, [], ◌∷◌, ◌++◌, length, sym, ap, ap₂, ◌∙◌, subst, refl, arith, inl, inr, if◌then◌else◌, Ok, Err, Result, Option, None, Some}
 use Rattle.std.proofs.lemmas.Bool.Decides.{nat_tests}
 use Rattle.std.proofs.lemmas.Bool.{cases_lt}
 use Rattle.std.proofs.lemmas.List.{map-append}
@@ -12,8 +12,8 @@ use Rattle.af_sample.specs.SampleTypes.{frame_bytes, width_of}
 use Rattle.af_sample.specs.Samples.{decoded, piece, samples}
 use Rattle.af_toolkit.specs.declared.end.ToolEnd.{ToolEnd}
 use Rattle.af_cli.specs.declared.job.RecordJob.{RecordJob}
-use Rattle.af_dialogue.specs.Parts.{Goes, goes_on, has_value}
-use Rattle.af_dialogue.proofs.PartLemmas.{Reached, goes_stop, goes_value, reached_goes, reached_here, reached_on}
+use Rattle.af_toolkit.specs.Parts.{Goes, goes_on, has_value}
+use Rattle.af_toolkit.proofs.PartLemmas.{Reached, goes_stop, goes_value, reached_goes, reached_here, reached_on}
 use Rattle.af_toolkit.specs.Trace.{refused}
 use Rattle.af_toolkit.specs.ToolParts.{ToolPart, ToolSight, doing, tooling}
 use Rattle.af_sound.specs.declared.head.Coding.{Coding}
@@ -22,16 +22,19 @@ use Rattle.af_sample.specs.Channels.{IsChannelCount}
 use Rattle.af_cli.specs.Sizes.{block_frames}
 use Rattle.af_cli.proofs.FrameSizeLemmas.{frame_size, some_frames}
 use Rattle.af_tools.specs.declared.record.RecordedSound.{RecordedSound}
-use Rattle.af_tools.specs.Record.{IsFiledAs, block_lengths, ends_row, greatest_of, peak, recorded_frame, records, records_all, row_below, takes_block}
+use Rattle.af_tools.specs.declared.record.Recording.{Recording}
+use Rattle.af_tools.specs.declared.record.TakenBlock.{TakenBlock}
+use Rattle.af_tools.specs.Record.{IsFiledAs, block_lengths, ends_row, greatest_of, nothing_recorded, peak, recorded_frame, recording_on, records, records_all, row_below, takes_block}
 use Rattle.af_tools.specs.Sounds.{AreWhole}
 use Rattle.af_toolkit.proofs.ToolPartLemmas.{is_tool}
 
 -- n frames are left to be recorded, after a row of so many quiet blocks
-pub record IsRecording (part : ToolPart ℕ) (job : RecordJob) (sound : RecordedSound) (block at frames row : ℕ) (o p : ToolSight) : Type 0 where
+pub record IsRecording (part : ToolPart Recording) (job : RecordJob) (sound : RecordedSound) (block at frames row : ℕ) (lost : Bool) (o p : ToolSight) : Type 0 where
   pub peaks : List ℕ
-  pub before : ℕ
+  pub before : Recording
   pub is_row : row ≡ row_below job.stop_peak peaks
-  pub is_before : before + frames ≡ job.frames
+  pub is_before : before.frames + frames ≡ job.frames
+  pub is_lost : lost ≡ before.lost
   pub reached : Reached (tooling refused) part (records job sound at before peaks (block_lengths block frames)) o p
 
 lengths_none : (block : ℕ) → block_lengths block 0 ≡ []
@@ -85,23 +88,27 @@ pub peak_whole : (ty : SampleType) (bytes : List ℕ) → greatest_of (map unsig
 unfolding peak samples
 peak_whole ty bytes = refl
 
--- what follows a block with this peak, which ends a row of quiet ones or not
-abbrev after_block : RecordJob → RecordedSound → (block at n before frames : ℕ) (peaks : List ℕ) → Bool → (p : ℕ) → ToolPart ℕ
-after_block job sound block at n before frames peaks ends p =
-    if ends then has_value doing (before + n) else records job sound ((at + n) % 2 ^ 32) (before + n) (p ∷ peaks) (block_lengths block frames)
+-- so much was recorded
+abbrev pub so_much : ℕ → Bool → Recording
+so_much frames lost = record { frames = frames; lost = lost }
 
-module _ {part : ToolPart ℕ} {job : RecordJob} {sound : RecordedSound} {block at frames row : ℕ} {o p : ToolSight} (r : IsRecording part job sound block at frames row o p) (some : 0 < block) where
+-- what follows a block, which ends a row of quiet ones or not
+abbrev after_block : RecordJob → RecordedSound → (block at n : ℕ) (before : Recording) (frames : ℕ) (peaks : List ℕ) → Bool → TakenBlock → ToolPart Recording
+after_block job sound block at n before frames peaks ends x =
+    if ends then has_value doing (recording_on before n x) else records job sound ((at + n) % 2 ^ 32) (recording_on before n x) (x.peak ∷ peaks) (block_lengths block frames)
+
+module _ {part : ToolPart Recording} {job : RecordJob} {sound : RecordedSound} {block at frames row : ℕ} {lost : Bool} {o p : ToolSight} (r : IsRecording part job sound block at frames row lost o p) (some : 0 < block) where
   -- none is left
-  pub record_done : frames ≡ 0 → Goes (tooling refused) part (Ok job.frames) o p
+  pub record_done : frames ≡ 0 → Goes (tooling refused) part (Ok (so_much job.frames lost)) o p
   unfolding records
   record_done none =
-      let all : r.before ≡ job.frames = omega (arith, r.is_before) in
+      let all : r.before.frames ≡ job.frames = omega (arith, r.is_before) in
       let over : block_lengths block frames ≡ [] = ap (block_lengths block) none ∙ lengths_none block in
-      rw (← all) (reached_goes is_tool _ r.reached (rw over (goes_value is_tool _)))
+      subst (λ (x : Recording). Goes (tooling refused) part (Ok x) o p) (ap₂ so_much all (sym r.is_lost)) (reached_goes is_tool _ r.reached (rw over (goes_value is_tool _)))
 
   module _ (more : 0 < frames) {n size : ℕ} (is_least : n ≡ min frames block) (is_size : size ≡ n * recorded_frame sound) where
-    abbrev after_one_block : ℕ → ToolPart ℕ
-    after_one_block x = after_block job sound block at n r.before (frames - n) r.peaks (ends_row job (x ∷ r.peaks)) x
+    abbrev after_one_block : TakenBlock → ToolPart Recording
+    after_one_block x = after_block job sound block at n r.before (frames - n) r.peaks (ends_row job (x.peak ∷ r.peaks)) x
 
     next_block : records job sound at r.before r.peaks (block_lengths block frames) ≡ goes_on doing (takes_block sound at size) after_one_block
     unfolding records
@@ -109,32 +116,35 @@ module _ {part : ToolPart ℕ} {job : RecordJob} {sound : RecordedSound} {block 
 
     module _ {q : ToolSight} where
       -- the tool ended within the block
-      pub record_stopped : {how : ToolEnd} {result : Result ℕ ToolEnd} → result ≡ Err how → Goes {X = ℕ} (tooling refused) (takes_block sound at size) (Err how) p q → Goes (tooling refused) part result o q
+      pub record_stopped : {how : ToolEnd} {result : Result Recording ToolEnd} → result ≡ Err how → Goes {X = TakenBlock} (tooling refused) (takes_block sound at size) (Err how) p q → Goes (tooling refused) part result o q
       record_stopped same goes = reached_goes is_tool _ r.reached (rw next_block (goes_stop is_tool after_one_block same goes))
 
-      module _ {x : ℕ} (goes : Goes (tooling refused) (takes_block sound at size) (Ok x) p q) {row' : ℕ} (is_row : row' ≡ (if nat_lt x job.stop_peak then row + 1 else 0)) where
-        row_grown : row' ≡ row_below job.stop_peak (x ∷ r.peaks)
-        row_grown = is_row ∙ ap (λ (k : ℕ). if nat_lt x job.stop_peak then k else 0) (ap (λ (k : ℕ). k + 1) r.is_row ∙ (let e : row_below job.stop_peak r.peaks + 1 ≡ suc (row_below job.stop_peak r.peaks) = omega arith in e))
+      module _ {x : TakenBlock} (goes : Goes (tooling refused) (takes_block sound at size) (Ok x) p q) {row' : ℕ} (is_row : row' ≡ (if nat_lt x.peak job.stop_peak then row + 1 else 0)) {lost' : Bool} (more_lost : lost' ≡ (lost || x.lost)) where
+        row_grown : row' ≡ row_below job.stop_peak (x.peak ∷ r.peaks)
+        row_grown = is_row ∙ ap (λ (k : ℕ). if nat_lt x.peak job.stop_peak then k else 0) (ap (λ (k : ℕ). k + 1) r.is_row ∙ (let e : row_below job.stop_peak r.peaks + 1 ≡ suc (row_below job.stop_peak r.peaks) = omega arith in e))
 
-        decided : {b : Bool} → ends_row job (x ∷ r.peaks) ≡ b → Reached (tooling refused) part (after_block job sound block at n r.before (frames - n) r.peaks b x) o q
+        lost_grown : lost' ≡ (r.before.lost || x.lost)
+        lost_grown = more_lost ∙ ap (λ (b : Bool). b || x.lost) r.is_lost
+
+        decided : {b : Bool} → ends_row job (x.peak ∷ r.peaks) ≡ b → Reached (tooling refused) part (after_block job sound block at n r.before (frames - n) r.peaks b x) o q
         decided is =
             subst (λ (b : Bool). Reached (tooling refused) part (after_block job sound block at n r.before (frames - n) r.peaks b x) o q) is (reached_on is_tool after_one_block (rw next_block at r.reached) goes)
 
         -- the block ends a row of quiet ones
-        pub record_quiet : job.stop_blocks ≤ row' → {all : ℕ} → all ≡ job.frames - (frames - n) → Goes (tooling refused) part (Ok all) o q
+        pub record_quiet : job.stop_blocks ≤ row' → {all : ℕ} → all ≡ job.frames - (frames - n) → Goes (tooling refused) part (Ok (so_much all lost')) o q
         record_quiet long {all} is_all =
-            let sum : r.before + n ≡ all = omega (arith, r.is_before) in
-            let ends : ends_row job (x ∷ r.peaks) ≡ true = rw (← row_grown) (grind (arith, nat_tests)) in
-            rw (← sum) (reached_goes is_tool _ (decided ends) (goes_value is_tool _))
+            let sum : r.before.frames + n ≡ all = omega (arith, r.is_before) in
+            let ends : ends_row job (x.peak ∷ r.peaks) ≡ true = rw (← row_grown) (grind (arith, nat_tests)) in
+            subst (λ (y : Recording). Goes (tooling refused) part (Ok y) o q) (ap₂ so_much sum (sym lost_grown)) (reached_goes is_tool _ (decided ends) (goes_value is_tool _))
 
         -- recording goes on
-        pub record_on : row' < job.stop_blocks → {at' : ℕ} → at' ≡ (at + n) % 2 ^ 32 → IsRecording part job sound block at' (frames - n) row' o q
+        pub record_on : row' < job.stop_blocks → {at' : ℕ} → at' ≡ (at + n) % 2 ^ 32 → IsRecording part job sound block at' (frames - n) row' lost' o q
         record_on short place =
-            let more : ends_row job (x ∷ r.peaks) ≡ false = rw (← row_grown) (grind (arith, nat_tests)) in
-            record { peaks = x ∷ r.peaks; before = r.before + n; is_row = row_grown; is_before = omega (arith, r.is_before); reached = rw place (decided more) }
+            let more : ends_row job (x.peak ∷ r.peaks) ≡ false = rw (← row_grown) (grind (arith, nat_tests)) in
+            record { peaks = x.peak ∷ r.peaks; before = recording_on r.before n x; is_row = row_grown; is_before = (let more : r.before.frames + n + (frames - n) ≡ job.frames = omega (arith, r.is_before) in more); is_lost = lost_grown; reached = rw place (decided more) }
 
-pub record_begin : (job : RecordJob) (sound : RecordedSound) {block : ℕ} (start : ℕ) {o : ToolSight} → block ≡ block_frames job.block (recorded_frame sound) → IsRecording (records_all job sound start) job sound block start job.frames 0 o o
-record_begin job sound start same = record { peaks = []; before = 0; is_row = refl; is_before = omega arith; reached = rw same (reached_here is_tool) }
+pub record_begin : (job : RecordJob) (sound : RecordedSound) {block : ℕ} (start : ℕ) {o : ToolSight} → block ≡ block_frames job.block (recorded_frame sound) → IsRecording (records_all job sound start) job sound block start job.frames 0 false o o
+record_begin job sound start same = record { peaks = []; before = nothing_recorded; is_row = refl; is_before = (let all : 0 + job.frames ≡ job.frames = omega arith in all); is_lost = refl; reached = rw same (reached_here is_tool) }
 
 -- a block has a frame
 pub some_recorded : (sound : RecordedSound) (asked : ℕ) → IsChannelCount sound.channels → 1 ≤ asked → 1 ≤ block_frames asked (recorded_frame sound)

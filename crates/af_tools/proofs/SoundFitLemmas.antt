@@ -1,5 +1,5 @@
 -- A file and its device, which fit each other or do not.
-use Rattle.std.proofs.Common.{◌≡◌, ◌≢◌, ◌≤◌, ◌==◌, ℕ, Bool, true, false, nat_lt, List, take, drop, refl, ap, ◌∙◌, sym, arith, inl, inr, if◌then◌else◌, Result, Ok, Err, Option, None, Some}
+use Rattle.std.proofs.Common.{◌≡◌, ◌≤◌, ◌==◌, ℕ, Bool, true, false, nat_lt, List, take, drop, refl, ap, ◌∙◌, sym, arith, inl, inr, if◌then◌else◌, Result, Ok, Err, Option, None, Some}
 use Rattle.std.proofs.lemmas.List.{take-append-drop}
 use Rattle.std.proofs.lemmas.Bool.Decides.{nat_tests}
 use Rattle.af_sound.specs.declared.head.HeadStep.{HeadStep}
@@ -11,9 +11,10 @@ use Rattle.af_sound.proofs.FrontLemmas.{front, front_is_head}
 use Rattle.af_request.specs.declared.reply.DeviceInfo.{DeviceInfo}
 use Rattle.af_cli.specs.declared.job.PlayJob.{PlayJob}
 use Rattle.af_toolkit.specs.declared.end.ToolEnd.{ToolEnd}
-use Rattle.af_dialogue.specs.Parts.{end_among}
-use Rattle.af_toolkit.specs.Trace.{Trace, Finish, channel_mismatch, done, mismatch, tool_end, too_long, trace_by, value_by}
+use Rattle.af_toolkit.specs.Parts.{end_among}
+use Rattle.af_toolkit.specs.Trace.{Trace, Finish, channel_mismatch, mismatch, tool_end, too_long, trace_by, value_by}
 use Rattle.af_toolkit.specs.Ends.{ObservedTrace}
+use Rattle.af_toolkit.proofs.ToolEndLemmas.{IsToEnd}
 use Rattle.af_toolkit.proofs.ToolPartLemmas.{followed_end, followed_early}
 use Rattle.af_tools.specs.declared.sound.SourceSound.{SourceSound}
 use Rattle.af_tools.specs.Sounds.{most_bytes, as_served, file_sound, fits_device, header_or_end, reads_file, reads_sound, stated_part, GivesSamples, IsServedAs}
@@ -56,7 +57,7 @@ pub record SoundRead (form : Option SoundForm) (job : PlayJob) (device : DeviceI
 -- what a tool makes of its source: a sound, or an end for the source or the device
 abbrev IsSound : Option SoundForm → PlayJob → DeviceInfo → List ℕ → Result (SourceSound × List ℕ) Finish → Type 0
 IsSound form job device bytes (Ok given) = SoundRead form job device bytes given.0 given.1
-IsSound form job device bytes (Err finish) = finish ≢ done
+IsSound form job device bytes (Err finish) = IsToEnd finish → ⊥
 
 is_sound : (form : Option SoundForm) (job : PlayJob) (device : DeviceInfo) (bytes : List ℕ) → IsSound form job device bytes (reads_sound form job device bytes)
 is_sound None job device bytes = record { gives = (refl, refl); served = tt; channels = refl }
@@ -81,16 +82,16 @@ is_sound (Some form) job device bytes = by (nat_lt most_bytes (front_of form byt
   by false (step.Bad f) said = λ e. cc
   by false step.More said = λ e. cc
 
--- a tool that is done has read a sound
+-- a tool that did all has read a sound
 pub record SoundDone (form : Option SoundForm) (job : PlayJob) (device : DeviceInfo) (bytes : List ℕ) : Type 0 where
   pub sound : SourceSound
   pub rest : List ℕ
   pub is : reads_sound form job device bytes ≡ Ok (sound, rest)
   pub read : SoundRead form job device bytes sound rest
 
-pub sound_done : (form : Option SoundForm) (job : PlayJob) (device : DeviceInfo) (bytes : List ℕ) (next : SourceSound × List ℕ → Trace) → (trace_by (reads_sound form job device bytes) next).finish ≡ done → SoundDone form job device bytes
+pub sound_done : (form : Option SoundForm) (job : PlayJob) (device : DeviceInfo) (bytes : List ℕ) (next : SourceSound × List ℕ → Trace) → IsToEnd (trace_by (reads_sound form job device bytes) next).finish → SoundDone form job device bytes
 sound_done form job device bytes next = by (reads_sound form job device bytes) refl (is_sound form job device bytes) where
-  by : (wanted : Result (SourceSound × List ℕ) Finish) → reads_sound form job device bytes ≡ wanted → IsSound form job device bytes wanted → (trace_by wanted next).finish ≡ done → SoundDone form job device bytes
+  by : (wanted : Result (SourceSound × List ℕ) Finish) → reads_sound form job device bytes ≡ wanted → IsSound form job device bytes wanted → IsToEnd (trace_by wanted next).finish → SoundDone form job device bytes
   by (Ok given) is read way = record { sound = given.0; rest = given.1; is = is; read = read }
   by (Err finish) is other way = absurd (other way)
 

@@ -1,5 +1,5 @@
 -- How much of a source was given, how much of a sound is left, and what aplay made of its source.
-use Rattle.std.proofs.Common.{arith, inl, inr, ◌⊎◌, ◌≡◌, ◌≤◌, ◌<◌, ◌+◌, ◌-◌, ◌/◌, ◌*◌, ℕ, List, [], ◌++◌, length, take, refl, sym, ap, ◌∙◌, subst, IsErrOf, length-append, length-take-le, true, Result, Ok, Err, Option, None, Some}
+use Rattle.std.proofs.Common.{arith, inl, inr, ◌⊎◌, ◌≡◌, ◌≤◌, ◌<◌, ◌+◌, ◌-◌, ◌/◌, ◌*◌, ℕ, List, [], ◌++◌, length, take, refl, sym, ap, ◌∙◌, subst, IsErrOf, Bool, length-append, length-take-le, true, Result, Ok, Err, Option, None, Some}
 use Rattle.std.proofs.Math.Nat.{div-lt_iff_lt-mul, div-mul-le_self}
 use Rattle.af_io.specs.Observed.{Consumed, CountsFault, FaultCounted}
 use Rattle.af_toolkit.specs.declared.end.ToolEnd.{ToolEnd}
@@ -9,11 +9,11 @@ use Rattle.af_tools.specs.declared.fill.FillFault.TheVariants as fill
 use Rattle.af_sound.specs.declared.head.SoundForm.{SoundForm}
 use Rattle.af_io.specs.Flow.{ConsumedTooMuch, ConsumedWithin, IsSpent}
 use Rattle.af_tools.specs.Sounds.{most_bytes, stated_after, FitsStated}
-use Rattle.af_tools.specs.Reading.{fill_end, left_before, ConsumedHead, ConsumedSound, FillsBlock, HeadIs, IsFirstBlock, TakesSound, UsesSource, is_of_sound, EndShows, is_of_blocks}
+use Rattle.af_tools.specs.Reading.{fill_end, left_before, ConsumedHead, ConsumedSound, FillsBlock, HeadIs, IsFirstBlock, TakesSound, UsesSource, is_of_sound, EndShows, is_of_blocks, is_of_played}
 use Rattle.af_io.proofs.ConsumedLemmas.{consumed_none, consumed_on}
-use Rattle.af_tools.proofs.EndLemmas.{err_of, of_err, never}
+use Rattle.af_tools.proofs.EndLemmas.{err_of, of_err, never, not_all}
 use Rattle.af_tools.proofs.PlayBlockLemmas.{ConsumedAll}
-use Rattle.af_toolkit.specs.Ends.{is_of_link, is_of_report}
+use Rattle.af_toolkit.specs.Ends.{is_of_link}
 
 -- what was given so far, and a block more
 pub given_on : {room allowed n given : ℕ} {len : Option ℕ} {block : List ℕ} {a b c : Option (List ℕ)} → ConsumedAll given a b → IsFirstBlock room allowed len n block b c → n ≤ length block → ConsumedAll (given + n) a c
@@ -170,19 +170,19 @@ counted_before k m below p counted = omega arith
 
 module _ {S X : Type 0} (left : S → Option (List ℕ)) (faults : S → ℕ) {form : Option SoundForm} (how : ToolEnd) {source middle source' : S} {n : ℕ} {len : Option ℕ} (h : ConsumedHead form n len (left source) (left middle)) (count : faults source ≤ faults middle) where
   -- the sound was played, and that was written or not
-  pub played_use : {x : X} → TakesSound len (most_bytes - n) (Ok x) (left middle) (left source') → faults middle ≤ faults source' → is_of_report how ≡ true → UsesSource left faults true form how source source'
-  played_use t counts is = record {
+  pub played_use : (strict : Bool) {x : X} → TakesSound len (most_bytes - n) (Ok x) (left middle) (left source') → faults middle ≤ faults source' → is_of_played strict how ≡ true → UsesSource left faults true form how source source'
+  played_use strict t counts is = record {
     untouched = λ e. cc e;
-    memory = λ same. absurd (never is_of_report how end.OutOfMemory is refl same);
-    unfound = λ n same. absurd (never is_of_report how (end.NoDevice n) is refl same);
+    memory = λ same. absurd (never (is_of_played strict) how end.OutOfMemory is refl same);
+    unfound = λ n same. absurd (never (is_of_played strict) how (end.NoDevice n) is refl same);
     spent = λ _ _. sound_spent h t;
     shows = record {
-      long = λ same. absurd (never is_of_report how end.TooLong is refl same);
+      long = λ same. absurd (never (is_of_played strict) how end.TooLong is refl same);
       within = λ _. head_within h t (λ bad. cc bad);
-      bad = λ f same. absurd (never is_of_report how (end.BadSound f) is refl same);
-      cut = λ same. absurd (never is_of_report how end.SoundCut is refl same);
+      bad = λ f same. absurd (never (is_of_played strict) how (end.BadSound f) is refl same);
+      cut = λ same. absurd (never (is_of_played strict) how end.SoundCut is refl same);
     };
-    failed = (omega arith, λ same. absurd (never is_of_report how end.ReadFault is refl same));
+    failed = (omega arith, λ same. absurd (never (is_of_played strict) how end.ReadFault is refl same));
   }
 
   -- the tool ended within the sound
@@ -193,7 +193,7 @@ module _ {S X : Type 0} (left : S → Option (List ℕ)) (faults : S → ℕ) {f
         untouched = λ e. cc e;
         memory = λ same. absurd (never is_of_blocks how end.OutOfMemory is refl same);
         unfound = λ n same. absurd (never is_of_blocks how (end.NoDevice n) is refl same);
-        spent = λ same _. absurd (never is_of_blocks how end.Done is refl same);
+        spent = λ same _. absurd (not_all is_of_blocks how is refl refl same);
         shows = record {
           long = λ same. head_beyond h t (err_of how end.TooLong same);
           within = λ other. head_within h t (λ bad. other (of_err how end.TooLong bad));
@@ -210,7 +210,7 @@ unsound_use left faults how t counts is = record {
   untouched = λ e. cc e;
   memory = λ same. absurd (never is_of_sound how end.OutOfMemory is refl same);
   unfound = λ n same. absurd (never is_of_sound how (end.NoDevice n) is refl same);
-  spent = λ same _. absurd (never is_of_sound how end.Done is refl same);
+  spent = λ same _. absurd (not_all is_of_sound how is refl refl same);
   shows = record {
     long = λ same. t.long (err_of how end.TooLong same);
     within = λ other. t.within (λ bad. other (of_err how end.TooLong bad));

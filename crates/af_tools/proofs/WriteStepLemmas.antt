@@ -17,8 +17,8 @@ use Rattle.af_cli.specs.Sizes.{block_frames}
 use Rattle.af_sound.specs.declared.head.SoundForm.{SoundForm}
 use Rattle.af_sound.specs.declared.head.SoundForm.TheVariants.{Au, Wave}
 use Rattle.af_time.specs.declared.DevTime.{DevTime}
-use Rattle.af_dialogue.specs.Parts.{Goes, Outcome, answered, followed, goes_on, has_value}
-use Rattle.af_dialogue.proofs.PartLemmas.{Reached, goes_value, reached_goes, reached_here, reached_on}
+use Rattle.af_toolkit.specs.Parts.{Goes, Outcome, answered, followed, goes_on, has_value}
+use Rattle.af_toolkit.proofs.PartLemmas.{Reached, goes_value, reached_goes, reached_here, reached_on}
 use Rattle.af_toolkit.specs.declared.end.ToolEnd.{ToolEnd}
 use Rattle.af_toolkit.specs.declared.end.ToolEnd.TheVariants as end
 use Rattle.af_toolkit.specs.Trace.{ClientState, after_reply, answer_on, refused}
@@ -28,7 +28,10 @@ use Rattle.af_toolkit.specs.Steps.{WroteThrough}
 use Rattle.af_toolkit.proofs.ToolPartLemmas.{is_tool}
 use Rattle.af_toolkit.proofs.StepLemmas.{wrote, wrote_on, wrote_then}
 use Rattle.af_tools.specs.declared.record.RecordedSound.{RecordedSound}
-use Rattle.af_tools.specs.Record.{as_filed, block_lengths, ends_row, front_of_recording, pad_after, peak, record_context, recorded_frame, recorded_sound, records, row_below, takes_block}
+use Rattle.af_tools.specs.declared.record.Recording.{Recording}
+use Rattle.af_tools.specs.declared.record.TakenBlock.{TakenBlock}
+use Rattle.af_toolkit.specs.Lost.{had_left}
+use Rattle.af_tools.specs.Record.{as_filed, block_lengths, ends_row, front_of_recording, nothing_recorded, pad_after, peak, record_context, recorded_frame, recorded_sound, recording_on, records, row_below, takes_block}
 use Rattle.af_tools.specs.RecordSteps.{FrontOfRequest, RecordsInStep, WritesInStep, job_lengths, records_before, writes_blocks}
 use Rattle.af_tools.proofs.RecordBlockLemmas.{lengths_some}
 
@@ -38,21 +41,21 @@ no_request = (Big, free_ac 1, request_bytes Big (free_ac 1), refl)
 -- Blocks of these lengths were recorded and written, and n frames are left: whatever blocks follow, recording goes on from here.
 pub record IsTaken (job : RecordJob) (sound : RecordedSound) (start block at frames row : ℕ) (o p : ToolSight) : Type 0 where
   pub peaks : List ℕ
-  pub before : ℕ
+  pub before : Recording
   pub is_row : row ≡ row_below job.stop_peak peaks
   pub taken : List ℕ
   pub blocks : block_lengths block job.frames ≡ taken ++ block_lengths block frames
-  pub reached : (others : List ℕ) → Reached (tooling refused) (records job sound start 0 [] (taken ++ others)) (records job sound at before peaks others) o p
+  pub reached : (others : List ℕ) → Reached (tooling refused) (records job sound start nothing_recorded [] (taken ++ others)) (records job sound at before peaks others) o p
 
 pub taken_begin : (job : RecordJob) (sound : RecordedSound) (start block : ℕ) {o : ToolSight} → IsTaken job sound start block start job.frames 0 o o
-taken_begin job sound start block = record { peaks = []; before = 0; is_row = refl; taken = []; blocks = refl; reached = λ others. reached_here is_tool }
+taken_begin job sound start block = record { peaks = []; before = nothing_recorded; is_row = refl; taken = []; blocks = refl; reached = λ others. reached_here is_tool }
 
 -- what a block sends is its request
 block_sends : (sound : RecordedSound) (at size : ℕ) (w : ClientState) → (takes_block sound at size w).did.sends ≡ request_bytes w.order (record_run true 1 at size)
 unfolding goes_on asks
 block_sends sound at size w = by (answer_on (record_run true 1 at size) (as_recorded true size) w) where
   by : (answer : Result Recorded ConnFault) → (followed doing (let d : ToolDeeds = record { sends = request_bytes w.order (record_run true 1 at size); output = [] } in d) (answered answer (after_reply w))
-      (λ y. goes_on doing (writes (as_filed sound.coding y.0.samples)) (λ _. has_value doing (peak sound.ty y.0.samples)) y.1)).did.sends ≡ request_bytes w.order (record_run true 1 at size)
+      (λ y. goes_on doing (writes (as_filed sound.coding y.0.samples)) (λ _. has_value doing (let x : TakenBlock = record { peak = peak sound.ty y.0.samples; lost = had_left sound.horizon at y.0.time.0 } in x)) y.1)).did.sends ≡ request_bytes w.order (record_run true 1 at size)
   by (Ok r) = append-nil (request_bytes w.order (record_run true 1 at size))
   by (Err f) = refl
 
@@ -67,21 +70,21 @@ block_cut sound at size {v = v} g stands =
       c.0.output,
       elim c.1 [
         | inl outer ↦ (v.order, record_run true 1 at size, outer.1.0.sends, sym sends ∙ ap (λ (d : ToolDeeds). d.sends) outer.1.1)
-        | inr ended ↦ (v.order, record_run true 1 at size, [], sym sends ∙ ap (λ (b : Outcome ToolDeeds (ℕ × ClientState) ConnFault). b.did.sends) ended.2 ∙ sym (append-nil c.0.sends))
+        | inr ended ↦ (v.order, record_run true 1 at size, [], sym sends ∙ ap (λ (b : Outcome ToolDeeds (TakenBlock × ClientState) ConnFault). b.did.sends) ended.2 ∙ sym (append-nil c.0.sends))
       ],
       c.2.0,
       c.2.1,
     )
 
 module _ {job : RecordJob} {sound : RecordedSound} {start block at frames row : ℕ} {o p : ToolSight} (t : IsTaken job sound start block at frames row o p) {w : ClientState} (stands : IsClientOf o.link w) where
-  taken_goes : Goes (tooling refused) (records job sound start 0 [] t.taken) (Ok t.before) o p
+  taken_goes : Goes (tooling refused) (records job sound start nothing_recorded [] t.taken) (Ok t.before) o p
   unfolding records
   taken_goes =
-      let r = subst (λ (l : List ℕ). Reached (tooling refused) (records job sound start 0 [] l) (records job sound at t.before t.peaks []) o p) (append-nil t.taken) (t.reached []) in
+      let r = subst (λ (l : List ℕ). Reached (tooling refused) (records job sound start nothing_recorded [] l) (records job sound at t.before t.peaks []) o p) (append-nil t.taken) (t.reached []) in
       reached_goes is_tool _ r (goes_value is_tool _)
 
   -- all blocks were recorded
-  pub taken_all : {failed : Type 0} → (s : WritesInStep (block_lengths block job.frames) (records job sound start 0 []) w failed o.link.sent p.link.sent o.held p.held) × (s.asked ≡ []) × (s.written ≡ [])
+  pub taken_all : {failed : Type 0} → (s : WritesInStep (block_lengths block job.frames) (records job sound start nothing_recorded []) w failed o.link.sent p.link.sent o.held p.held) × (s.asked ≡ []) × (s.written ≡ [])
   taken_all = (
     record {
       taken = t.taken;
@@ -99,7 +102,7 @@ module _ {job : RecordJob} {sound : RecordedSound} {start block at frames row : 
 
   -- the next one was not
   pub taken_cut : {failed : Type 0} (size : ℕ) {how : ToolEnd} {q : ToolSight} → Goes (tooling refused) (takes_block sound at size) (Err how) p q → (failed ⊎ (Appended p.held [] q.held)) →
-      WritesInStep (block_lengths block job.frames) (records job sound start 0 []) w failed o.link.sent q.link.sent o.held q.held
+      WritesInStep (block_lengths block job.frames) (records job sound start nothing_recorded []) w failed o.link.sent q.link.sent o.held q.held
   taken_cut {failed} size {q = q} goes cause =
       let c = taken_goes.came w stands in
       let cut = block_cut sound at size goes c.1 in
@@ -128,37 +131,37 @@ module _ {job : RecordJob} {sound : RecordedSound} {start block at frames row : 
       ]
 
 module _ {job : RecordJob} {sound : RecordedSound} {start block at frames row : ℕ} {o p : ToolSight} (t : IsTaken job sound start block at frames row o p) (some : 0 < block) (more : 0 < frames) {n size : ℕ} (is_least : n ≡ min frames block) (is_size : size ≡ n * recorded_frame sound)
-    {x : ℕ} {q : ToolSight} (goes : Goes (tooling refused) (takes_block sound at size) (Ok x) p q) {row' : ℕ} (is_row : row' ≡ (if nat_lt x job.stop_peak then row + 1 else 0)) where
-  abbrev block_more : List ℕ → Bool → ℕ → ToolPart ℕ
-  block_more others ends x = if ends then has_value doing (t.before + n) else records job sound ((at + n) % 2 ^ 32) (t.before + n) (x ∷ t.peaks) others
+    {x : TakenBlock} {q : ToolSight} (goes : Goes (tooling refused) (takes_block sound at size) (Ok x) p q) {row' : ℕ} (is_row : row' ≡ (if nat_lt x.peak job.stop_peak then row + 1 else 0)) where
+  abbrev block_more : List ℕ → Bool → TakenBlock → ToolPart Recording
+  block_more others ends x = if ends then has_value doing (recording_on t.before n x) else records job sound ((at + n) % 2 ^ 32) (recording_on t.before n x) (x.peak ∷ t.peaks) others
 
-  taken_next : (others : List ℕ) {b : Bool} → ends_row job (x ∷ t.peaks) ≡ b → Reached (tooling refused) (records job sound start 0 [] ((t.taken ++ (n ∷ [])) ++ others)) (block_more others b x) o q
+  taken_next : (others : List ℕ) {b : Bool} → ends_row job (x.peak ∷ t.peaks) ≡ b → Reached (tooling refused) (records job sound start nothing_recorded [] ((t.taken ++ (n ∷ [])) ++ others)) (block_more others b x) o q
   unfolding records
   taken_next others is =
-      let first : records job sound at t.before t.peaks (n ∷ others) ≡ goes_on doing (takes_block sound at size) (λ x. block_more others (ends_row job (x ∷ t.peaks)) x) = rw is_size refl in
-      let r = subst (λ (l : List ℕ). Reached (tooling refused) (records job sound start 0 [] l) (goes_on doing (takes_block sound at size) (λ x. block_more others (ends_row job (x ∷ t.peaks)) x)) o p) (sym (append_assoc t.taken (n ∷ []) others)) (rw first at (t.reached (n ∷ others))) in
-      subst (λ (b : Bool). Reached (tooling refused) (records job sound start 0 [] ((t.taken ++ (n ∷ [])) ++ others)) (block_more others b x) o q) is (reached_on is_tool (λ x. block_more others (ends_row job (x ∷ t.peaks)) x) r goes)
+      let first : records job sound at t.before t.peaks (n ∷ others) ≡ goes_on doing (takes_block sound at size) (λ x. block_more others (ends_row job (x.peak ∷ t.peaks)) x) = rw is_size refl in
+      let r = subst (λ (l : List ℕ). Reached (tooling refused) (records job sound start nothing_recorded [] l) (goes_on doing (takes_block sound at size) (λ x. block_more others (ends_row job (x.peak ∷ t.peaks)) x)) o p) (sym (append_assoc t.taken (n ∷ []) others)) (rw first at (t.reached (n ∷ others))) in
+      subst (λ (b : Bool). Reached (tooling refused) (records job sound start nothing_recorded [] ((t.taken ++ (n ∷ [])) ++ others)) (block_more others b x) o q) is (reached_on is_tool (λ x. block_more others (ends_row job (x.peak ∷ t.peaks)) x) r goes)
 
   more_blocks : block_lengths block job.frames ≡ (t.taken ++ (n ∷ [])) ++ block_lengths block (frames - n)
   more_blocks =
       t.blocks ∙ ap (λ (l : List ℕ). t.taken ++ l) (lengths_some block frames some more ∙ ap (λ (k : ℕ). k ∷ block_lengths block (frames - k)) (sym is_least)) ∙ sym (append_assoc t.taken (n ∷ []) (block_lengths block (frames - n)))
 
-  grown : row' ≡ row_below job.stop_peak (x ∷ t.peaks)
-  grown = is_row ∙ ap (λ (k : ℕ). if nat_lt x job.stop_peak then k else 0) (ap (λ (k : ℕ). k + 1) t.is_row ∙ (let e : row_below job.stop_peak t.peaks + 1 ≡ suc (row_below job.stop_peak t.peaks) = omega arith in e))
+  grown : row' ≡ row_below job.stop_peak (x.peak ∷ t.peaks)
+  grown = is_row ∙ ap (λ (k : ℕ). if nat_lt x.peak job.stop_peak then k else 0) (ap (λ (k : ℕ). k + 1) t.is_row ∙ (let e : row_below job.stop_peak t.peaks + 1 ≡ suc (row_below job.stop_peak t.peaks) = omega arith in e))
 
   -- recording goes on
   pub taken_on : row' < job.stop_blocks → {at' : ℕ} → at' ≡ (at + n) % 2 ^ 32 → IsTaken job sound start block at' (frames - n) row' o q
   taken_on short place =
-      let no : ends_row job (x ∷ t.peaks) ≡ false = rw (← grown) (grind (arith, nat_tests)) in
-      record { peaks = x ∷ t.peaks; before = t.before + n; is_row = grown; taken = t.taken ++ (n ∷ []); blocks = more_blocks; reached = λ others. rw place (taken_next others no) }
+      let no : ends_row job (x.peak ∷ t.peaks) ≡ false = rw (← grown) (grind (arith, nat_tests)) in
+      record { peaks = x.peak ∷ t.peaks; before = recording_on t.before n x; is_row = grown; taken = t.taken ++ (n ∷ []); blocks = more_blocks; reached = λ others. rw place (taken_next others no) }
 
   -- the block ends a row of quiet ones
   pub taken_quiet : job.stop_blocks ≤ row' → {failed : Type 0} {w : ClientState} → IsClientOf o.link w →
-      (s : WritesInStep (block_lengths block job.frames) (records job sound start 0 []) w failed o.link.sent q.link.sent o.held q.held) × (s.asked ≡ []) × (s.written ≡ [])
+      (s : WritesInStep (block_lengths block job.frames) (records job sound start nothing_recorded []) w failed o.link.sent q.link.sent o.held q.held) × (s.asked ≡ []) × (s.written ≡ [])
   taken_quiet long stands =
-      let yes : ends_row job (x ∷ t.peaks) ≡ true = rw (← grown) (grind (arith, nat_tests)) in
-      let r = subst (λ (l : List ℕ). Reached (tooling refused) (records job sound start 0 [] l) (block_more [] true x) o q) (append-nil (t.taken ++ (n ∷ []))) (taken_next [] yes) in
-      let quiet : Goes (tooling refused) (records job sound start 0 [] (t.taken ++ (n ∷ []))) (Ok (t.before + n)) o q = reached_goes is_tool _ r (goes_value is_tool _) in (
+      let yes : ends_row job (x.peak ∷ t.peaks) ≡ true = rw (← grown) (grind (arith, nat_tests)) in
+      let r = subst (λ (l : List ℕ). Reached (tooling refused) (records job sound start nothing_recorded [] l) (block_more [] true x) o q) (append-nil (t.taken ++ (n ∷ []))) (taken_next [] yes) in
+      let quiet : Goes (tooling refused) (records job sound start nothing_recorded [] (t.taken ++ (n ∷ []))) (Ok (recording_on t.before n x)) o q = reached_goes is_tool _ r (goes_value is_tool _) in (
         record {
           taken = t.taken ++ (n ∷ []);
           others = block_lengths block (frames - n);
@@ -181,7 +184,7 @@ pad_least None size = omega arith
 
 -- the header was written first
 pub front_wrote : (job : RecordJob) (device : DeviceInfo) (start : ℕ) {sound : RecordedSound} {w : ClientState} {failed failed' : Type 0} {a c h i j : Option (List ℕ)} → sound ≡ recorded_sound job device → Appended h (front_of_recording job device) i → (failed → failed') →
-    (s : WritesInStep (block_lengths (block_frames job.block (recorded_frame sound)) job.frames) (records job sound start 0 []) w failed a c i j) → (s' : WritesInStep (job_lengths job device) (writes_blocks job device start) w failed' a c h j) × (s'.asked ≡ s.asked) × (s'.written ≡ s.written)
+    (s : WritesInStep (block_lengths (block_frames job.block (recorded_frame sound)) job.frames) (records job sound start nothing_recorded []) w failed a c i j) → (s' : WritesInStep (job_lengths job device) (writes_blocks job device start) w failed' a c h j) × (s'.asked ≡ s.asked) × (s'.written ≡ s.written)
 front_wrote job device start {w = w} {a = a} {c} {i = i} {j} same front weaker s = (
   record {
     taken = s.taken;
@@ -189,7 +192,7 @@ front_wrote job device start {w = w} {a = a} {c} {i = i} {j} same front weaker s
     blocks = subst (λ (x : RecordedSound). block_lengths (block_frames job.block (recorded_frame x)) job.frames ≡ s.taken ++ s.others) same s.blocks;
     asked = s.asked;
     written = s.written;
-    past = wrote_on (writes (front_of_recording job device)) (λ _. records job (recorded_sound job device) start 0 [] s.taken) refl (appended_none a) front (subst (λ (x : RecordedSound). WroteThrough (records job x start 0 [] s.taken) w s.asked s.written a c i j) same s.past);
+    past = wrote_on (writes (front_of_recording job device)) (λ _. records job (recorded_sound job device) start nothing_recorded [] s.taken) refl (appended_none a) front (subst (λ (x : RecordedSound). WroteThrough (records job x start nothing_recorded [] s.taken) w s.asked s.written a c i j) same s.past);
     one_request = s.one_request;
     kept = elim s.kept [ inl bad ↦ inl (weaker bad) | inr few ↦ inr few ];
   },
@@ -198,10 +201,10 @@ front_wrote job device start {w = w} {a = a} {c} {i = i} {j} same front weaker s
 )
 
 -- and the last byte last
-pub pad_wrote : {K : Type 0} (held : K → Option (List ℕ)) (sink sink' : K) (result : Result (Unit {0}) ToolEnd) (pad : List ℕ) {X : Type 0} {lengths : List ℕ} {before : List ℕ → ToolPart X} {w : ClientState} {failed : Type 0} {a c h : Option (List ℕ)} → Writes held pad result sink sink' → length pad ≤ 1 →
-    (s : WritesInStep lengths before w failed a c h (held sink)) → s.asked ≡ [] → s.written ≡ [] → (s' : WritesInStep lengths before w (result ≡ Err end.SinkFault) a c h (held sink')) × (s'.asked ≡ [])
-pad_wrote held sink sink' result pad {X} {lengths} {before} {w} {failed} {a} {c} {h} is few s over none = by result is where
-  more : {failed' : Type 0} (piece : List ℕ) → Appended (held sink) piece (held sink') → failed' ⊎ (length piece ≤ 1) → (s' : WritesInStep lengths before w failed' a c h (held sink')) × (s'.asked ≡ [])
+pub pad_wrote : {K : Type 0} (held : K → Option (List ℕ)) (sink sink' : K) (result : Result (Unit {0}) ToolEnd) (pad : List ℕ) {X : Type 0} {lengths : List ℕ} {before : List ℕ → ToolPart X} {w : ClientState} {failed failed' : Type 0} {a c h : Option (List ℕ)} → (result ≡ Err end.SinkFault → failed') → Writes held pad result sink sink' → length pad ≤ 1 →
+    (s : WritesInStep lengths before w failed a c h (held sink)) → s.asked ≡ [] → s.written ≡ [] → (s' : WritesInStep lengths before w failed' a c h (held sink')) × (s'.asked ≡ [])
+pad_wrote held sink sink' result pad {X} {lengths} {before} {w} {failed} {failed'} {a} {c} {h} weaker is few s over none = by result weaker is where
+  more : (piece : List ℕ) → Appended (held sink) piece (held sink') → failed' ⊎ (length piece ≤ 1) → (s' : WritesInStep lengths before w failed' a c h (held sink')) × (s'.asked ≡ [])
   more piece written kept = (
     record {
       taken = s.taken;
@@ -216,9 +219,9 @@ pad_wrote held sink sink' result pad {X} {lengths} {before} {w} {failed} {a} {c}
     over,
   )
 
-  by : (result : Result (Unit {0}) ToolEnd) → Writes held pad result sink sink' → (s' : WritesInStep lengths before w (result ≡ Err end.SinkFault) a c h (held sink')) × (s'.asked ≡ [])
-  by (Ok x) is = more pad is (inr few)
-  by (Err how) is = more is.1.front is.1.appended (inl (ap (λ (e : ToolEnd). (let r : Result (Unit {0}) ToolEnd = Err e in r)) is.0))
+  by : (result : Result (Unit {0}) ToolEnd) → (result ≡ Err end.SinkFault → failed') → Writes held pad result sink sink' → (s' : WritesInStep lengths before w failed' a c h (held sink')) × (s'.asked ≡ [])
+  by (Ok x) weaker is = more pad is (inr few)
+  by (Err how) weaker is = more is.1.front is.1.appended (inl (weaker (ap (λ (e : ToolEnd). (let r : Result (Unit {0}) ToolEnd = Err e in r)) is.0)))
 
 -- a request after all blocks
 pub last_wrote : {X : Type 0} {lengths : List ℕ} {before : List ℕ → ToolPart X} {w : ClientState} {failed failed' : Type 0} {bytes : List ℕ} (order : Order) (asked : Asked) {a b c h j : Option (List ℕ)} → (failed → failed') → (s : WritesInStep lengths before w failed a b h j) → s.asked ≡ [] →

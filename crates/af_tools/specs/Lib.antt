@@ -1,4 +1,5 @@
 pub mod Sounds
+pub mod Pacing
 pub mod Leaving
 pub mod Play
 pub mod Reading

@@ -15,10 +15,11 @@ use Rattle.af_tools.specs.Sounds.{most_bytes, stated_room, FitsStated, IsPlayabl
 use Rattle.af_lib.specs.Calls.{ConnState, as_done}
 use Rattle.af_toolkit.specs.Trace.{Trace, ClientState, Finish, answer_on, bad_sound, channel_mismatch, client_after_setup}
 use Rattle.af_toolkit.specs.Trace.{done, not_dialled, refused, too_long}
-use Rattle.af_toolkit.specs.Trace.{mismatch, no_device, setup_answer, sound_cut, tool_end}
-use Rattle.af_toolkit.specs.Ends.{client_of, is_of_link, is_of_link_or_sink, is_outer, EndsFor, ObservedTrace, ToolRan}
+use Rattle.af_toolkit.specs.Trace.{mismatch, no_device, setup_answer, sound_cut, sound_lost, tool_end}
+use Rattle.af_toolkit.specs.Ends.{client_of, has_done_all, is_of_all, is_of_link, is_of_link_or_sink, is_outer, EndsFor, IsKept}
+use Rattle.af_toolkit.specs.Ends.{ObservedTrace, ToolRan}
 use Rattle.af_toolkit.specs.ToolParts.{tool_sight, tooling}
-use Rattle.af_dialogue.specs.Parts.{Goes}
+use Rattle.af_toolkit.specs.Parts.{Goes}
 use Rattle.af_sound.specs.declared.head.HeadStep.TheVariants as step
 use Rattle.af_sound.specs.Fronts.{front_of}
 use Rattle.af_request.specs.declared.reply.DeviceInfo.{DeviceInfo}
@@ -132,7 +133,7 @@ pub record UsesSource {S : Type 0} (left : S → Option (List ℕ)) (faults : S 
   pub untouched : reads ≡ false → source' ≡ source
   pub memory : how ≡ end.OutOfMemory → source' ≡ source
   pub unfound : (n : ℕ) → how ≡ end.NoDevice n → source' ≡ source
-  pub spent : how ≡ end.Done → reads ≡ true → IsSpent (left source') ⊎ ConsumedSound form (left source) (left source')
+  pub spent : has_done_all how ≡ true → reads ≡ true → IsSpent (left source') ⊎ ConsumedSound form (left source) (left source')
   pub shows : EndShows form (λ other. how ≡ other) (left source) (left source')
   pub failed : CountsFault (how ≡ end.ReadFault) (faults source) (faults source')
 
@@ -168,17 +169,23 @@ is_of_sound (end.RateMismatch from to) = true
 is_of_sound (end.ChannelMismatch from to) = true
 is_of_sound how = is_of_front how
 
+-- the ends of reporting what was played
+abbrev pub is_of_played : (strict : Bool) → ToolEnd → Bool
+is_of_played strict end.SinkFault = true
+is_of_played strict how = is_of_all strict how
+
 -- the ends of a part that also reads the source
 abbrev pub is_of_blocks : ToolEnd → Bool
 is_of_blocks end.ReadFault = true
 is_of_blocks end.TooLong = true
 is_of_blocks how = is_of_link how
 
--- the ends of a tool of one link, which ends for its source only if it reads one
-abbrev pub is_of_tool : (reads : Bool) → ToolEnd → Bool
-is_of_tool reads end.Done = true
-is_of_tool reads (end.NoDevice devices) = true
-is_of_tool reads how = is_of_link_or_sink how || (is_of_sound how && reads)
+-- the ends of a tool of one link, which ends for its source only if it reads one, and for lost sound only if it is strict
+abbrev pub is_of_tool : (reads strict : Bool) → ToolEnd → Bool
+is_of_tool reads strict end.Done = true
+is_of_tool reads strict end.SoundLost = strict
+is_of_tool reads strict (end.NoDevice devices) = true
+is_of_tool reads strict how = is_of_link_or_sink how || (is_of_sound how && reads)
 
 -- The front of a file was read, and the source stands after it; or the tool ends as it does there, or for something from outside.
 abbrev pub HeadCame : SoundForm → List ℕ → Result FileHead ToolEnd → Option (List ℕ) → Type 0
@@ -220,12 +227,12 @@ JobReadsLate links j dial source source' =
     (server : Text) (order : Order) (t : Task) → j ≡ one server order t →
     ReadsLate t (λ job. (told : List ToldLink) → links dial ≡ Some told → DialGivesContext order job told) source source'
 
--- a tool on a device ran, over a connection whose link is observable
+-- a tool on a device ran, strict or not, over a connection whose link is observable
 abbrev pub RunsTool : {L K : Type 0} → (left sent : L → Option (List ℕ)) → (held : K → Option (List ℕ)) →
-    (ClientState → Trace) → ℕ → ToolEnd → (conn conn' : ConnState L) → (sink sink' : K) → Type 0
-RunsTool left sent held trace device how conn conn' sink sink' = (input : List ℕ) → left conn.link ≡ Some input →
-    ToolRan (device < length conn.devices) (trace (client_of conn input)) how (sent conn.link) (sent conn'.link)
-    (held sink) (held sink')
+    (ClientState → Trace) → ℕ → (strict : Bool) → ToolEnd → (conn conn' : ConnState L) → (sink sink' : K) → Type 0
+RunsTool left sent held trace device strict how conn conn' sink sink' = (input : List ℕ) → left conn.link ≡ Some input →
+    ToolRan ((device < length conn.devices) × IsKept strict (trace (client_of conn input))) (trace (client_of conn input)) how
+    (sent conn.link) (sent conn'.link) (held sink) (held sink')
 
 -- a device that does not exist, a source that is no sound file, or two whose rates or channels differ
 abbrev pub is_unfit : Finish → Bool
@@ -234,6 +241,7 @@ is_unfit (mismatch from to) = true
 is_unfit (channel_mismatch from to) = true
 is_unfit (bad_sound fault) = true
 is_unfit sound_cut = true
+is_unfit sound_lost = false
 is_unfit done = false
 is_unfit not_dialled = false
 is_unfit too_long = false
@@ -245,11 +253,13 @@ pub record EndsIfUnfit (trace : Trace) (how : ToolEnd) : Type 0 where
   pub always : (finish : Finish) → is_unfit finish ≡ true → trace.finish ≡ finish →
       (how ≡ tool_end finish) ⊎ (is_outer how ≡ true)
 
--- aplay ran, and is done if it gets a sound that its device plays. If it is done, each block was played at its time and is heard.
+-- aplay ran, and is done if it gets a sound that its device plays, and is not strict or loses none of it. If it did all, each
+-- block was played at its time and is heard.
 pub record AplayRan (job : PlayJob) (devices : List DeviceInfo) (bytes : List ℕ) (w : ClientState) (how : ToolEnd)
     (sent sent' held held' : Option (List ℕ)) : Type 0 where
-  pub ran : ToolRan (IsPlayable job devices bytes) (aplay_trace job devices bytes w) how sent sent' held held'
-  pub heard : how ≡ end.Done → IsPlayed job devices bytes w sent sent' held held'
+  pub ran : ToolRan (IsPlayable job devices bytes × IsKept job.strict (aplay_trace job devices bytes w))
+      (aplay_trace job devices bytes w) how sent sent' held held'
+  pub heard : has_done_all how ≡ true → IsPlayed job devices bytes w how sent sent' held held'
   pub unfit : EndsIfUnfit (aplay_trace job devices bytes w) how
 
 -- the same over a connection with an observable link, and an observable source, which stays so

@@ -1,7 +1,7 @@
 -- What arecord does: it records block after block, and writes each, raw or in a sound file.
 use Rattle.std.specs.Prelude.{◌≡◌, ◌≢◌, ℕ, ◌*◌, ◌%◌, ◌==◌, ◌&&◌, nat_lt, if◌then◌else◌, List, [], ◌∷◌, ◌++◌, length}
 use Rattle.std.specs.Prelude.{option_map, unwrap_or, IfSome, Option, None, Some, suc, ◌+◌, ◌/◌, ◌^◌, max, nat_le, unsigned_abs}
-use Rattle.std.specs.Prelude.{pos, Bool, true, map, replicate, slice_get}
+use Rattle.std.specs.Prelude.{pos, Bool, true, false, ◌||◌, map, replicate, slice_get}
 use Rattle.std.specs.Option.{option_map_or}
 use Rattle.af_sample.specs.declared.sample_type.SampleType.{SampleType}
 use Rattle.af_sample.specs.declared.sample_type.SampleType.TheVariants as ty
@@ -17,19 +17,21 @@ use Rattle.af_sound.specs.Written.{written_head}
 use Rattle.af_request.specs.declared.reply.DeviceInfo.{DeviceInfo}
 use Rattle.af_cli.specs.declared.job.RecordJob.{RecordJob}
 use Rattle.af_tools.specs.declared.record.RecordedSound.{RecordedSound}
+use Rattle.af_tools.specs.declared.record.Recording.{Recording}
+use Rattle.af_tools.specs.declared.record.TakenBlock.{TakenBlock}
 use Rattle.af_tools.specs.Sounds.{served_type}
 use Rattle.af_sample.specs.Samples.{samples}
 use Rattle.af_request.specs.Asked.{Asked, create_ac, free_ac, record_run}
 use Rattle.af_lib.specs.Calls.{as_done, as_recorded, ConnState}
 use Rattle.af_cli.specs.Lengths.{at_rate}
 use Rattle.af_cli.specs.Sizes.{block_frames}
-use Rattle.af_dialogue.specs.Parts.{goes_on, has_value}
-use Rattle.af_toolkit.specs.Trace.{Trace, ClientState, done, ends, refused, with_job_device}
+use Rattle.af_toolkit.specs.Parts.{goes_on, has_value}
+use Rattle.af_toolkit.specs.Lost.{finish_by, had_left}
+use Rattle.af_toolkit.specs.Trace.{Trace, ClientState, ends, refused, with_job_device}
 use Rattle.af_toolkit.specs.ToolParts.{ToolPart, asks, begins, doing, trace_of, writes}
 use Rattle.af_io.specs.Observed.{Appended}
 use Rattle.af_toolkit.specs.declared.end.ToolEnd.{ToolEnd}
-use Rattle.af_toolkit.specs.declared.end.ToolEnd.TheVariants as end
-use Rattle.af_toolkit.specs.Ends.{client_of}
+use Rattle.af_toolkit.specs.Ends.{client_of, has_done_all}
 
 -- the type that is recorded: in a file, samples of 32 bits become samples of 16
 abbrev pub recorded_type : Option SoundForm → SampleType → SampleType
@@ -60,7 +62,12 @@ IsFiledAs filed ty = IfSome filed (λ c. (ty ≡ served_type c) × (c ≢ coding
 abbrev pub recorded_sound : RecordJob → DeviceInfo → RecordedSound
 recorded_sound job device =
     let ty = recorded_type job.form (unwrap_or job.ty device.ty) in
-    record { ty = ty; coding = option_map (λ form. coding_in form ty) job.form; channels = device.channels }
+    record {
+      ty = ty;
+      coding = option_map (λ form. coding_in form ty) job.form;
+      channels = device.channels;
+      horizon = device.horizon;
+    }
 
 -- the length that a header states: that of all frames, if quiet cannot end the recording and a header can state it
 abbrev pub stated_length : RecordJob → (frame : ℕ) → Option ℕ
@@ -119,55 +126,67 @@ row_below limit (p ∷ peaks) = if nat_lt p limit then suc (row_below limit peak
 abbrev pub ends_row : RecordJob → List ℕ → Bool
 ends_row job peaks = nat_le job.stop_blocks (row_below job.stop_peak peaks)
 
+-- nothing was recorded yet
+abbrev pub nothing_recorded : Recording
+nothing_recorded = record { frames = 0; lost = false }
+
+-- a block of so many frames more was recorded
+abbrev pub recording_on : Recording → (frames : ℕ) → TakenBlock → Recording
+recording_on before frames block = record { frames = before.frames + frames; lost = before.lost || block.lost }
+
 -- the bytes of a frame of a sound, as it is recorded
 abbrev pub recorded_frame : RecordedSound → ℕ
 recorded_frame sound = frame_bytes sound.ty sound.channels
 
--- a block of n bytes is recorded and written, and its peak is the value
-abbrev pub takes_block : RecordedSound → (at size : ℕ) → ToolPart ℕ
+-- a block of n bytes is recorded and written: its peak is the value, and whether frames of it had left the server
+abbrev pub takes_block : RecordedSound → (at size : ℕ) → ToolPart TakenBlock
 takes_block sound at size =
     goes_on doing (asks (record_run true 1 at size) (as_recorded true size)) (λ r.
     goes_on doing (writes (as_filed sound.coding r.samples)) (λ _.
-    has_value doing (peak sound.ty r.samples)))
+    has_value doing (record { peak = peak sound.ty r.samples; lost = had_left sound.horizon at r.time.0 })))
 
--- blocks of these lengths are recorded and written, until a row of quiet ones: how many frames there were in all
-unfoldable pub records : RecordJob → RecordedSound → (at before : ℕ) (peaks : List ℕ) → List ℕ → ToolPart ℕ
+-- blocks of these lengths are recorded and written, until a row of quiet ones: how much there was in all
+unfoldable pub records : RecordJob → RecordedSound → (at : ℕ) (before : Recording) (peaks : List ℕ) → List ℕ →
+    ToolPart Recording
 records job sound at before peaks [] = has_value doing before
-records job sound at before peaks (n ∷ more) = goes_on doing (takes_block sound at (n * recorded_frame sound)) (λ peak.
-    if ends_row job (peak ∷ peaks) then has_value doing (before + n)
-    else records job sound ((at + n) % 2 ^ 32) (before + n) (peak ∷ peaks) more)
+records job sound at before peaks (n ∷ more) = goes_on doing (takes_block sound at (n * recorded_frame sound)) (λ block.
+    if ends_row job (block.peak ∷ peaks) then has_value doing (recording_on before n block)
+    else records job sound ((at + n) % 2 ^ 32) (recording_on before n block) (block.peak ∷ peaks) more)
 
 -- all blocks of a job
-abbrev pub records_all : RecordJob → RecordedSound → (start : ℕ) → ToolPart ℕ
+abbrev pub records_all : RecordJob → RecordedSound → (start : ℕ) → ToolPart Recording
 records_all job sound start =
-    records job sound start 0 [] (block_lengths (block_frames job.block (recorded_frame sound)) job.frames)
+    records job sound start nothing_recorded [] (block_lengths (block_frames job.block (recorded_frame sound)) job.frames)
 
 -- the context of a job on a device
 abbrev pub record_context : RecordJob → DeviceInfo → Asked
 record_context job device = create_ac job.device 1 (code_of (recorded_sound job device).ty) device.channels 0 (pos 0) job.gain
 
 -- the blocks are recorded from a start on, between the header of a file and the byte that makes the sound of a WAVE file even
-abbrev pub writes_recording : RecordJob → DeviceInfo → (start : ℕ) → ToolPart (Unit {0})
+abbrev pub writes_recording : RecordJob → DeviceInfo → (start : ℕ) → ToolPart Recording
 writes_recording job device start =
     let sound = recorded_sound job device in
     goes_on doing (writes (front_of_recording job device)) (λ _.
-    goes_on doing (records_all job sound start) (λ frames.
-    writes (pad_after job.form (frames * recorded_frame sound))))
+    goes_on doing (records_all job sound start) (λ recording.
+    goes_on doing (writes (pad_after job.form (recording.frames * recorded_frame sound))) (λ _.
+    has_value doing recording)))
 
 -- a context is made, all is recorded from the stated start or else from the device's time on, and the context is freed
-abbrev pub records_on : RecordJob → DeviceInfo → ToolPart (Unit {0})
+abbrev pub records_on : RecordJob → DeviceInfo → ToolPart Recording
 records_on job device =
     goes_on doing (begins (record_context job device) job.device) (λ now.
-    goes_on doing (writes_recording job device (unwrap_or job.time now.0)) (λ _.
-    asks (free_ac 1) as_done))
+    goes_on doing (writes_recording job device (unwrap_or job.time now.0)) (λ recording.
+    goes_on doing (asks (free_ac 1) as_done) (λ _. has_value doing recording)))
 
--- the trace of arecord, by the devices of the server and what the link gives; seconds are those of the device
+-- the trace of arecord, by the devices of the server and what the link gives; seconds are those of the device; where it is
+-- strict, its end says if frames had left the server
 unfoldable pub arecord_trace : RecordJob → List DeviceInfo → ClientState → Trace
 arecord_trace job devices w =
     with_job_device job.device devices (λ device.
-    trace_of refused (records_on (at_rate device.rate job) device w) (λ _. ends done))
+    trace_of refused (records_on (at_rate device.rate job) device w) (λ recording.
+    ends (finish_by job.strict recording.lost)))
 
--- A job is done: it sent the requests of a raw recording, and wrote that recording, as a sound file if it writes one, whose
+-- A job was done: it sent the requests of a raw recording, and wrote that recording, as a sound file if it writes one, whose
 -- header has the length in frames of the device.
 pub record IsRecorded (job : RecordJob) (devices : List DeviceInfo) (w : ClientState)
     (sent sent' held held' : Option (List ℕ)) : Type 0 where
@@ -178,8 +197,9 @@ pub record IsRecorded (job : RecordJob) (devices : List DeviceInfo) (w : ClientS
   pub link : Appended sent (arecord_trace (as_raw job device) devices w).sends sent'
   pub sink : Appended held (recording_of (at_rate device.rate job) device samples) held'
 
--- arecord, if it is done, over a connection whose link is observable
+-- arecord, if it did all, over a connection whose link is observable
 abbrev pub LeavesRecording : {L K : Type 0} → (left sent : L → Option (List ℕ)) → (held : K → Option (List ℕ)) → RecordJob →
     ToolEnd → (conn conn' : ConnState L) → (sink sink' : K) → Type 0
-LeavesRecording left sent held job how conn conn' sink sink' = (input : List ℕ) → left conn.link ≡ Some input → how ≡ end.Done →
+LeavesRecording left sent held job how conn conn' sink sink' =
+    (input : List ℕ) → left conn.link ≡ Some input → has_done_all how ≡ true →
     IsRecorded job conn.devices (client_of conn input) (sent conn.link) (sent conn'.link) (held sink) (held sink')

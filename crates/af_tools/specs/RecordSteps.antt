@@ -2,7 +2,7 @@
 use Rattle.std.specs.Prelude.{◌≡◌, ◌≤◌, ◌⊎◌, ℕ, List, [], ◌++◌, length, unwrap_or, slice_get, Option, Some}
 use Rattle.af_io.specs.Flow.{AppendedPrefix}
 use Rattle.af_wire.specs.declared.order.Order.{Order}
-use Rattle.af_dialogue.specs.Parts.{goes_on}
+use Rattle.af_toolkit.specs.Parts.{goes_on}
 use Rattle.af_request.specs.declared.reply.DeviceInfo.{DeviceInfo}
 use Rattle.af_request.specs.Asked.{Asked, get_time}
 use Rattle.af_request.specs.Requests.{request_bytes}
@@ -16,7 +16,9 @@ use Rattle.af_toolkit.specs.Trace.{ClientState}
 use Rattle.af_toolkit.specs.Ends.{client_of}
 use Rattle.af_toolkit.specs.Steps.{WroteThrough}
 use Rattle.af_toolkit.specs.ToolParts.{ToolPart, begins, doing, writes}
-use Rattle.af_tools.specs.Record.{block_lengths, front_of_recording, record_context, recorded_frame, recorded_sound, records}
+use Rattle.af_tools.specs.Record.{block_lengths, front_of_recording, nothing_recorded, record_context, recorded_frame}
+use Rattle.af_tools.specs.Record.{recorded_sound, records}
+use Rattle.af_tools.specs.declared.record.Recording.{Recording}
 
 -- these bytes are one request, or the first of one
 abbrev pub FrontOfRequest : List ℕ → Type 0
@@ -40,12 +42,13 @@ abbrev pub job_lengths : RecordJob → DeviceInfo → List ℕ
 job_lengths job device = block_lengths (block_frames job.block (recorded_frame (recorded_sound job device))) job.frames
 
 -- the header of a file is written, and blocks of these lengths are recorded from a start on, each written before the next
-abbrev pub writes_blocks : RecordJob → DeviceInfo → (start : ℕ) → List ℕ → ToolPart ℕ
+abbrev pub writes_blocks : RecordJob → DeviceInfo → (start : ℕ) → List ℕ → ToolPart Recording
 writes_blocks job device start taken =
-    goes_on doing (writes (front_of_recording job device)) (λ _. records job (recorded_sound job device) start 0 [] taken)
+    goes_on doing (writes (front_of_recording job device)) (λ _.
+    records job (recorded_sound job device) start nothing_recorded [] taken)
 
 -- all that is sent and written before the block after these is asked for
-abbrev pub records_before : RecordJob → DeviceInfo → List ℕ → ToolPart ℕ
+abbrev pub records_before : RecordJob → DeviceInfo → List ℕ → ToolPart Recording
 records_before job device taken =
     goes_on doing (begins (record_context job device) job.device) (λ now.
     writes_blocks job device (unwrap_or job.time now.0) taken)

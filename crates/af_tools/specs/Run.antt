@@ -4,7 +4,7 @@ use Rattle.std.specs.List.{concat}
 use Rattle.clap.specs.Words.{Text}
 use Rattle.af_io.specs.Observed.{Appended, CountsFault}
 use Rattle.af_io.specs.Dial.{AppendedBack, ToldLink}
-use Rattle.af_dialogue.specs.Parts.{called, goes_on, part_among, stops}
+use Rattle.af_toolkit.specs.Parts.{called, goes_on, part_among, stops}
 use Rattle.af_request.specs.declared.reply.DeviceInfo.{DeviceInfo}
 use Rattle.af_toolkit.specs.declared.end.ToolEnd.{ToolEnd}
 use Rattle.af_toolkit.specs.declared.end.ToolEnd.TheVariants as end
@@ -28,7 +28,7 @@ use Rattle.af_relay.specs.RelayParts.{RelayDid}
 use Rattle.af_relay.specs.Relayed.{IsRelayed}
 use Rattle.af_cli.specs.Words.{Job, one, relay}
 use Rattle.af_relay.specs.Pair.{is_of_pass}
-use Rattle.af_toolkit.specs.Ends.{EndsByReply, IsAnswered, is_outer}
+use Rattle.af_toolkit.specs.Ends.{EndsByReply, EndsIfLost, IsAnswered, IsKept, has_done_all, is_outer}
 use Rattle.af_sound.specs.declared.head.SoundForm.{SoundForm}
 use Rattle.af_tools.specs.Reading.{SetUpFirst, TellsIfRead, UsesSource, is_of_tool, is_unfit, EndsIfUnfit}
 
@@ -100,6 +100,17 @@ abbrev pub job_form : Job → Option SoundForm
 job_form (one server order task) = source_form task
 job_form (relay from to order job) = None
 
+-- whether a task is strict: its end says if sound was lost
+abbrev pub is_strict : Task → Bool
+is_strict (task.Play job) = job.strict
+is_strict (task.Record job) = job.strict
+is_strict (task.Set job) = false
+is_strict task.List = false
+
+abbrev pub job_strict : Job → Bool
+job_strict (one server order task) = is_strict task
+job_strict (relay from to order job) = false
+
 -- the ends of a tool over a link that was dialled, and of one that dials, by those that it has over its connections
 abbrev pub is_of_far : (ToolEnd → Bool) → ToolEnd → Bool
 is_of_far is_own end.OutOfMemory = true
@@ -111,7 +122,7 @@ is_of_dial is_own how = is_of_far is_own how
 
 -- the ends of a job
 abbrev pub is_of_job : Job → ToolEnd → Bool
-is_of_job (one server order task) how = is_of_dial (is_of_tool (reads_source task)) how
+is_of_job (one server order task) how = is_of_dial (is_of_tool (reads_source task) (is_strict task)) how
 is_of_job (relay from to order job) how = is_of_dial is_of_pass how
 
 -- the ends of the program: Usage, and those of the job that its words name; if they name none, OutOfMemory
@@ -185,39 +196,40 @@ abbrev pub servers_of : Job → List Text
 servers_of (one server order task) = server ∷ []
 servers_of (relay from to order job) = from ∷ to ∷ []
 
--- The first of some addresses were dialled, in order: none only if memory ran out before, and all if the tool is done.
+-- The first of some addresses were dialled, in order: none only if memory ran out before, and all if the tool did all.
 pub record AskedFor (servers : List Text) (how : ToolEnd) (asked asked' : Option (List Text)) : Type 0 where
   pub named : List Text
   pub others : List Text
   pub whole : servers ≡ named ++ others
   pub appended : Appended asked named asked'
   pub none : named ≡ [] → how ≡ end.OutOfMemory
-  pub all : how ≡ end.Done → others ≡ []
+  pub all : has_done_all how ≡ true → others ≡ []
 
--- each device and the source are fit for the job, and each request gets its reply
-pub record IsServed (trace : Trace) : Type 0 where
+-- each device and the source are fit for the job, each request gets its reply, and no sound is lost if the job is strict
+pub record IsServed (strict : Bool) (trace : Trace) : Type 0 where
   pub fits : is_unfit trace.finish ≡ false
   pub answered : IsAnswered trace
+  pub kept : IsKept strict trace
 
--- What the tools did for a job: it ran, each end is that of its trace, and if it is done, all that its tool promises holds.
+-- What the tools did for a job: it ran, each end is that of its trace, and if it did all, all that its tool promises holds.
 pub record JobDone (j : Job) (bytes : List ℕ) (how : ToolEnd) (links : List ToldLink) (links' : Option (List ToldLink))
     (held held' : Option (List ℕ)) (back back' : Option (List (List ℕ))) : Type 0 where
   pub ran : JobRan j bytes how links links' held held' back back'
   pub reply : EndsByReply (on_from (run_trace j links bytes)) how
   pub unfit : EndsIfUnfit (on_from (run_trace j links bytes)) how
-  pub heard : (server : Text) (order : Order) (play : PlayJob) → j ≡ one server order (task.Play play) → how ≡ end.Done →
-      UsedServer order links links' back back'
-      (λ devices w sends. IsPlayed play devices bytes w (Some []) (Some sends) held held')
+  pub lost : EndsIfLost (on_from (run_trace j links bytes)) how
+  pub heard : (server : Text) (order : Order) (play : PlayJob) → j ≡ one server order (task.Play play) →
+      has_done_all how ≡ true → UsedServer order links links' back back'
+      (λ devices w sends. IsPlayed play devices bytes w how (Some []) (Some sends) held held')
   pub recorded : (server : Text) (order : Order) (recording : RecordJob) → j ≡ one server order (task.Record recording) →
-      how ≡ end.Done →
-      UsedServer order links links' back back'
+      has_done_all how ≡ true → UsedServer order links links' back back'
       (λ devices w sends. IsRecorded recording devices w (Some []) (Some sends) held held')
   pub listed : (server : Text) (order : Order) → j ≡ one server order task.List → how ≡ end.Done →
       UsedServer order links links' back back'
       (λ devices w sends. (output : List ℕ) × HasLines 0 devices output × Appended held output held')
   pub relayed : (from to : Text) (order : Order) (pass : PassJob) → j ≡ relay from to order pass → how ≡ end.Done →
       RelayRan order pass links links' held held' back back'
-  pub complete : length bytes ≤ most_bytes → IsServed (on_from (run_trace j links bytes)) →
+  pub complete : length bytes ≤ most_bytes → IsServed (job_strict j) (on_from (run_trace j links bytes)) →
       (how ≡ end.Done) ⊎ (is_outer how ≡ true)
 
 -- the same by what is observable of the links that a dial gives, a sink, and a source if the job reads it

@@ -6,7 +6,7 @@ use Rattle.af_request.specs.Asked.{Asked, hook_switch}
 use Rattle.af_request.specs.Fields.{flag_byte}
 use Rattle.af_lib.specs.Calls.{as_done, controls_request}
 use Rattle.af_cli.specs.declared.job.SetJob.{SetJob}
-use Rattle.af_dialogue.specs.Parts.{goes_on, has_value}
+use Rattle.af_toolkit.specs.Parts.{goes_on, has_value}
 use Rattle.af_toolkit.specs.Trace.{Trace, ClientState, done, ends, refused, with_job_device, writes_first}
 use Rattle.af_toolkit.specs.ToolParts.{ToolPart, asks, doing, trace_of}
 use Rattle.af_standing.specs.declared.controls_report.ControlsReport.{ControlsReport}

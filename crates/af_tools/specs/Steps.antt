@@ -2,8 +2,7 @@
 use Rattle.std.specs.Prelude.{◌≡◌, ◌<◌, ◌≤◌, ◌⊎◌, ◌+◌, ℕ, List, [], ◌∷◌, ◌++◌, length, slice_get, Ok, IsSome, Option, None, Some}
 use Rattle.af_io.specs.Observed.{Appended, Consumed}
 use Rattle.af_io.specs.Flow.{AppendedPrefix, IsSpent}
-use Rattle.af_time.specs.DeviceTime.{frames_lasting}
-use Rattle.af_dialogue.specs.Parts.{goes_on, has_value}
+use Rattle.af_toolkit.specs.Parts.{goes_on, has_value}
 use Rattle.af_request.specs.declared.reply.DeviceInfo.{DeviceInfo}
 use Rattle.af_request.specs.Asked.{get_time}
 use Rattle.af_request.specs.Requests.{request_bytes}
@@ -18,8 +17,10 @@ use Rattle.af_cli.specs.Sizes.{greatest_block}
 use Rattle.af_toolkit.specs.Trace.{ClientState}
 use Rattle.af_toolkit.specs.ToolParts.{doing}
 use Rattle.af_tools.specs.declared.sound.SourceSound.{SourceSound}
+use Rattle.af_tools.specs.Pacing.{course_from}
 use Rattle.af_tools.specs.Sounds.{most_bytes, block_bytes, reads_sound}
-use Rattle.af_tools.specs.Play.{PlayPart, play_asks, play_context, played_frames, plays_sound, start_at}
+use Rattle.af_tools.specs.declared.pace.Course.{Course}
+use Rattle.af_tools.specs.Play.{PlayPart, play_asks, play_context, job_pace, played_frames, plays_sound}
 
 -- each request of a part was sent and got its reply, and then these bytes were sent
 pub record WentThrough {X : Type 0} (part : PlayPart X) (w : ClientState) (more : List ℕ) (sent sent' : Option (List ℕ)) :
@@ -45,14 +46,14 @@ pub record ReadsInStep {X : Type 0} (sound : SourceSound) (frames : ℕ) (before
   pub first : HasFirst sound frames (length (played ++ ahead)) left' ⊎ late
 
 -- after the context was made: nothing, if no block was played; else the time was asked for, and these bytes were played
-abbrev pub plays_so_far : PlayJob → SourceSound → DeviceInfo → List ℕ → PlayPart ℕ
-plays_so_far job sound device [] = has_value doing 0
+abbrev pub plays_so_far : PlayJob → SourceSound → DeviceInfo → List ℕ → PlayPart Course
+plays_so_far job sound device [] = has_value doing (course_from (record { 0 = 0 }))
 plays_so_far job sound device (b ∷ bytes) = goes_on doing (play_asks (get_time job.device) as_time) (λ now.
-    plays_sound sound (played_frames job sound.ty sound.channels)
-    (start_at job.time now.0 (frames_lasting device.rate job.lead)) (b ∷ bytes))
+    plays_sound sound (played_frames job device.rate sound.ty sound.channels)
+    (job_pace job device.rate sound.ty sound.channels now) now (b ∷ bytes))
 
 -- what is sent before the block after these bytes of a sound is read
-abbrev pub plays_before : PlayJob → SourceSound → DeviceInfo → List ℕ → PlayPart ℕ
+abbrev pub plays_before : PlayJob → SourceSound → DeviceInfo → List ℕ → PlayPart Course
 plays_before job sound device bytes =
     goes_on doing (play_asks (play_context job sound.ty sound.channels) as_done) (λ _. plays_so_far job sound device bytes)
 
@@ -69,7 +70,7 @@ abbrev pub PlaysInStep : PlayJob → SourceSound → DeviceInfo → ClientState 
     (left left' sent sent' : Option (List ℕ)) → Type 0
 PlaysInStep job sound device w failed left left' sent sent' =
     ((left' ≡ left) × SentContext job sound w sent sent')
-    ⊎ ReadsInStep sound (played_frames job sound.ty sound.channels) (plays_before job sound device) w
+    ⊎ ReadsInStep sound (played_frames job device.rate sound.ty sound.channels) (plays_before job sound device) w
     (failed × LeavesBlock sound) (SentContext job sound w sent sent' ⊎ (most_bytes < sound.head + greatest_block))
     left left' sent sent'
 

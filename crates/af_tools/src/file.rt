@@ -52,6 +52,7 @@ pub fn recorded_sound(job: &RecordJob, device: DeviceInfo) -> RecordedSound
         ty,
         coding,
         channels: device.channels,
+        horizon: device.horizon,
     }
 }
 

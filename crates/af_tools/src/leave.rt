@@ -1,18 +1,15 @@
 // How aplay leaves its device: it may wait until the last frame was handed out, and frees its context.
-ghost use Rattle.std.specs.Prelude.{◌≡◌, ◌≤◌, length, option_map, true, IfErr};
+ghost use Rattle.std.specs.Prelude.{◌≡◌, ◌≤◌, option_map, true, IfErr};
 ghost use Rattle.std.specs.declared.option.Option.TheVariants.{None};
 ghost use Rattle.af_toolkit.specs.Ends.{is_of_link, KeepsConnection};
 ghost use Rattle.af_toolkit.specs.ToolParts.{GoesOver};
-ghost use Rattle.af_cli.specs.Sizes.{greatest_block};
 ghost use Rattle.af_tools.specs.Leaving.{drained, leaves};
 
+use crate::pace::wait_past;
 use af_io::Link;
 use af_lib::Conn;
 use af_time::DevTime;
-use af_toolkit::{CONTEXT, ToolEnd, finish, time_after_frames};
-
-/// The greatest frame, in bytes: two samples of the widest type.
-pub const GREATEST_FRAME: usize = 8;
+use af_toolkit::{ToolEnd, finish, time_after_frames};
 
 /// The time of the last of so many frames from a start on, if that is to be waited for and there is one.
 pub fn last_frame(drain: bool, start: DevTime, frames: u64) -> Option<DevTime>
@@ -25,25 +22,18 @@ pub fn last_frame(drain: bool, start: DevTime, frames: u64) -> Option<DevTime>
     }
 }
 
-/// Frees the context, and before that waits for a frame of so many bytes, if there is one to wait for. A blocking Record is
-/// answered at the tick after which its frame has gone by, so then the device has handed it out. The frame comes into the room.
+/// Frees the context, once the device has handed out a frame of so many bytes, if there is one to wait for.
 pub fn leave<L: Link + Drop>(
     conn: &mut Conn<L>,
     last: Option<DevTime>,
     frame: usize,
-    room: &mut [u8],
 ) -> Result<(), ToolEnd>
     requires usable { conn.old.cause ≡ None }
-    requires room { (frame ≤ length room.old) × (frame ≤ greatest_block) }
+    requires room { frame ≤ 8 }
     ensures goes { GoesOver L.left L.sent conn.old conn.new (leaves frame (option_map (λ at. at.0) last)) result }
     ensures holds { KeepsConnection L.left L.faults conn.old conn.new result }
     ensures end { IfErr result (λ how. is_of_link how ≡ true) }
 {
-    match last {
-        None => finish(conn),
-        Some(at) => {
-            conn.record_run(CONTEXT, at, true, &mut room[..frame])?;
-            finish(conn)
-        }
-    }
+    wait_past(conn, last, frame)?;
+    finish(conn)
 }

@@ -6,6 +6,7 @@ mod fill;
 pub mod laws;
 mod leave;
 mod memory;
+mod pace;
 mod play;
 mod player;
 mod record;

@@ -1,39 +1,40 @@
 // What a source gives is played, block by block.
-ghost use Rattle.std.specs.Prelude.{ℕ, List, ◌≡◌, ◌<◌, ◌≤◌, ◌*◌, ◌+◌, ◌-◌, ◌++◌, true, false, length, take, IfErr, IfOk, IsErrOf, Ok};
+ghost use Rattle.std.specs.Prelude.{ℕ, List, ◌≡◌, ◌<◌, ◌≤◌, ◌*◌, ◌+◌, ◌-◌, ◌++◌, true, length, take, IfErr, IfOk, IsErrOf, Ok};
 ghost use Rattle.std.specs.declared.option.Option.{Option};
 ghost use Rattle.std.specs.declared.option.Option.TheVariants.{None, Some};
 ghost use Rattle.af_io.specs.Observed.{CountsFault};
 ghost use Rattle.af_io.specs.Flow.{ConsumedWithin};
-ghost use Rattle.af_request.specs.Asked.{play_run};
-ghost use Rattle.af_lib.specs.Calls.{as_time};
 ghost use Rattle.af_toolkit.specs.Ends.{client_of, is_of_link, KeepsConnection};
-ghost use Rattle.af_toolkit.specs.ToolParts.{asks, GoesOver};
+ghost use Rattle.af_toolkit.specs.ToolParts.{GoesOver};
 ghost use Rattle.af_sound.specs.Served.{served_length};
 ghost use Rattle.af_tools.specs.Sounds.{most_bytes, as_served, block_bytes, served_room, AreWhole, IsServedAs};
-ghost use Rattle.af_tools.specs.Play.{plays_sound, IsBlock};
+ghost use Rattle.af_tools.specs.Play.{plays_block, plays_sound, IsBlock};
 ghost use Rattle.af_tools.specs.Reading.{left_before, FillsBlock, IsEarlyBlock, IsNextBlock, GoesReading, TakesSound, is_of_blocks};
 ghost use Rattle.af_tools.specs.Steps.{ReadsInStep};
 ghost use Rattle.af_cli.specs.Sizes.{greatest_block};
 
 use crate::fill::{FillFault, fill_stated, still_left};
+use crate::pace::{Course, Pace, wait_past};
 use crate::sound::SourceSound;
 use af_cli::GREATEST_BLOCK;
 use af_io::{Link, Source};
 use af_lib::Conn;
 use af_sound::{Coding, to_server};
 use af_time::DevTime;
-use af_toolkit::{CONTEXT, ToolEnd, time_after_frames};
+use af_toolkit::{CONTEXT, ToolEnd};
 
 /// How many bytes a source may give, with the header of a file.
 pub const MOST_BYTES: u64 = 1 << 40;
 
-/// What is played: a sound, in blocks of so many frames, from a start on.
+/// What is played: a sound, in blocks of so many frames, at a pace.
 #[derive(Clone, Copy)]
 pub struct Playback {
     pub sound: SourceSound,
     /// The frames of a block.
     pub block: u32,
-    pub start: DevTime,
+    pub pace: Pace,
+    /// The device's time, as it was told before the first block.
+    pub told: DevTime,
 }
 
 // How many bytes a server takes for so many bytes of a file.
@@ -47,45 +48,61 @@ fn served_size(coding: Coding, count: usize) -> usize
     }
 }
 
-// Plays samples of the context.
+// Plays samples of the context at their time, once the device is near enough to that.
 fn play_samples<L: Link + Drop>(
     conn: &mut Conn<L>,
-    at: DevTime,
+    pace: Pace,
+    course: Course,
     samples: &[u8],
 ) -> Result<DevTime, ToolEnd>
     requires usable { conn.old.cause ≡ None }
+    requires frame { pace.frame ≤ 8 }
     requires block { length samples.now ≤ greatest_block }
-    ensures goes { GoesOver L.left L.sent conn.old conn.new (asks (play_run false 1 at.0 samples.now) as_time) result }
+    ensures goes { GoesOver L.left L.sent conn.old conn.new (plays_block pace course samples.now) result }
     ensures holds { KeepsConnection L.left L.faults conn.old conn.new result }
     ensures end { IfErr result (λ how. is_of_link how ≡ true) }
 {
-    Ok(conn.play_run(CONTEXT, at, samples)?)
+    wait_past(conn, pace.awaited(course), pace.frame)?;
+    Ok(conn.play_run(CONTEXT, pace.next_time(course), samples)?)
+}
+
+// How the next block is played: how a file codes it, when blocks are sent, and how far playing has come.
+#[derive(Clone, Copy)]
+struct Turn {
+    coding: Option<Coding>,
+    pace: Pace,
+    course: Course,
 }
 
 // Plays a block as a server takes it. The samples of a file are converted into the room that is handed in.
 fn play_block<L: Link + Drop>(
     conn: &mut Conn<L>,
-    coding: Option<Coding>,
-    at: DevTime,
+    turn: Turn,
     block: &[u8],
     room: &mut [u8],
 ) -> Result<DevTime, ToolEnd>
     requires usable { conn.old.cause ≡ None }
-    requires block { (length block.now ≤ greatest_block) × AreWhole coding (length block.now) }
-    requires room { (served_room coding (length block.now) ≤ length room.old)
-        × (served_room coding (length block.now) ≤ greatest_block) }
+    requires frame { turn.pace.frame ≤ 8 }
+    requires block { (length block.now ≤ greatest_block) × AreWhole turn.coding (length block.now) }
+    requires room { (served_room turn.coding (length block.now) ≤ length room.old)
+        × (served_room turn.coding (length block.now) ≤ greatest_block) }
     ensures goes { GoesOver L.left L.sent conn.old conn.new
-        (asks (play_run false 1 at.0 (as_served coding block.now)) as_time) result }
+        (plays_block turn.pace turn.course (as_served turn.coding block.now)) result }
     ensures room { length room.new ≡ length room.old }
     ensures holds { KeepsConnection L.left L.faults conn.old conn.new result }
     ensures end { IfErr result (λ how. is_of_link how ≡ true) }
 {
+    let Turn {
+        coding,
+        pace,
+        course,
+    } = turn;
     match coding {
-        None => play_samples(conn, at, block),
+        None => play_samples(conn, pace, course, block),
         Some(coding) => {
             let size = served_size(coding, block.len());
             to_server(coding, block, &mut room[..size]);
-            play_samples(conn, at, &room[..size])
+            play_samples(conn, pace, course, &room[..size])
         }
     }
 }
@@ -169,7 +186,7 @@ pub fn read_first<S: Source>(
     }
 }
 
-/// Plays the sound that a source gives, in blocks, from a start on: how many frames these were. The first block was read, and
+/// Plays the sound that a source gives, in blocks, from a start on, and answers how far it came. The first block was read, and
 /// stands at the front of the room. Bytes at the end that make no whole frame are dropped.
 pub fn play_blocks<L: Link + Drop, S: Source>(
     conn: &mut Conn<L>,
@@ -177,47 +194,52 @@ pub fn play_blocks<L: Link + Drop, S: Source>(
     playback: Playback,
     first: usize,
     room: &mut [u8],
-) -> Result<u64, ToolEnd>
+) -> Result<Course, ToolEnd>
     requires usable { conn.old.cause ≡ None }
     requires block { IsBlock playback.sound.ty playback.sound.channels playback.block }
+    requires frame { playback.pace.frame ≤ 8 }
     requires sound { IsServedAs playback.sound.coding playback.sound.ty × (playback.sound.head ≤ most_bytes) }
     requires first { IsNextBlock (block_bytes playback.sound playback.block) (most_bytes - playback.sound.head)
         playback.sound.length first (S.left source.old) }
     requires room { greatest_block ≤ length room.old }
     ensures goes { GoesReading L.left L.sent S.left conn.old conn.new source.old source.new
-        (λ bytes. plays_sound playback.sound playback.block playback.start.0 (take first room.old ++ bytes)) result }
+        (λ bytes. plays_sound playback.sound playback.block playback.pace playback.told (take first room.old ++ bytes)) result }
     ensures takes { TakesSound playback.sound.length (most_bytes - playback.sound.head) result
         (left_before (take first room.old) (S.left source.old)) (S.left source.new) }
     ensures step { (input : List ℕ) → L.left conn.old.link ≡ Some input → (steps : ReadsInStep playback.sound playback.block
-        (plays_sound playback.sound playback.block playback.start.0) (client_of conn.old input)
+        (plays_sound playback.sound playback.block playback.pace playback.told) (client_of conn.old input)
         (IsErrOf result ToolEnd.ReadFault) ⊥ (left_before (take first room.old) (S.left source.old)) (S.left source.new)
         (L.sent conn.old.link) (L.sent conn.new.link)) × (IsErrOf result ToolEnd.ReadFault → 1 ≤ length steps.played) }
     ensures holds { KeepsConnection L.left L.faults conn.old conn.new result }
     ensures end { IfErr result (λ how. is_of_blocks how ≡ true) }
     ensures fault { CountsFault (IsErrOf result ToolEnd.ReadFault) (S.faults source.old) (S.faults source.new) }
 {
-    let Playback { sound, start, .. } = playback;
+    let Playback { sound, pace, .. } = playback;
     let width = sound.width();
     let size = playback.block as usize * width;
     let block = &mut room[..size];
     let mut served = [0; GREATEST_BLOCK];
     let most = MOST_BYTES - sound.head;
     let mut left = sound.length;
-    let mut frames = 0u64;
+    let mut course = Course::from_time(playback.told);
     let mut given = 0u64;
     let mut filled = first;
     loop {
         let count = filled / width;
         if count == 0 {
-            return Ok(frames);
+            return Ok(course);
         }
-        let at = time_after_frames(start, frames);
-        play_block(conn, sound.coding, at, &block[..count * width], &mut served)?;
-        frames += count as u64;
+        let turn = Turn {
+            coding: sound.coding,
+            pace,
+            course,
+        };
+        let told = play_block(conn, turn, &block[..count * width], &mut served)?;
+        course = course.on(pace, count, told);
         given += filled as u64;
         left = still_left(left, filled);
         if filled < size {
-            return Ok(frames);
+            return Ok(course);
         }
         filled = fill_stated(source, block, left, most - given)?;
     }

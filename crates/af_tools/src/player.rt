@@ -9,13 +9,14 @@ ghost use Rattle.af_toolkit.specs.Talk.{creates};
 ghost use Rattle.af_toolkit.specs.Trace.{answer_on};
 ghost use Rattle.af_toolkit.specs.Ends.{client_of, is_of_link, KeepsConnection};
 ghost use Rattle.af_toolkit.specs.ToolParts.{asks, GoesOver};
-ghost use Rattle.af_tools.specs.Play.{play_context, played_frames, plays_on, start_at, IsBlock};
+ghost use Rattle.af_tools.specs.Play.{job_pace, play_context, played_frames, plays_on, start_at, IsBlock};
 ghost use Rattle.af_tools.specs.Reading.{GivesContext, GoesReading, TakesSound, UsesSource, is_of_blocks, is_of_tool, LacksDevice, RunsAplay};
 ghost use Rattle.af_tools.specs.Sounds.{most_bytes, IsServedAs};
 ghost use Rattle.af_tools.specs.Steps.{PlaysInStep, RunsInStep};
 ghost use Rattle.af_cli.specs.Sizes.{greatest_block};
 
-use crate::leave::{GREATEST_FRAME, last_frame, leave};
+use crate::leave::{last_frame, leave};
+use crate::pace::{Pace, ahead_frames, paced_block};
 use crate::play::{Playback, play_blocks, read_early, read_first};
 use crate::report::report;
 use crate::sound::{SourceSound, sound_of};
@@ -27,11 +28,13 @@ use af_sample::{Gain, SampleType};
 use af_time::DevTime;
 use af_toolkit::{ToolContext, ToolEnd, device_time, device_with, make_context, time_after_frames};
 
-// How many frames were played, and from when on.
+/// How many frames were played, and from when on.
 #[derive(Clone, Copy)]
 pub struct Played {
     pub frames: u64,
     pub start: DevTime,
+    /// Whether some came too late to be heard.
+    pub late: bool,
 }
 
 // The time from which a job plays, if the device's time is now.
@@ -41,6 +44,17 @@ fn start_of(job: &PlayJob, now: DevTime, rate: u32) -> DevTime
     match job.time {
         Some(time) => DevTime(time),
         None => time_after_frames(now, u64::from(rate) * u64::from(job.lead) / 1000),
+    }
+}
+
+// When the blocks of a job are sent, on a device of this rate, if the device's time is now.
+fn pace_of(job: &PlayJob, rate: u32, sound: SourceSound, now: DevTime) -> Pace
+    ensures { result ≡ job_pace job.now rate sound.ty sound.channels now }
+{
+    Pace {
+        start: start_of(job, now, rate),
+        ahead: ahead_frames(job, rate),
+        frame: sound.ty.frame_bytes(sound.channels),
     }
 }
 
@@ -76,15 +90,15 @@ fn make_play_context<L: Link + Drop>(
     make_context(conn, context_of(job, sound.ty))
 }
 
-// The frames of a block of a job.
-fn block_of(job: &PlayJob, sound: SourceSound) -> u32
+// The frames of a block of a job, on a device of this rate.
+fn block_of(job: &PlayJob, rate: u32, sound: SourceSound) -> u32
     requires begun { 1 ≤ job.now.block }
     requires count { IsChannelCount sound.channels }
-    ensures value { result ≡ played_frames job.now sound.ty sound.channels }
+    ensures value { result ≡ played_frames job.now rate sound.ty sound.channels }
     ensures block { IsBlock sound.ty sound.channels result }
 {
     let frame = sound.ty.frame_bytes(sound.channels);
-    block_frames(job.block, frame)
+    block_frames(paced_block(ahead_frames(job, rate), job.block), frame)
 }
 
 // A job, and what its source gives to be played on its device.
@@ -122,27 +136,31 @@ fn play_on<L: Link + Drop, S: Source>(
 {
     let Plan { job, device, sound } = plan;
     make_play_context(&job, sound, conn)?;
-    let block = block_of(&job, sound);
+    let block = block_of(&job, device.rate, sound);
     // The time is asked for once there is something to play, so a source that is slow to begin costs no lead.
     let early = read_early(source, sound, block, room)?;
     let now = device_time(conn, job.device)?;
-    let start = start_of(&job, now, device.rate);
+    let pace = pace_of(&job, device.rate, sound, now);
     let first = read_first(source, sound, block, early, room)?;
     let playback = Playback {
         sound,
         block,
-        start,
+        pace,
+        told: now,
     };
-    let frames = play_blocks(conn, source, playback, first, room)?;
-    let last = last_frame(job.drain, start, frames);
-    let mut heard = [0; GREATEST_FRAME];
-    leave(conn, last, sound.ty.frame_bytes(sound.channels), &mut heard)?;
-    Ok(Played { frames, start })
+    let course = play_blocks(conn, source, playback, first, room)?;
+    let last = last_frame(job.drain, pace.start, course.frames);
+    leave(conn, last, pace.frame)?;
+    Ok(Played {
+        frames: course.frames,
+        start: pace.start,
+        late: course.late,
+    })
 }
 
 /// Plays what a source gives on a device, in blocks, and then writes how many frames were played and from when on. A sound file
-/// is to have the rate and the channels of the device. The connection is one that was just made; room for 16000 bytes is handed
-/// in.
+/// is to have the rate and the channels of the device. Where the job is strict, the end says if frames were late. The connection
+/// is one that was just made; room for 16000 bytes is handed in.
 pub fn aplay<L: Link + Drop, S: Source, K: Sink>(
     job: &PlayJob,
     conn: &mut Conn<L>,
@@ -161,7 +179,7 @@ pub fn aplay<L: Link + Drop, S: Source, K: Sink>(
     ensures step { RunsInStep L.left L.sent S.left job.now result conn.old conn.new source.old source.new }
 
     // each end has its cause
-    ensures end { is_of_tool true result ≡ true }
+    ensures end { is_of_tool true job.now.strict result ≡ true }
     ensures no_device { LacksDevice job.now.device conn.old.devices result }
     ensures source { UsesSource S.left S.faults true job.now.form result source.old source.new }
     ensures unread { job.now.form ≡ None → (source.new ≡ source.old) ⊎ ((input : List ℕ) →
@@ -183,7 +201,7 @@ pub fn aplay<L: Link + Drop, S: Source, K: Sink>(
         sound,
     };
     match play_on(plan, conn, source, room) {
-        Ok(played) => report(sink, played.frames, played.start),
+        Ok(played) => report(sink, played, job.strict),
         Err(end) => end,
     }
 }

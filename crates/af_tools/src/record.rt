@@ -1,12 +1,12 @@
 // Blocks are recorded, one after another, and written to the sink.
-ghost use Rattle.std.specs.Prelude.{◌≡◌, ◌<◌, ◌≤◌, ◌+◌, ◌*◌, ◌^◌, ℕ, List, [], length, nat_lt, IsOk, if◌then◌else◌, true, Err, IfErr};
+ghost use Rattle.std.specs.Prelude.{◌≡◌, ◌||◌, ◌<◌, ◌≤◌, ◌+◌, ◌*◌, ◌^◌, ℕ, List, [], length, nat_lt, IsOk, if◌then◌else◌, true, Err, IfErr};
 ghost use Rattle.std.specs.declared.option.Option.{Option};
 ghost use Rattle.std.specs.declared.option.Option.TheVariants.{None, Some};
 ghost use Rattle.af_io.specs.Observed.{CountsFault};
 ghost use Rattle.af_sample.specs.Channels.{IsChannelCount};
 ghost use Rattle.af_toolkit.specs.Ends.{client_of, is_of_link, is_of_link_or_sink, KeepsConnection};
 ghost use Rattle.af_toolkit.specs.ToolParts.{GoesWriting};
-ghost use Rattle.af_tools.specs.Record.{IsFiledAs, block_lengths, peak, recorded_frame, records, records_all, takes_block};
+ghost use Rattle.af_tools.specs.Record.{IsFiledAs, block_lengths, nothing_recorded, peak, recorded_frame, records, records_all, takes_block};
 ghost use Rattle.af_tools.specs.RecordSteps.{WritesInStep};
 ghost use Rattle.af_tools.specs.Sounds.{AreWhole};
 ghost use Rattle.af_cli.specs.Sizes.{block_frames, greatest_block};
@@ -18,7 +18,7 @@ use af_lib::Conn;
 use af_sample::{SampleType, decode};
 use af_sound::Coding;
 use af_time::DevTime;
-use af_toolkit::{CONTEXT, ToolEnd};
+use af_toolkit::{CONTEXT, ToolEnd, had_left};
 
 /// What is recorded, and how it is written.
 #[derive(Clone, Copy)]
@@ -27,6 +27,24 @@ pub struct RecordedSound {
     /// How a file codes the samples, or none where they are written as they are.
     pub coding: Option<Coding>,
     pub channels: u8,
+    /// The sample periods of the past that the server keeps.
+    pub horizon: u32,
+}
+
+/// How much was recorded.
+#[derive(Clone, Copy)]
+pub struct Recording {
+    pub frames: u32,
+    /// Whether frames had left the server before they were asked for.
+    pub lost: bool,
+}
+
+/// A block that was recorded and written.
+#[derive(Clone, Copy)]
+pub struct TakenBlock {
+    pub peak: u32,
+    /// Whether frames of it had left the server before they were asked for.
+    pub lost: bool,
 }
 
 impl RecordedSound {
@@ -60,14 +78,21 @@ fn row_after(row: u32, peak: u32, limit: u32) -> u32
     if peak < limit { row + 1 } else { 0 }
 }
 
-// Records a block, writes it to the sink, and answers its peak.
+// Whether frames had left the server, in a block or before it.
+fn lost_after(lost: bool, taken: TakenBlock) -> bool
+    ensures { result ≡ (lost || taken.lost) }
+{
+    lost || taken.lost
+}
+
+// Records a block, and writes it to the sink.
 fn record_block<L: Link + Drop, K: Sink>(
     conn: &mut Conn<L>,
     sink: &mut K,
     sound: RecordedSound,
     at: DevTime,
     block: &mut [u8],
-) -> Result<u32, ToolEnd>
+) -> Result<TakenBlock, ToolEnd>
     requires usable { conn.old.cause ≡ None }
     requires filed { IsFiledAs sound.coding sound.ty }
     requires block { (0 < length block.old) × (length block.old ≤ greatest_block) × AreWhole sound.coding (length block.old) }
@@ -78,17 +103,17 @@ fn record_block<L: Link + Drop, K: Sink>(
     ensures fault { CountsFault (result ≡ Err ToolEnd.SinkFault) (K.faults sink.old) (K.faults sink.new) }
     ensures kept { IfErr result (λ how. is_of_link how ≡ true → sink.new ≡ sink.old) }
 {
-    conn.record_run(CONTEXT, at, true, block)?;
+    let reply = conn.record_run(CONTEXT, at, true, block)?;
     let peak = peak(sound.ty, block);
+    let lost = had_left(sound.horizon, at, reply.0);
     file_samples(sound.coding, block);
     match sink.write(block) {
-        Put::Done => Ok(peak),
+        Put::Done => Ok(TakenBlock { peak, lost }),
         Put::Failed => Err(ToolEnd::SinkFault),
     }
 }
 
-/// Records n frames from a start on, in blocks, and writes each block: how many frames these were. Enough quiet blocks in a row
-/// end it.
+/// Records n frames from a start on, in blocks, and writes each block: how much that was. Enough quiet blocks in a row end it.
 pub fn record_blocks<L: Link + Drop, K: Sink>(
     job: &RecordJob,
     sound: RecordedSound,
@@ -96,7 +121,7 @@ pub fn record_blocks<L: Link + Drop, K: Sink>(
     conn: &mut Conn<L>,
     sink: &mut K,
     room: &mut [u8],
-) -> Result<u32, ToolEnd>
+) -> Result<Recording, ToolEnd>
     requires usable { conn.old.cause ≡ None }
     requires filed { IsFiledAs sound.coding sound.ty }
     requires channels { IsChannelCount sound.channels }
@@ -106,7 +131,8 @@ pub fn record_blocks<L: Link + Drop, K: Sink>(
     ensures goes { GoesWriting L.left L.sent K.held conn.old conn.new sink.old sink.new
         (records_all job.now sound start.0) result }
     ensures step { (input : List ℕ) → L.left conn.old.link ≡ Some input → (steps : WritesInStep
-        (block_lengths (block_frames job.now.block (recorded_frame sound)) job.now.frames) (records job.now sound start.0 0 [])
+        (block_lengths (block_frames job.now.block (recorded_frame sound)) job.now.frames)
+        (records job.now sound start.0 nothing_recorded [])
         (client_of conn.old input) (result ≡ Err ToolEnd.SinkFault) (L.sent conn.old.link) (L.sent conn.new.link)
         (K.held sink.old) (K.held sink.new)) × (IsOk result → (steps.asked ≡ []) × (steps.written ≡ [])) }
     ensures holds { KeepsConnection L.left L.faults conn.old conn.new result }
@@ -118,16 +144,24 @@ pub fn record_blocks<L: Link + Drop, K: Sink>(
     let mut at = start;
     let mut left = job.frames;
     let mut row = 0;
+    let mut lost = false;
     while left > 0 {
         let count = left.min(block);
         let size = count as usize * frame;
-        let peak = record_block(conn, sink, sound, at, &mut room[..size])?;
+        let taken = record_block(conn, sink, sound, at, &mut room[..size])?;
         at = at.after(count);
         left -= count;
-        row = row_after(row, peak, job.stop_peak);
+        lost = lost_after(lost, taken);
+        row = row_after(row, taken.peak, job.stop_peak);
         if row >= job.stop_blocks {
-            return Ok(job.frames - left);
+            return Ok(Recording {
+                frames: job.frames - left,
+                lost,
+            });
         }
     }
-    Ok(job.frames)
+    Ok(Recording {
+        frames: job.frames,
+        lost,
+    })
 }

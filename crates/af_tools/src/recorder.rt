@@ -13,14 +13,14 @@ ghost use Rattle.af_tools.specs.Reading.{is_of_tool, LacksDevice, RunsTool};
 ghost use Rattle.af_cli.specs.Sizes.{greatest_block};
 
 use crate::file::{recorded_sound, write_front, write_pad};
-use crate::record::record_blocks;
+use crate::record::{Recording, record_blocks};
 use af_cli::RecordJob;
 use af_io::{Link, Sink};
 use af_lib::Conn;
 use af_request::DeviceInfo;
 use af_sample::Gain;
 use af_time::DevTime;
-use af_toolkit::{ToolContext, ToolEnd, begin, device_with, finish};
+use af_toolkit::{ToolContext, ToolEnd, begin, device_with, end_by, finish};
 
 // The time from which a job records, if the device's time is now.
 fn start_of(job: &RecordJob, now: DevTime) -> DevTime
@@ -54,7 +54,7 @@ fn write_recording<L: Link + Drop, K: Sink>(
     conn: &mut Conn<L>,
     sink: &mut K,
     room: &mut [u8],
-) -> Result<(), ToolEnd>
+) -> Result<Recording, ToolEnd>
     requires usable { conn.old.cause ≡ None }
     requires shape { IsDeviceInfo device }
     requires block { (1 ≤ job.now.block) × (job.now.block ≤ 4000) }
@@ -73,9 +73,10 @@ fn write_recording<L: Link + Drop, K: Sink>(
 {
     let sound = recorded_sound(job, device);
     write_front(sink, job, device)?;
-    let frames = record_blocks(job, sound, start, conn, sink, room)?;
-    let size = u64::from(frames) * sound.frame_bytes() as u64;
-    write_pad(sink, job.form, size)
+    let recording = record_blocks(job, sound, start, conn, sink, room)?;
+    let size = u64::from(recording.frames) * sound.frame_bytes() as u64;
+    write_pad(sink, job.form, size)?;
+    Ok(recording)
 }
 
 // Records on a device.
@@ -85,7 +86,7 @@ fn record_on<L: Link + Drop, K: Sink>(
     conn: &mut Conn<L>,
     sink: &mut K,
     room: &mut [u8],
-) -> Result<(), ToolEnd>
+) -> Result<Recording, ToolEnd>
     requires usable { conn.old.cause ≡ None }
     requires channels { device_channels conn.old.devices job.now.device ≡ device.channels }
     requires shape { IsDeviceInfo device }
@@ -103,12 +104,14 @@ fn record_on<L: Link + Drop, K: Sink>(
     let context = context_of(job, device);
     let now = begin(conn, context)?;
     let start = start_of(job, now);
-    write_recording(job, device, start, conn, sink, room)?;
-    finish(conn)
+    let recording = write_recording(job, device, start, conn, sink, room)?;
+    finish(conn)?;
+    Ok(recording)
 }
 
 /// Records n frames of a device in blocks, or n seconds of it, and writes each block to the sink, as samples or in a sound file.
-/// Enough quiet blocks in a row end it early. The connection is one that was just made; room for 16000 bytes is handed in.
+/// Enough quiet blocks in a row end it early. Where the job is strict, the end says if frames had left the server. The connection
+/// is one that was just made; room for 16000 bytes is handed in.
 pub fn arecord<L: Link + Drop, K: Sink>(
     job: &RecordJob,
     conn: &mut Conn<L>,
@@ -122,14 +125,14 @@ pub fn arecord<L: Link + Drop, K: Sink>(
 
     // what was sent and written, and when it is done
     ensures ran { RunsTool L.left L.sent K.held (λ w. arecord_trace job.now conn.old.devices w)
-        job.now.device result conn.old conn.new sink.old sink.new }
+        job.now.device job.now.strict result conn.old conn.new sink.old sink.new }
     ensures recorded { LeavesRecording L.left L.sent K.held job.now result conn.old conn.new sink.old sink.new }
 
     // in what order it asked and wrote
     ensures step { RunsWriting L.left L.sent K.held job.now result conn.old conn.new sink.old sink.new }
 
     // each end has its cause
-    ensures end { is_of_tool false result ≡ true }
+    ensures end { is_of_tool false job.now.strict result ≡ true }
     ensures no_device { LacksDevice job.now.device conn.old.devices result }
     ensures link { CountsFault (result ≡ ToolEnd.LinkFault) (L.faults conn.old.link) (L.faults conn.new.link) }
     ensures sink { CountsFault (result ≡ ToolEnd.SinkFault) (K.faults sink.old) (K.faults sink.new) }
@@ -139,7 +142,7 @@ pub fn arecord<L: Link + Drop, K: Sink>(
         Err(end) => return end,
     };
     match record_on(&job.at_rate(device.rate), device, conn, sink, room) {
-        Ok(()) => ToolEnd::Done,
+        Ok(recording) => end_by(job.strict, recording.lost),
         Err(end) => end,
     }
 }

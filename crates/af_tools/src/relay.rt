@@ -10,7 +10,7 @@ ghost use Rattle.af_relay.specs.Pair.{is_of_pass};
 ghost use Rattle.af_relay.specs.Pass.{both, doing, relay_of};
 ghost use Rattle.af_relay.specs.RelayParts.{RelayDid, SendsBoth};
 ghost use Rattle.af_tools.specs.Run.{is_of_dial, is_of_far, no_client, relays_to, AskedFor, JobRan, ReturnsBoth};
-ghost use Rattle.af_cli.specs.Sizes.{greatest_block};
+ghost use Rattle.af_cli.specs.Sizes.{greatest_play};
 
 use crate::memory::Memory;
 use af_cli::{PassJob, RelayCall};
@@ -31,7 +31,7 @@ fn pass_over<L: Link + Drop, M: Link + Drop, K: Sink>(
 ) -> (ToolEnd, M)
     requires usable { conn.old.cause ≡ None }
     requires pace { IsPaced job.now }
-    requires room { greatest_block ≤ length memory.old.room.items }
+    requires room { greatest_play ≤ length memory.old.room.items }
     ensures followed { (v : List ℕ) (link : ToldLink) → L.left conn.old.link ≡ Some v → M.left far ≡ Some link.gives →
         RelayDid (relay_of (relays_to order job.now (link ∷ []) conn.old.devices (both (client_of conn.old v) (no_client order))))
         result.0 (K.held sink.old) (K.held sink.new)
@@ -65,7 +65,7 @@ fn run_to<K: Sink, D: Dial>(
     requires usable { conn.cause ≡ None }
     requires to { IsAddress call.now.to.now }
     requires pace { IsPaced call.now.job }
-    requires room { greatest_block ≤ length memory.old.room.items }
+    requires room { greatest_play ≤ length memory.old.room.items }
     ensures ran { (v : List ℕ) (links : List ToldLink) → D.Far.Link.left conn.link ≡ Some v → D.links dial.old ≡ Some links →
         RelayDid (relay_of (relays_to call.now.order call.now.job links conn.devices
         (both (client_of conn v) (no_client call.now.order)))) result (K.held sink.old) (K.held sink.new)
@@ -106,7 +106,7 @@ pub fn run_relay<K: Sink, D: Dial>(
 ) -> ToolEnd
     requires servers { IsAddress call.now.from.now × IsAddress call.now.to.now }
     requires pace { IsPaced call.now.job }
-    requires room { greatest_block ≤ length memory.old.room.items }
+    requires room { greatest_play ≤ length memory.old.room.items }
     ensures ran { (links : List ToldLink) (bytes : List ℕ) → D.links dial.old ≡ Some links →
         JobRan (relay call.now.from.now call.now.to.now call.now.order call.now.job) bytes result links (D.links dial.new)
         (K.held sink.old) (K.held sink.new) (D.back dial.old) (D.back dial.new) }

@@ -10,7 +10,7 @@ ghost use Rattle.af_cli.specs.Words.{is_spelled, job, one, Job};
 ghost use Rattle.af_cli.specs.Call.{job_of_call, IsCall};
 ghost use Rattle.af_cli.specs.Ranges.{IsAddress, IsRanged};
 ghost use Rattle.af_tools.specs.Reading.{FollowsTrace, TellsIfRead, UsesSource, DialGivesContext, GivesContext, JobReadsLate, ReadsLate, is_of_tool};
-ghost use Rattle.af_tools.specs.Run.{is_of_af, is_of_dial, is_of_far, is_of_job, job_form, job_reads, reads_source, servers_of, source_form, task_trace, AskedFor, DoesJob, EndsForCause, JobRan};
+ghost use Rattle.af_tools.specs.Run.{is_of_af, is_of_dial, is_of_far, is_of_job, is_strict, job_form, job_reads, reads_source, servers_of, source_form, task_trace, AskedFor, DoesJob, EndsForCause, JobRan};
 ghost use Rattle.af_tools.specs.RunSteps.{JobInStep, SetUpThen, TaskSteps};
 ghost use Rattle.af_cli.specs.Sizes.{greatest_block};
 
@@ -45,7 +45,7 @@ fn perform<L: Link + Drop, S: Source, K: Sink>(
         TellsIfRead S.left (reads_source task.now) bytes source.old source.new →
         TaskSteps task.now conn.old.devices bytes (client_of conn.old input) result (S.left source.new)
         (L.sent conn.old.link) (L.sent conn.new.link) (K.held sink.old) (K.held sink.new) }
-    ensures end { is_of_tool (reads_source task.now) result ≡ true }
+    ensures end { is_of_tool (reads_source task.now) (is_strict task.now) result ≡ true }
     ensures source { UsesSource S.left S.faults (reads_source task.now) (source_form task.now) result source.old source.new }
     ensures unread { ReadsLate task.now (λ play. (input : List ℕ) → L.left conn.old.link ≡ Some input →
         GivesContext play conn.old.devices (client_of conn.old input)) source.old source.new }
@@ -80,7 +80,7 @@ fn perform_over<L: Link + Drop, S: Source, K: Sink>(
         TaskSteps task.now devices bytes w result.0 (S.left source.new) sent sent' (K.held sink.old) (K.held sink.new))
         (L.sent far) (L.sent result.1) }
     ensures memory { result.0 ≡ ToolEnd.OutOfMemory → (L.sent result.1 ≡ L.sent far) × (sink.new ≡ sink.old) }
-    ensures end { is_of_far (is_of_tool (reads_source task.now)) result.0 ≡ true }
+    ensures end { is_of_far (is_of_tool (reads_source task.now) (is_strict task.now)) result.0 ≡ true }
     ensures source { UsesSource S.left S.faults (reads_source task.now) (source_form task.now) result.0 source.old source.new }
     ensures unread { ReadsLate task.now (λ play. (link : ToldLink) (links : List ToldLink) → L.left far ≡ Some link.gives →
         DialGivesContext order play (link ∷ links)) source.old source.new }
@@ -114,7 +114,7 @@ fn run_one<S: Source, K: Sink, D: Dial>(
     ensures step { JobInStep D.links D.back S.left K.held (one call.now.server.now call.now.order call.now.task) result
         dial.old dial.new source.old source.new sink.old sink.new }
     ensures asked { Appended (D.asked dial.old) (call.now.server.now ∷ []) (D.asked dial.new) }
-    ensures end { is_of_dial (is_of_tool (reads_source call.now.task)) result ≡ true }
+    ensures end { is_of_dial (is_of_tool (reads_source call.now.task) (is_strict call.now.task)) result ≡ true }
     ensures causes { EndsForCause S.left S.faults K.faults D.faults D.hurt
         (reads_source call.now.task) (source_form call.now.task) result
         source.old source.new sink.old sink.new dial.old dial.new }

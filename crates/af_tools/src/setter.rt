@@ -33,10 +33,10 @@ pub fn aset<L: Link + Drop, K: Sink>(job: &SetJob, conn: &mut Conn<L>, sink: &mu
 
     // what was sent and written, and when it is done
     ensures ran { RunsTool L.left L.sent K.held (λ w. aset_trace job.now conn.old.devices w)
-        job.now.device result conn.old conn.new sink.old sink.new }
+        job.now.device false result conn.old conn.new sink.old sink.new }
 
     // each end has its cause
-    ensures end { is_of_tool false result ≡ true }
+    ensures end { is_of_tool false false result ≡ true }
     ensures no_device { LacksDevice job.now.device conn.old.devices result }
     ensures link { CountsFault (result ≡ ToolEnd.LinkFault) (L.faults conn.old.link) (L.faults conn.new.link) }
     ensures sink { CountsFault (result ≡ ToolEnd.SinkFault) (K.faults sink.old) (K.faults sink.new) }

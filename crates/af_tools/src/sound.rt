@@ -2,7 +2,7 @@
 ghost use Rattle.std.specs.Prelude.{◌≡◌, ◌≤◌, ◌*◌, ℕ, List, [], length, take, true, IfErr, IfOk, IsErrOf, IsSome, unwrap_or};
 ghost use Rattle.std.specs.declared.option.Option.TheVariants.{None, Some};
 ghost use Rattle.af_io.specs.Observed.{CountsFault};
-ghost use Rattle.af_dialogue.specs.Parts.{end_among};
+ghost use Rattle.af_toolkit.specs.Parts.{end_among};
 ghost use Rattle.af_toolkit.specs.Trace.{tool_end};
 ghost use Rattle.af_tools.specs.Sounds.{file_sound, fits_device, raw_sound, served_type, source_width, IsServedAs};
 ghost use Rattle.af_tools.specs.Reading.{is_of_front, is_of_sound, ConsumedHead, EndShows, HeadCame, SoundCame};

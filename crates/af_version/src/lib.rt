@@ -3,9 +3,11 @@
 
 mod about;
 mod page;
+mod stamp;
 
 pub use about::{About, asked_about};
 pub use page::{PageFault, page_text, write_page};
+pub use stamp::write_version;
 
 /// The version of both programs, which is that of the package too.
 pub const VERSION: &str = "0.4";

@@ -14,6 +14,10 @@ silence = told.Silent
 abbrev pub two_files : List ℕ → List ℕ → ToldKind
 two_files input output = told.Files input output
 
+-- what the device emitted a fortieth of a second before
+abbrev pub its_own_sound : ToldKind
+its_own_sound = told.Loop
+
 -- a child program with this command line, which is started again so often; it is given the sound that the device emits
 abbrev pub child_program : ℕ → List (List ℕ) → ToldKind
 child_program restarts words = told.Codec restarts words
@@ -30,5 +34,6 @@ most_card_restarts = 1000000
 abbrev pub told_kind : Kind → ToldKind
 told_kind kind.Silent = silence
 told_kind (kind.Files input output) = two_files input.now output.now
+told_kind kind.Loop = its_own_sound
 told_kind (kind.Codec restarts words) = child_program restarts (words_of words.now)
 told_kind (kind.Card card restarts words) = card_program card restarts (words_of words.now)

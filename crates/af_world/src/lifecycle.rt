@@ -10,6 +10,7 @@ pub enum ToldKind {
         input: Bytes,
         output: Bytes,
     },
+    Loop,
     Codec {
         restarts: u32,
         words: CommandLine,

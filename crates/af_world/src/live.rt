@@ -26,6 +26,8 @@ pub enum Kind<'a> {
         input: &'a str,
         output: &'a str,
     },
+    /// It captures what it handed out a fortieth of a second before.
+    Loop,
     /// It captures silence, and gives what it hands out to a child program: one of these words, which is started again so often.
     Codec {
         restarts: u32,

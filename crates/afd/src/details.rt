@@ -1,7 +1,9 @@
 // The lines after that of the end, if details are wanted.
 use af_io::{Args, StdSink, StdSource};
 use af_shown::Shown;
-use afd_details::{KeptSource, tell_config_fault, tell_reason, tell_script_fault, tell_usage};
+use afd_details::{
+    KeptSource, tell_config_fault, tell_long_config, tell_reason, tell_script_fault, tell_usage,
+};
 use afd_log::{ListenRefusal, Log};
 use afd_script::ScriptEnd;
 use afd_serve::LiveEnd;
@@ -36,6 +38,7 @@ pub(crate) fn tell_live<R: Read + Drop>(
     match (end, source.kept()) {
         (LiveEnd::Usage, _) => tell_usage(rt, rt.alloc(), words),
         (LiveEnd::ConfigFault { line }, Some(text)) => tell_config_fault(rt, text, line),
+        (LiveEnd::TooLong, _) => tell_long_config(rt, source.first()),
         (LiveEnd::ReadFault, _) => tell_reason(rt, "standard input", source.source().reason()),
         (LiveEnd::ListenFault, _) => tell_listen(rt, words, refusal),
         (LiveEnd::AttachFault { device: _ }, _) => tell_attach(rt, log),

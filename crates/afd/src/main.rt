@@ -7,26 +7,29 @@ mod ends;
 
 use crate::details::{tell_live, tell_script};
 use crate::ends::{report_live, report_script};
-use af_io::{
-    Args, StdSink, StdSource, WordsFault, open_standard_streams, program_words, wants_details,
-};
-use af_version::{PageFault, write_page};
-use afd_details::{KeptSource, Page, page_asked, tell_not_text, tell_reason};
-use afd_log::{Log, logged_world};
+use af_io::{Args, StdSink, StdSource, WordsFault, open_standard_streams, program_words};
+use af_version::{PageFault, write_page, write_version};
+use afd_details::{KeptSource, Page, page_asked, tell_not_text, tell_reason, wants_log};
+use afd_log::{Fronts, Level, ListenRefusal, Log, logged_world};
 use afd_script::{ScriptEnd, afd_script};
-use afd_serve::{Endless, afd_live};
+use afd_serve::{Endless, LiveEnd, afd_live};
 use std::io;
+use std::io::Read;
 use std::process::ExitCode;
 
 // The page of help, or the version, to standard output.
 fn show(rt: &HostRuntime, page: Page) -> ExitCode {
     let mut sink = StdSink::new(io::writer(rt));
-    let ended = match write_page(rt.alloc(), &page, &mut sink) {
+    let written = match page {
+        Page::Version => write_version(rt, &mut sink),
+        page => write_page(rt.alloc(), &page, &mut sink),
+    };
+    let ended = match written {
         Ok(()) => ended_script(rt, ScriptEnd::Done),
         Err(PageFault::SinkFault) => ended_script(rt, ScriptEnd::SinkFault),
         Err(PageFault::OutOfMemory) => ended_script(rt, ScriptEnd::OutOfMemory),
     };
-    if wants_details(rt) {
+    if wants_log(rt) {
         tell_reason(rt, "standard output", sink.reason());
     }
     ended
@@ -43,7 +46,7 @@ fn run_command(rt: &HostRuntime, endless: &dyn Endless, words: &Args) -> ExitCod
 
 // A script or an exercise, over standard input and output.
 fn run_script(rt: &HostRuntime, words: &Args) -> ExitCode {
-    let details = wants_details(rt);
+    let details = wants_log(rt);
     let mut source = KeptSource::new(rt.alloc(), StdSource::new(rt.reader()), details);
     let mut sink = StdSink::new(io::writer(rt));
     let end = afd_script(rt.alloc(), words, &mut source, &mut sink);
@@ -56,17 +59,30 @@ fn run_script(rt: &HostRuntime, words: &Args) -> ExitCode {
 
 // The server, over standard input, sockets, files, child programs and the clock.
 fn run_server(rt: &HostRuntime, endless: &dyn Endless, words: &Args) -> ExitCode {
-    let details = wants_details(rt);
-    let log = Log::new(rt, details);
-    let mut world = logged_world(rt, &log);
+    let details = wants_log(rt);
+    let fronts = Fronts::of_environment(rt);
+    let log = Log::new(rt, details, fronts);
     let mut source = KeptSource::new(rt.alloc(), StdSource::new(rt.reader()), details);
-    let end = afd_live(rt.alloc(), endless, words, &mut source, &mut world);
+    let (end, refusal) = serve(rt, endless, words, &mut source, &log);
     // if standard error takes nothing, the exit status still says how it ended
-    let _ = report_live(rt, end);
+    let _ = report_live(rt, fronts.front(Level::Error), end);
     if details {
-        tell_live(rt, words, end, &source, world.listen_refusal(), &log);
+        tell_live(rt, words, end, &source, refusal, &log);
     }
     ExitCode::from(afd_serve::status_of(end))
+}
+
+// Serves. Whoever waits for standard error afterwards holds nobody up: the world is gone then, and its address free.
+fn serve<R: Read + Drop>(
+    rt: &HostRuntime,
+    endless: &dyn Endless,
+    words: &Args,
+    source: &mut KeptSource<StdSource<R>>,
+    log: &Log<'_>,
+) -> (LiveEnd, Option<ListenRefusal>) {
+    let mut world = logged_world(rt, log);
+    let end = afd_live(rt.alloc(), endless, words, source, &mut world);
+    (end, world.listen_refusal())
 }
 
 // Says how a script ended. If standard error takes nothing, the exit status still says it.
@@ -78,7 +94,7 @@ fn ended_script(rt: &HostRuntime, end: ScriptEnd) -> ExitCode {
 // Says that an argument is no text.
 fn ended_not_text(rt: &HostRuntime) -> ExitCode {
     let ended = ended_script(rt, ScriptEnd::Usage);
-    if wants_details(rt) {
+    if wants_log(rt) {
         tell_not_text(rt, rt.alloc());
     }
     ended

@@ -3,6 +3,7 @@ use crate::finding::Finding;
 use crate::line_words::LineWords;
 use crate::slot::Slot;
 use crate::stated::Stated;
+use af_config::{LONGEST_CODEC_WORD, LONGEST_WORD};
 use af_limits::MOST_DEVICES;
 use af_text::{is_word, number};
 
@@ -68,10 +69,10 @@ fn check_phone<'a>(mut words: LineWords<'a>, before: &Stated) -> Result<(), Find
     if before.programs.has(device) {
         return Err(first.finding(Slot::SecondProgram(place)));
     }
-    check_program(words, Slot::CardRestarts)
+    check_program(words, Slot::CardRestarts, LONGEST_WORD)
 }
 
-/// `silent`, `files INPUT OUTPUT`, or one of `codec`, `speaker`, `microphone` and `card` with `RESTARTS WORD ..`
+/// `silent`, `loop`, `files INPUT OUTPUT`, or one of `codec`, `speaker`, `microphone` and `card` with `RESTARTS WORD ..`
 fn check_kind<'a>(
     mut words: LineWords<'a>,
     slot: Slot,
@@ -84,27 +85,31 @@ fn check_kind<'a>(
         words.take(Slot::Output)?;
         return words.end(Slot::End);
     }
-    if is_word(kind, b"silent") {
+    if is_word(kind, b"silent") || is_word(kind, b"loop") {
         return words.end(Slot::End);
     }
     if !is_word(kind, b"codec") {
-        return check_program(words, Slot::CardRestarts);
+        return check_program(words, Slot::CardRestarts, LONGEST_WORD);
     }
     if has_codec {
         return Err(finding);
     }
-    check_program(words, Slot::CodecRestarts)
+    check_program(words, Slot::CodecRestarts, LONGEST_CODEC_WORD)
 }
 
-/// `RESTARTS WORD ..`
-fn check_program<'a>(mut words: LineWords<'a>, restarts: Slot) -> Result<(), Finding<'a>> {
+/// `RESTARTS WORD ..`, of words of at most so many bytes
+fn check_program<'a>(
+    mut words: LineWords<'a>,
+    restarts: Slot,
+    longest: usize,
+) -> Result<(), Finding<'a>> {
     words.take(restarts)?;
-    words.take(Slot::Program)?;
+    words.take(Slot::Program(longest))?;
     for _number in 0..MOST_ARGUMENTS {
         if words.peek().is_none() {
             return Ok(());
         }
-        words.take(Slot::Argument)?;
+        words.take(Slot::Argument(longest))?;
     }
     words.end(Slot::NinthWord)
 }

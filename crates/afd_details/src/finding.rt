@@ -23,6 +23,13 @@ impl fmt::Display for Finding<'_> {
         }
         match self.slot {
             Slot::DeviceNumber(count) => write_device_number(count, f),
+            Slot::Program(longest) => write!(
+                f,
+                "the name of a program was expected, of at most {longest} bytes"
+            ),
+            Slot::Argument(longest) => {
+                write!(f, "a word of a program has at most {longest} bytes")
+            }
             Slot::Captured(count) => write!(
                 f,
                 "the {count} bytes of so many frames were expected, two hexadecimal digits each, or nothing"
@@ -81,8 +88,6 @@ fn word_expected(slot: Slot) -> &'static str {
         Slot::CardRestarts => {
             "how often the program may be started again was expected: 0 to 1000000"
         }
-        Slot::Program => "the name of a program was expected, of at most 64 bytes",
-        Slot::Argument => "a word of a program has at most 64 bytes",
         Slot::Link => "the number of a link was expected: 0 to 31",
         Slot::Bytes => "1 to 16384 bytes were expected, two hexadecimal digits each",
         Slot::Room => "a number of bytes was expected, 0 to 4294967295, or all",
@@ -97,13 +102,13 @@ fn word_expected(slot: Slot) -> &'static str {
 fn kind_expected(stereo: bool, line: bool) -> &'static str {
     match (stereo, line) {
         (true, _) => {
-            "stereo, line or a kind of device was expected: silent, files, codec, speaker, microphone or card"
+            "stereo, line or a kind of device was expected: silent, files, loop, codec, speaker, microphone or card"
         }
         (false, true) => {
-            "line or a kind of device was expected: silent, files, codec, speaker, microphone or card"
+            "line or a kind of device was expected: silent, files, loop, codec, speaker, microphone or card"
         }
         (false, false) => {
-            "a kind of device was expected: silent, files, codec, speaker, microphone or card"
+            "a kind of device was expected: silent, files, loop, codec, speaker, microphone or card"
         }
     }
 }

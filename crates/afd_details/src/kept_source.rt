@@ -1,4 +1,6 @@
 // A source that keeps what it gave, so that it can be looked at again.
+ghost use Rattle.std.specs.Prelude.{◌≡◌};
+
 use af_io::{Got, Source};
 use af_limits::LONGEST_SCRIPT;
 use std::alloc::Global;
@@ -14,7 +16,9 @@ pub struct KeptSource<S: Source + Drop> {
 
 impl<S: Source + Drop> KeptSource<S> {
     /// A source over another. It keeps nothing where nothing is to be kept.
-    pub fn new(alloc: Global, source: S, keeps: bool) -> KeptSource<S> {
+    pub fn new(alloc: Global, source: S, keeps: bool) -> KeptSource<S>
+        ensures { result.source ≡ source }
+    {
         KeptSource {
             source,
             kept: Vec::new(alloc),
@@ -29,6 +33,11 @@ impl<S: Source + Drop> KeptSource<S> {
         } else {
             None
         }
+    }
+
+    /// The beginning of what was given, as far as it was kept.
+    pub fn first(&self) -> &[u8] {
+        self.kept.as_slice()
     }
 
     /// The source below it.

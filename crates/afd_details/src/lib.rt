@@ -12,8 +12,10 @@ mod slot;
 mod stated;
 mod tell;
 mod usage;
+mod wanted;
 
 pub use kept_source::KeptSource;
 pub use page::{Page, page_asked};
-pub use tell::{tell_config_fault, tell_reason, tell_script_fault};
+pub use tell::{tell_config_fault, tell_long_config, tell_reason, tell_script_fault};
 pub use usage::{tell_not_text, tell_usage};
+pub use wanted::wants_log;

@@ -5,9 +5,6 @@ use af_limits::{LONGEST_SEND, LONGEST_TICK, MOST_LINKS};
 use af_phone::is_digit;
 use af_text::{is_word, listed_rate, number, number_between, sample_type};
 
-/// How many bytes a word of a program may have.
-const LONGEST_WORD: usize = 64;
-
 /// Links are numbered from 0 to this.
 const LAST_LINK: u32 = MOST_LINKS as u32 - 1;
 
@@ -29,8 +26,10 @@ pub(crate) enum Slot {
     Output,
     CodecRestarts,
     CardRestarts,
-    Program,
-    Argument,
+    /// The name of a program, of at most so many bytes.
+    Program(usize),
+    /// Another word of a program, of at most so many bytes.
+    Argument(usize),
     Link,
     Bytes,
     Room,
@@ -79,7 +78,7 @@ impl Slot {
             Slot::Input | Slot::Output => true,
             Slot::CodecRestarts => number_between(0, MOST_RESTARTS, word).is_some(),
             Slot::CardRestarts => number_between(0, MOST_CARD_RESTARTS, word).is_some(),
-            Slot::Program | Slot::Argument => word.len() <= LONGEST_WORD,
+            Slot::Program(longest) | Slot::Argument(longest) => word.len() <= longest,
             Slot::Link => number_between(0, LAST_LINK, word).is_some(),
             Slot::Bytes => matches!(hex_bytes(word), Some(1..=LONGEST_SEND)),
             Slot::Room => is_word(word, b"all") || number_between(0, u32::MAX, word).is_some(),
@@ -98,6 +97,7 @@ impl Slot {
 fn names_kind(word: &[u8]) -> bool {
     is_word(word, b"silent")
         || is_word(word, b"files")
+        || is_word(word, b"loop")
         || is_word(word, b"codec")
         || is_word(word, b"speaker")
         || is_word(word, b"microphone")

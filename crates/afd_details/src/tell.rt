@@ -4,11 +4,15 @@ use crate::finding::Finding;
 use crate::script_line::script_finding;
 use crate::stated::line_numbered;
 use af_io::Reason;
+use af_limits::LONGEST_CONFIG;
 use af_shown::Shown;
 use std::str;
 
-/// Says what is wrong with a line of a configuration.
+/// Says what is wrong with a line of a configuration, or that it is none.
 pub fn tell_config_fault(rt: &impl Eprint, text: &[u8], number: u32) {
+    if tell_sound(rt, text) {
+        return tell_see_config(rt);
+    }
     let (line, before) = line_numbered(text, number);
     match line {
         Some(line) if str::from_utf8(line).is_err() => {
@@ -22,7 +26,45 @@ pub fn tell_config_fault(rt: &impl Eprint, text: &[u8], number: u32) {
             );
         }
     }
+    tell_see_config(rt);
+}
+
+/// Says that a configuration is too long, of which this is the beginning.
+pub fn tell_long_config(rt: &impl Eprint, first: &[u8]) {
+    if !tell_sound(rt, first) {
+        let _ = eprintln!(rt;
+            "afd: standard input is to be the configuration, of at most {LONGEST_CONFIG} bytes"
+        );
+    }
+    tell_see_config(rt);
+}
+
+fn tell_see_config(rt: &impl Eprint) {
     let _ = eprintln!(rt; "afd: see afd(8), CONFIGURATION");
+}
+
+/// Says that standard input is a sound file, if it begins as one.
+fn tell_sound(rt: &impl Eprint, text: &[u8]) -> bool {
+    let Some(kind) = sound_kind(text) else {
+        return false;
+    };
+    let _ = eprintln!(rt;
+        "afd: standard input is {kind}, and is to be the configuration; a tool plays sound: af aplay"
+    );
+    true
+}
+
+/// The kind of sound file that a text begins as, if it does.
+fn sound_kind<'a>(text: &[u8]) -> Option<&'a str> {
+    match text {
+        [b'R', b'I', b'F', b'F', ..] => Some("WAVE"),
+        [b'.', b's', b'n', b'd', ..] => Some(".au"),
+        [b'I', b'D', b'3', ..] => Some("MP3"),
+        [b'f', b'L', b'a', b'C', ..] => Some("FLAC"),
+        [b'O', b'g', b'g', b'S', ..] => Some("Ogg"),
+        [b'F', b'O', b'R', b'M', ..] => Some("AIFF"),
+        _ => None,
+    }
 }
 
 /// Says what is wrong with a line of a script.

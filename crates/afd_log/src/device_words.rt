@@ -50,6 +50,7 @@ fn write_kind<W: Write>(kind: Kind<'_>, f: &mut Formatter<W>) -> fmt::Result {
             let output = Shown::new(output.as_bytes());
             write!(f, "captures from {input}, plays to {output}")
         }
+        Kind::Loop => f.write_str("loop, captures what it plays"),
         Kind::Codec { restarts, words } => {
             write!(f, "codec, started again at most {restarts} times:")?;
             write_words(words, f)

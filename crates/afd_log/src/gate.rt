@@ -38,6 +38,11 @@ impl Gate {
         })
     }
 
+    /// Whether it is a file, to which nobody adds the time.
+    pub fn is_file(&self) -> bool {
+        self.is_file
+    }
+
     /// Whether it takes a line now.
     pub fn is_open(&mut self) -> bool {
         if self.is_file {

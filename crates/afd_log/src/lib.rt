@@ -3,6 +3,7 @@
 
 mod device_words;
 mod gate;
+mod level;
 mod line_words;
 mod listening;
 mod log;
@@ -18,6 +19,7 @@ mod watched_file;
 mod watched_programs;
 mod watched_runtime;
 
+pub use level::{Front, Fronts, Level};
 pub use listening::ListenRefusal;
 pub use log::Log;
 pub use logged::Logged;

@@ -1,6 +1,6 @@
 // What a telephone line does, and the program of one, in words.
-use crate::Log;
 use crate::device_words::write_words;
+use crate::{Level, Log};
 use af_phone::LineChange;
 use af_world::LineProgram;
 use std::fmt;
@@ -34,11 +34,14 @@ pub(crate) fn tell_change(log: &Log<'_>, device: u8, change: LineChange) {
         LineChange::Current(false) => "its line has no loop current",
         LineChange::Digit(_) => "a digit was dialed on its line",
     };
-    log.line(format_args!("device {device}: {what}"));
+    log.line(Level::Information, format_args!("device {device}: {what}"));
 }
 
 /// Tells how the hook of a line is.
 pub(crate) fn tell_hook(log: &Log<'_>, device: u8, off: bool) {
     let how = if off { "off the hook" } else { "on the hook" };
-    log.line(format_args!("device {device}: its phone is {how}"));
+    log.line(
+        Level::Information,
+        format_args!("device {device}: its phone is {how}"),
+    );
 }

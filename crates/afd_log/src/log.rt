@@ -1,4 +1,5 @@
 // The lines of the log: at most 50 in a second, 25 of them on connections, and none that standard error does not take at once.
+use crate::level::{Fronts, Level};
 use crate::outlet::Outlet;
 use crate::quota::Quota;
 use crate::refusal::Refusal;
@@ -25,6 +26,7 @@ pub struct Log<'a> {
     rt: &'a HostRuntime,
     outlet: RefCell<Outlet>,
     is_wanted: bool,
+    fronts: Fronts,
     /// All lines of a second, and those on connections.
     lines: Cell<Quota>,
     connection_lines: Cell<Quota>,
@@ -44,8 +46,9 @@ pub struct Log<'a> {
 }
 
 impl<'a> Log<'a> {
-    /// A log without lines. All its memory is taken here. If there is none, lines are written nevertheless.
-    pub fn new(rt: &'a HostRuntime, is_wanted: bool) -> Log<'a> {
+    /// A log without lines, each of which will have such a front. All its memory is taken here. If there is none, lines are
+    /// written nevertheless.
+    pub fn new(rt: &'a HostRuntime, is_wanted: bool, fronts: Fronts) -> Log<'a> {
         let outlet = if is_wanted {
             Outlet::new(rt)
         } else {
@@ -55,6 +58,7 @@ impl<'a> Log<'a> {
             rt,
             outlet: RefCell::new(outlet),
             is_wanted,
+            fronts,
             lines: Cell::new(Quota::new(MOST_LINES)),
             connection_lines: Cell::new(Quota::new(MOST_CONNECTION_LINES)),
             left_out: Cell::new(0),
@@ -75,8 +79,8 @@ impl<'a> Log<'a> {
     }
 
     /// Writes a line, if lines are wanted. One for which this second or standard error has no room is left out, and counted.
-    pub fn line<D: Display + Drop>(&self, text: D) {
-        if self.is_wanted && !self.try_line(text) {
+    pub fn line<D: Display + Drop>(&self, level: Level, text: D) {
+        if self.is_wanted && !self.try_line(level, text) {
             self.leave_out();
         }
     }
@@ -90,11 +94,11 @@ impl<'a> Log<'a> {
 
     /// Writes a line, if this second and standard error have room for it. Whether it was written. One that was not is to be told
     /// later by who wanted it.
-    pub(crate) fn try_line<D: Display + Drop>(&self, text: D) -> bool {
+    pub(crate) fn try_line<D: Display + Drop>(&self, level: Level, text: D) -> bool {
         let second = self.second();
         self.tell_left_out(second);
         let mut quota = self.lines.get();
-        if !quota.has_room(second) || !self.put(text) {
+        if !quota.has_room(second) || !self.put(level, text) {
             return false;
         }
         quota.count(second);
@@ -106,7 +110,7 @@ impl<'a> Log<'a> {
     pub(crate) fn try_connection_line<D: Display + Drop>(&self, text: D) -> bool {
         let second = self.second();
         let mut quota = self.connection_lines.get();
-        if !quota.has_room(second) || !self.try_line(text) {
+        if !quota.has_room(second) || !self.try_line(Level::Notice, text) {
             return false;
         }
         quota.count(second);
@@ -136,8 +140,19 @@ impl<'a> Log<'a> {
     /// A file is opened now, for the device that is attached.
     pub(crate) fn opens(&self, name: &str) {
         let device = self.attaching.get();
+        if name.ends_with("\r") {
+            self.line(
+                Level::Warning,
+                format_args!(
+                    "device {device}: the name ends in a carriage return, as Windows ends lines"
+                ),
+            );
+        }
         let name = Shown::new(name.as_bytes());
-        self.line(format_args!("device {device}: opening {name}"));
+        self.line(
+            Level::Information,
+            format_args!("device {device}: opening {name}"),
+        );
     }
 
     /// Notes why the system refused a call.
@@ -176,23 +191,31 @@ impl<'a> Log<'a> {
         match started {
             Started::Child(_) => {
                 self.starts.set(self.starts.get().saturating_sub(1));
-                self.line(format_args!("device {device}: its program was started"));
+                self.line(
+                    Level::Notice,
+                    format_args!("device {device}: its program was started"),
+                );
             }
             Started::Failed => {
                 self.starts.set(self.starts.get().saturating_sub(1));
                 let next = self.next_start();
                 match self.take_reason() {
-                    Some(reason) => self.line(format_args!(
-                        "device {device}: its program could not be started: {reason}; {next}"
-                    )),
-                    None => self.line(format_args!(
-                        "device {device}: its program could not be started; {next}"
-                    )),
+                    Some(reason) => self.line(
+                        Level::Warning,
+                        format_args!(
+                            "device {device}: its program could not be started: {reason}; {next}"
+                        ),
+                    ),
+                    None => self.line(
+                        Level::Warning,
+                        format_args!("device {device}: its program could not be started; {next}"),
+                    ),
                 }
             }
-            Started::OutOfMemory => self.line(format_args!(
-                "device {device}: there was no memory to start its program"
-            )),
+            Started::OutOfMemory => self.line(
+                Level::Warning,
+                format_args!("device {device}: there was no memory to start its program"),
+            ),
         }
     }
 
@@ -202,15 +225,20 @@ impl<'a> Log<'a> {
         let next = self.next_start();
         let was_late = self.late.take() > 0;
         match finished {
-            Finished::Ended(status) if was_late => self.line(format_args!(
-                "device {device}: its program did not take its sound in time, and ended with status {status}; {next}"
-            )),
-            Finished::Ended(status) => self.line(format_args!(
-                "device {device}: its program ended with status {status}; {next}"
-            )),
-            Finished::Failed => self.line(format_args!(
-                "device {device}: its program took no sound any more; {next}"
-            )),
+            Finished::Ended(status) if was_late => self.line(
+                Level::Warning,
+                format_args!(
+                    "device {device}: its program did not take its sound in time, and ended with status {status}; {next}"
+                ),
+            ),
+            Finished::Ended(status) => self.line(
+                Level::Warning,
+                format_args!("device {device}: its program ended with status {status}; {next}"),
+            ),
+            Finished::Failed => self.line(
+                Level::Warning,
+                format_args!("device {device}: its program took no sound any more; {next}"),
+            ),
         }
     }
 
@@ -219,7 +247,10 @@ impl<'a> Log<'a> {
         let second = self.second();
         if second != self.late_second.get() {
             self.late_second.set(second);
-            self.line(format_args!("late by {millis} milliseconds"));
+            self.line(
+                Level::Warning,
+                format_args!("late by {millis} milliseconds"),
+            );
         }
     }
 
@@ -248,16 +279,16 @@ impl<'a> Log<'a> {
         let count = self.left_out.get();
         if count > 0 && second != self.left_out_second.get() {
             self.left_out_second.set(second);
-            if self.put(format_args!("{count} lines left out")) {
+            if self.put(Level::Warning, format_args!("{count} lines left out")) {
                 self.left_out.set(0);
             }
         }
     }
 
     /// Writes a line, if standard error takes it. Whether it did.
-    fn put<D: Display + Drop>(&self, text: D) -> bool {
+    fn put<D: Display + Drop>(&self, level: Level, text: D) -> bool {
         match self.outlet.try_borrow_mut() {
-            Ok(mut outlet) => outlet.put(self.rt, text),
+            Ok(mut outlet) => outlet.put(self.rt, self.fronts.front(level), text),
             Err(_) => false,
         }
     }
@@ -283,10 +314,7 @@ impl fmt::Display for NextStart {
         match self.left {
             0 => f.write_str("it has no start left"),
             1 => f.write_str("the next sound starts it again, for the last time"),
-            left => write!(
-                f,
-                "the next sound starts it again, one of {left} starts left"
-            ),
+            left => write!(f, "the next sound starts it again; {left} starts are left"),
         }
     }
 }

@@ -3,6 +3,7 @@ ghost use Rattle.std.specs.Prelude.{◌≡◌};
 
 use crate::Log;
 use crate::device_words::DeviceWords;
+use crate::level::Level;
 use crate::line_words::{LineWords, tell_change, tell_hook};
 use crate::listening::ListenRefusal;
 use crate::program_lines::ProgramLines;
@@ -34,7 +35,9 @@ pub struct Logged<'a, W: World + Live + Drop, V: Sight<W> + Drop> {
 
 impl<'a, W: World + Live + Drop, V: Sight<W> + Drop> Logged<'a, W, V> {
     /// A world over another, of which this sight shows what the log tells.
-    pub fn new(world: W, sight: V, log: &'a Log<'a>) -> Logged<'a, W, V> {
+    pub fn new(world: W, sight: V, log: &'a Log<'a>) -> Logged<'a, W, V>
+        ensures { result.world ≡ world }
+    {
         Logged {
             world,
             sight,
@@ -150,13 +153,14 @@ impl<W: World + Live + Drop, V: Sight<W> + Drop> World for Logged<'_, W, V> {
 
     fn close(&mut self, link: u8, why: Why) {
         self.world.close(link, why);
-        tell_closed(self.log, link, why);
+        let was_left = why == Why::LinkFault && self.sight.was_left(&self.world);
+        tell_closed(self.log, link, if was_left { Why::Ended } else { why });
     }
 
     fn capture(&mut self, device: u8, frames: u32, into: &mut [u8]) -> Put {
         let put = self.world.capture(device, frames, into);
         if put == Put::Failed {
-            tell_dead(self.log, device, "nothing can be captured any more");
+            tell_dead(self.log, device, "and is silent from now on");
         }
         put
     }
@@ -164,7 +168,7 @@ impl<W: World + Live + Drop, V: Sight<W> + Drop> World for Logged<'_, W, V> {
     fn emit(&mut self, device: u8, sound: &[u8]) -> Put {
         let put = self.world.emit(device, sound);
         if put == Put::Failed {
-            tell_dead(self.log, device, "its sound goes nowhere any more");
+            tell_dead(self.log, device, "and is silent from now on");
         }
         put
     }
@@ -172,7 +176,7 @@ impl<W: World + Live + Drop, V: Sight<W> + Drop> World for Logged<'_, W, V> {
     fn hook(&mut self, device: u8, off: bool) -> Put {
         let put = self.world.hook(device, off);
         if put == Put::Failed {
-            tell_dead(self.log, device, "its line takes no hook call any more");
+            tell_dead(self.log, device, "and its line takes no hook call any more");
         } else if self.sight.has_exchange(&self.world, device) {
             tell_hook(self.log, device, off);
         }
@@ -218,11 +222,12 @@ impl<W: World + Live + Drop, V: Sight<W> + Drop> Live for Logged<'_, W, V> {
 
     fn attach(&mut self, alloc: Global, device: u8, spec: &DeviceSpec, kind: Kind<'_>) -> Ready {
         self.log.attaches(device, kind);
-        self.log.line(DeviceWords {
+        let words = DeviceWords {
             number: device,
             spec,
             kind,
-        });
+        };
+        self.log.line(Level::Information, words);
         let ready = self.world.attach(alloc, device, spec, kind);
         if let Kind::Card { words, .. } = kind {
             self.has_programs = true;
@@ -235,10 +240,11 @@ impl<W: World + Live + Drop, V: Sight<W> + Drop> Live for Logged<'_, W, V> {
     }
 
     fn attach_line(&mut self, alloc: Global, device: u8, program: LineProgram<'_>) -> Ready {
-        self.log.line(LineWords {
+        let words = LineWords {
             number: device,
             program,
-        });
+        };
+        self.log.line(Level::Information, words);
         self.has_programs = true;
         let ready = self.world.attach_line(alloc, device, program);
         if ready == Ready::Failed {
@@ -262,7 +268,7 @@ impl<W: World + Live + Drop, V: Sight<W> + Drop> Live for Logged<'_, W, V> {
 /// Tells at which address a world listens.
 fn tell_listening<W, V: Sight<W>>(world: &W, sight: &V, log: &Log<'_>) {
     if let Some(address) = sight.address(world) {
-        log.line(format_args!("listening at {address}"));
+        log.line(Level::Information, format_args!("listening at {address}"));
     }
 }
 
@@ -282,7 +288,7 @@ fn tell_closed(log: &Log<'_>, link: u8, why: Why) {
     let cause = match why {
         Why::BadSetup => "it did not begin with a setup",
         Why::Malformed => "it sent a malformed request",
-        Why::Ended => "the client ended it",
+        Why::Ended => "the client closed its connection",
         Why::LinkFault => "reading from it or writing to it failed",
         Why::Overrun => "too many events waited for it",
     };
@@ -292,8 +298,11 @@ fn tell_closed(log: &Log<'_>, link: u8, why: Why) {
 /// Tells why a device has died.
 fn tell_dead(log: &Log<'_>, device: u8, what: &str) {
     match log.take_reason() {
-        Some(reason) => log.line(format_args!("device {device} failed, {what}: {reason}")),
-        None => log.line(format_args!("device {device} failed, {what}")),
+        Some(reason) => log.line(
+            Level::Error,
+            format_args!("device {device} failed {what}: {reason}"),
+        ),
+        None => log.line(Level::Error, format_args!("device {device} failed {what}")),
     }
 }
 

@@ -1,4 +1,6 @@
 // A spawner that tells which programs began and ended.
+ghost use Rattle.std.specs.Prelude.{◌≡◌};
+
 use crate::Log;
 use af_io::Put;
 use af_process::{Finished, Spawner, Started, Words};
@@ -14,7 +16,9 @@ pub struct LoggedSpawner<'a, S: Spawner + Drop> {
 
 impl<'a, S: Spawner + Drop> LoggedSpawner<'a, S> {
     /// A spawner over another.
-    pub fn new(spawner: S, log: &'a Log<'a>) -> LoggedSpawner<'a, S> {
+    pub fn new(spawner: S, log: &'a Log<'a>) -> LoggedSpawner<'a, S>
+        ensures { result.spawner ≡ spawner }
+    {
         LoggedSpawner { spawner, log }
     }
 }

@@ -1,5 +1,6 @@
 // Standard error, as the log writes to it: nobody waits for what reads it.
 use crate::gate::Gate;
+use crate::level::Front;
 use std::fmt::Display;
 use std::fs::{File, OpenOptions};
 use std::io::{IsTerminal, Write};
@@ -43,19 +44,24 @@ impl Outlet {
         }
     }
 
-    /// Writes a line. Whether it found room.
-    pub fn put<D: Display + Drop>(&mut self, rt: &HostRuntime, text: D) -> bool {
+    /// Writes a line with this front. Whether it found room.
+    pub fn put<D: Display + Drop>(&mut self, rt: &HostRuntime, front: Front, text: D) -> bool {
         match self {
-            Outlet::Terminal(terminal) => terminal.put(text),
+            Outlet::Terminal(terminal) => terminal.put(front, text),
             Outlet::Gated(gate) => {
                 if !gate.is_open() {
                     return false;
                 }
-                let _ = eprintln!(rt; "afd: {text}");
+                if gate.is_file() {
+                    let front = front.with_time(rt);
+                    let _ = eprintln!(rt; "{front}{text}");
+                } else {
+                    let _ = eprintln!(rt; "{front}{text}");
+                }
                 true
             }
             Outlet::Plain => {
-                let _ = eprintln!(rt; "afd: {text}");
+                let _ = eprintln!(rt; "{front}{text}");
                 true
             }
         }
@@ -90,13 +96,13 @@ impl Terminal {
     }
 
     /// Writes a line, if nothing is left of the one before it. Whether the terminal took it, or its beginning.
-    fn put<D: Display + Drop>(&mut self, text: D) -> bool {
+    fn put<D: Display + Drop>(&mut self, front: Front, text: D) -> bool {
         if !self.finish_line() {
             return false;
         }
         self.line.clear();
         self.taken = 0;
-        if writeln!(self.line, "afd: {text}").is_err() {
+        if writeln!(self.line, "{front}{text}").is_err() {
             self.line.clear();
             return false;
         }

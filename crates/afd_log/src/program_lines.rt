@@ -1,6 +1,6 @@
 // The lines of the log on the programs of devices and of telephone lines.
-use crate::Log;
 use crate::watched_programs::WatchedProgram;
+use crate::{Level, Log};
 use af_card::Card;
 use af_exchange::Exchange;
 use af_limits::MOST_DEVICES;
@@ -140,9 +140,10 @@ impl ToldLoss {
             return;
         }
         let lost = frames.saturating_sub(self.frames);
-        if log.try_line(format_args!(
-            "device {device}: its program had no room, and {lost} frames were lost"
-        )) {
+        if log.try_line(
+            Level::Warning,
+            format_args!("device {device}: its program had no room, and {lost} frames were lost"),
+        ) {
             self.frames = frames;
             self.next = now.saturating_add(NANOS_A_SECOND);
         }
@@ -158,7 +159,10 @@ impl ToldLoss {
             None => self.closed_at = Some(now),
             Some(at) if now.saturating_sub(at) >= NANOS_A_SECOND => {
                 self.is_closed_told = true;
-                log.line(format_args!("device {device}: its program takes no more sound"));
+                log.line(
+                    Level::Warning,
+                    format_args!("device {device}: its program takes no more sound"),
+                );
             }
             Some(_) => {}
         }
@@ -183,21 +187,30 @@ fn tell(
     {
         told.runs = false;
         let next = NextStart::of(log, standing);
-        log.line(format_args!("{owner} ended with status {status}; {next}"));
+        log.line(
+            Level::Warning,
+            format_args!("{owner} ended with status {status}; {next}"),
+        );
     }
 }
 
 /// Tells that a program was started, or could not be.
 fn tell_start(log: &Log<'_>, owner: Owner, standing: Standing, program: &WatchedProgram<'_>) {
     if standing.runs {
-        log.line(format_args!("{owner} was started"));
+        log.line(Level::Notice, format_args!("{owner} was started"));
         return;
     }
     let _ = log.take_reason();
     let next = NextStart::of(log, standing);
     match program.reason() {
-        Some(reason) => log.line(format_args!("{owner} could not be started: {reason}; {next}")),
-        None => log.line(format_args!("{owner} could not be started; {next}")),
+        Some(reason) => log.line(
+            Level::Warning,
+            format_args!("{owner} could not be started: {reason}; {next}"),
+        ),
+        None => log.line(
+            Level::Warning,
+            format_args!("{owner} could not be started; {next}"),
+        ),
     }
 }
 
@@ -231,7 +244,7 @@ impl Display for NextStart {
             ),
             (Some(seconds), left) => write!(
                 f,
-                "it is started again in {seconds} s, one of {left} starts left"
+                "it is started again in {seconds} s; {left} starts are left"
             ),
         }
     }

@@ -1,6 +1,7 @@
 // The world of sockets, files and programs of the system, with a log.
 ghost use Rattle.std.specs.Prelude.{◌≡◌};
 ghost use Rattle.std.specs.declared.option.Option.TheVariants.{None};
+ghost use Rattle.af_live.specs.RealWorld.{begun_world};
 
 use crate::listening::{ListenRefusal, listen_refusal};
 use crate::program_lines::ProgramLines;
@@ -41,7 +42,9 @@ pub struct RealSight<'a> {
 
 impl<'a> RealWorld<'a> {
     /// The world of this runtime, whose refusals this log is told. It takes no memory and asks nothing of the system.
-    fn new(rt: &'a HostRuntime, log: &'a Log<'a>) -> RealWorld<'a> {
+    fn new(rt: &'a HostRuntime, log: &'a Log<'a>) -> RealWorld<'a>
+        ensures { result.world ≡ begun_world None None }
+    {
         let programs = DeadlineRuntime::new(WatchedRuntime::new(rt, log), rt, log.late());
         let spawner = LoggedSpawner::new(StdSpawner::new(programs), log);
         let watched = WatchedRuntime::new(rt, log);
@@ -57,7 +60,9 @@ impl<'a> RealWorld<'a> {
 pub fn logged_world<'a>(
     rt: &'a HostRuntime,
     log: &'a Log<'a>,
-) -> Logged<'a, RealWorld<'a>, RealSight<'a>> {
+) -> Logged<'a, RealWorld<'a>, RealSight<'a>>
+    ensures { result.world.world ≡ begun_world None None }
+{
     Logged::new(RealWorld::new(rt, log), RealSight { rt }, log)
 }
 
@@ -183,6 +188,13 @@ impl<'a> Sight<RealWorld<'a>> for RealSight<'a> {
         match world.world.sockets() {
             Some(sockets) => sockets.turned_away,
             None => 0,
+        }
+    }
+
+    fn was_left(&self, world: &RealWorld<'a>) -> bool {
+        match world.world.sockets() {
+            Some(sockets) => sockets.was_left,
+            None => false,
         }
     }
 

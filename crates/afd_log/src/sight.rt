@@ -18,6 +18,9 @@ pub trait Sight<W> {
     /// How many connections were turned away.
     fn turned_away(&self, world: &W) -> u64;
 
+    /// Whether the link that failed last did so since its client had closed the connection.
+    fn was_left(&self, world: &W) -> bool;
+
     /// By how many milliseconds device time is late.
     fn late_millis(&self, world: &W) -> u64;
 
@@ -47,6 +50,10 @@ impl<W> Sight<W> for NoSight {
 
     fn turned_away(&self, _world: &W) -> u64 {
         0
+    }
+
+    fn was_left(&self, _world: &W) -> bool {
+        false
     }
 
     fn late_millis(&self, _world: &W) -> u64 {

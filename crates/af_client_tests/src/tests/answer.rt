@@ -233,7 +233,8 @@ fn comes_to(rt: &impl Abort, alloc: Global, row: &Row<'_>) -> Result<(), Fail> {
     let replies = gives(alloc, row.replies, row.events)?;
     let sent = bytes_of(alloc, row.sent)?;
     let link = MemLink::new(alloc, replies.as_slice(), 7, 1000, &[row.fails])?;
-    let mut dial = WatchedDial::new(MemDial::new(Some(link), None));
+    let teller: Option<HostRuntime> = None;
+    let mut dial = WatchedDial::new(MemDial::new(Some(link), None), teller, false);
     let mut spawner = WatchedSpawner::new(MemSpawner::new(alloc, row.starts, &[row.status])?);
     let mut room = [0u8; 100];
     let mut sink = MemSink::new(&mut room, row.writes);

@@ -2,6 +2,7 @@
 use crate::tests::checks::{holds, words_of};
 use af_cli::{
     Call, OptionsFault, PassJob, PlayJob, RecordJob, RelayCall, SetJob, Task, TaskCall, call_of,
+    true_form_of,
 };
 use af_sample::{Gain, SampleType};
 use af_sound::SoundForm;
@@ -29,6 +30,7 @@ fn ask_in_order(
             TaskCall {
                 server,
                 order,
+                wait: _,
                 task,
             },
         ),
@@ -51,6 +53,7 @@ fn ask_relay(rt: &impl Abort, alloc: Global, words: &[&str], wanted: PassJob) ->
                 from,
                 to,
                 order,
+                wait: _,
                 job,
             },
         ),
@@ -62,6 +65,18 @@ fn ask_relay(rt: &impl Abort, alloc: Global, words: &[&str], wanted: PassJob) ->
     holds(rt, "the second server", to == "b:2");
     holds(rt, "the order", order == Order::Little);
     holds(rt, "the job", job == wanted);
+    Ok(())
+}
+
+// These arguments have a dial that is refused tried again for so many seconds.
+fn wait_for(rt: &impl Abort, alloc: Global, words: &[&str], wanted: u32) -> Result<(), Fail> {
+    let args = words_of(alloc, words)?;
+    let wait = match call_of(alloc, &args) {
+        Ok(Call::One(call)) => call.wait,
+        Ok(Call::Relay(call)) => call.wait,
+        Err(_) => return Err(Fail::from("no call")),
+    };
+    holds(rt, "the wait", wait == wanted);
     Ok(())
 }
 
@@ -85,8 +100,10 @@ fn a_server_alone_has_the_defaults(rt: HostRuntime) -> Result<(), Fail> {
         block: 1000,
         lead: 100,
         time: None,
+        ahead: None,
         preempt: false,
         drain: false,
+        strict: false,
     };
     ask_task(&rt, rt.alloc(), &["aplay", "h:1"], Task::Play(job))
 }
@@ -101,8 +118,10 @@ fn a_sound_file_is_named_by_its_form(rt: HostRuntime) -> Result<(), Fail> {
         block: 1000,
         lead: 100,
         time: None,
+        ahead: None,
         preempt: false,
         drain: false,
+        strict: false,
     };
     ask_task(
         &rt,
@@ -125,6 +144,8 @@ fn a_recording_is_named_by_its_form(rt: HostRuntime) -> Result<(), Fail> {
         seconds: None,
         stop_peak: 0,
         stop_blocks: 1,
+        true_header: false,
+        strict: false,
     };
     let words = ["arecord", "h:1", "--file=au", "--type=lin32", "--frames=9"];
     ask_task(&rt, rt.alloc(), &words, Task::Record(job))
@@ -143,6 +164,8 @@ fn recording(frames: u32, seconds: Option<u32>) -> RecordJob {
         seconds,
         stop_peak: 0,
         stop_blocks: 1,
+        true_header: false,
+        strict: false,
     }
 }
 
@@ -169,6 +192,50 @@ fn a_recording_is_stated_in_frames_or_in_seconds(rt: HostRuntime) -> Result<(), 
     }
     let both = ["arecord", "h:1", "--frames=8000", "--seconds=1"];
     ask_nothing(&rt, alloc, &both)
+}
+
+// Words, and the form of the file whose header they keep true.
+static TRUE_FORMS: [(&[&str], Option<SoundForm>); 9] = [
+    (
+        &["arecord", "h:1", "--seconds=1", "--file=au"],
+        Some(SoundForm::Au),
+    ),
+    (
+        &[
+            "arecord",
+            "h:1",
+            "--frames=1",
+            "--file=wave",
+            "--true-header",
+        ],
+        Some(SoundForm::Wave),
+    ),
+    (
+        &[
+            "arecord",
+            "h:1",
+            "--seconds=1",
+            "--file=wave",
+            "--true-header",
+        ],
+        Some(SoundForm::Wave),
+    ),
+    (&["arecord", "h:1", "--frames=1", "--file=au"], None),
+    (&["arecord", "h:1", "--seconds=1"], None),
+    (&["arecord", "h:1", "--frames=1", "--true-header"], None),
+    (&["arecord", "h:1", "--file=au", "--true-header"], None),
+    (&["aplay", "h:1", "--file=au"], None),
+    (&["list", "h:1"], None),
+];
+
+#[test]
+fn a_header_is_kept_true_by_seconds_or_where_that_is_asked(rt: HostRuntime) -> Result<(), Fail> {
+    let alloc = rt.alloc();
+    for (words, form) in &TRUE_FORMS {
+        let args = words_of(alloc, words)?;
+        holds(&rt, "the form", true_form_of(alloc, &args) == *form);
+    }
+    Ok(())
 }
 
 #[test]
@@ -198,8 +265,10 @@ fn values_stand_after_a_sign_or_a_blank(rt: HostRuntime) -> Result<(), Fail> {
         block: 4000,
         lead: 100,
         time: Some(7),
+        ahead: Some(20),
         preempt: true,
         drain: true,
+        strict: true,
     };
     let words = [
         "aplay",
@@ -208,8 +277,11 @@ fn values_stand_after_a_sign_or_a_blank(rt: HostRuntime) -> Result<(), Fail> {
         "--block",
         "4000",
         "--time=7",
+        "--ahead",
+        "20",
         "--preempt",
         "--drain",
+        "--strict",
     ];
     ask_task(&rt, rt.alloc(), &words, Task::Play(job))
 }
@@ -237,10 +309,11 @@ fn a_relay_names_two_servers(rt: HostRuntime) -> Result<(), Fail> {
         to_device: 0,
         ty: None,
         gain: Gain::default(),
-        blocks: 3,
+        blocks: Some(3),
         block: 1000,
         delay: 0,
         slack: 100,
+        follow: false,
     };
     let words = [
         "apass",
@@ -251,6 +324,40 @@ fn a_relay_names_two_servers(rt: HostRuntime) -> Result<(), Fail> {
         "--delay=0",
     ];
     ask_relay(&rt, rt.alloc(), &words, job)
+}
+
+#[test]
+fn a_relay_that_follows_needs_no_blocks(rt: HostRuntime) -> Result<(), Fail> {
+    let job = PassJob {
+        from_device: 0,
+        to_device: 0,
+        ty: None,
+        gain: Gain::default(),
+        blocks: None,
+        block: 1000,
+        delay: 0,
+        slack: 100,
+        follow: true,
+    };
+    let words = [
+        "apass",
+        "a:1",
+        "b:2",
+        "--order=little",
+        "--delay=0",
+        "--follow",
+    ];
+    ask_relay(&rt, rt.alloc(), &words, job)
+}
+
+#[test]
+fn a_server_is_waited_for_so_many_seconds(rt: HostRuntime) -> Result<(), Fail> {
+    let relay = ["apass", "a:1", "b:2", "--blocks=1", "--wait=7"];
+    wait_for(&rt, rt.alloc(), &["list", "h:1"], 0)?;
+    wait_for(&rt, rt.alloc(), &["aset", "--wait", "3600", "h:1"], 3600)?;
+    wait_for(&rt, rt.alloc(), &relay, 7)?;
+    ask_nothing(&rt, rt.alloc(), &["list", "h:1", "--wait=3601"])?;
+    ask_nothing(&rt, rt.alloc(), &["list", "h:1", "--wait="])
 }
 
 #[test]

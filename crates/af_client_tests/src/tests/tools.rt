@@ -73,7 +73,8 @@ fn comes_to(
     let mut sink = MemSink::new(&mut room, given.failing.sink);
     let one = MemLink::new(alloc, first.as_slice(), 7, 1000, given.failing.link)?;
     let other = MemLink::new(alloc, second.as_slice(), 7, 1000, &[])?;
-    let mut dial = WatchedDial::new(MemDial::new(Some(one), Some(other)));
+    let teller: Option<HostRuntime> = None;
+    let mut dial = WatchedDial::new(MemDial::new(Some(one), Some(other)), teller, false);
     let end = af_run(alloc, &args, &mut source, &mut sink, &mut dial);
     holds(rt, what, end == wanted.end);
     same_bytes(rt, what, sink.held(), wanted.held);

@@ -24,8 +24,6 @@ struct Asked {
     ready: Ready,
 }
 
-const LONG: &str = "12345678901234567890123456789012345678901234567890123456789012345";
-
 const CARD: Asked = Asked {
     device: 3,
     card: CardKind::Card,
@@ -36,14 +34,9 @@ const CARD: Asked = Asked {
 };
 
 // Numbers have to be in range, and each number has one device.
-const ATTACHES: [Asked; 6] = [
+const ATTACHES: [Asked; 5] = [
     Asked {
         restarts: 1_000_001,
-        ready: Ready::Failed,
-        ..CARD
-    },
-    Asked {
-        word: LONG,
         ready: Ready::Failed,
         ..CARD
     },

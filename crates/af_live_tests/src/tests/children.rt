@@ -4,8 +4,7 @@ ghost use Rattle.arrayvec.specs.ArrayVec.{array_vec_len};
 
 use af_deadline::DeadlineRuntime;
 use af_io::Put;
-use af_process::{Finished, Spawner, Started, StdSpawner, Words};
-use arrayvec::ArrayString;
+use af_process::{Finished, Spawner, Started, StdSpawner, Word, Words};
 use std::alloc::Global;
 use std::cell::Cell;
 use std::process::{Abort, Processes};
@@ -33,8 +32,8 @@ fn give_much<R: Processes + Drop>(spawner: &mut StdSpawner<R>, child: u32) -> Pu
     last
 }
 
-fn word(text: &str) -> ArrayString<200> {
-    let mut word = ArrayString::new();
+fn word(text: &str) -> Word {
+    let mut word = Word::new();
     let _ = word.try_push_str(text);
     word
 }

@@ -4,10 +4,9 @@ ghost use Rattle.arrayvec.specs.ArrayVec.{array_vec_len};
 
 use af_card::{Card, Shape};
 use af_io::Put;
-use af_process::Words;
+use af_process::{Word, Words};
 use af_program::{Gave, Launched, Program, SocketProgram, Took, Ways};
 use af_world::CardKind;
-use arrayvec::ArrayString;
 use std::alloc::Global;
 use std::net::Net;
 use std::process::{Abort, Processes};
@@ -54,8 +53,8 @@ fn pause(clock: &impl Clock) {
     thread::sleep(clock, Duration::from_millis(5));
 }
 
-fn word(text: &str) -> ArrayString<200> {
-    let mut word = ArrayString::new();
+fn word(text: &str) -> Word {
+    let mut word = Word::new();
     let _ = word.try_push_str(text);
     word
 }

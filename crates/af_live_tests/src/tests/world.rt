@@ -246,13 +246,12 @@ const BEFORE: [Act; 2] = [
 // More than one read gives.
 const LONG: [u8; 20_000] = [b'+'; 20_000];
 
-const LINK: [Act; 38] = [
+const LINK: [Act; 33] = [
     Act::World(Call::Listen("127.0.0.1:0", Ready::Failed)),
     Act::Connect,
     Act::Send(b"hello"),
     Act::World(Call::Wait(Waited::Woke(Wake::Opened(0)))),
     Act::World(Call::Wait(Waited::Woke(Wake::Readable(0)))),
-    Act::World(Call::Wait(Waited::Woke(Wake::Writable(0)))),
     Act::World(Call::Read(0, LinkGot::Bytes(5), b"hello-")),
     Act::World(Call::Read(0, LinkGot::NotYet, b"------")),
     Act::World(Call::Poll(Waited::Woke(Wake::Idle))),
@@ -261,7 +260,6 @@ const LINK: [Act; 38] = [
     // a link is read once between two polls
     Act::Send(&LONG),
     Act::World(Call::Wait(Waited::Woke(Wake::Readable(0)))),
-    Act::World(Call::Wait(Waited::Woke(Wake::Writable(0)))),
     Act::World(Call::Read(0, LinkGot::Bytes(16_384), b"++++++")),
     Act::World(Call::Read(0, LinkGot::NotYet, b"------")),
     Act::World(Call::Poll(Waited::Woke(Wake::Readable(0)))),
@@ -276,15 +274,12 @@ const LINK: [Act; 38] = [
     // the next client has the same number, and ends
     Act::Connect,
     Act::World(Call::Wait(Waited::Woke(Wake::Opened(0)))),
-    Act::World(Call::Wait(Waited::Woke(Wake::Writable(0)))),
     Act::Leave,
     Act::World(Call::Wait(Waited::Woke(Wake::Readable(0)))),
     Act::World(Call::Read(0, LinkGot::Ended, b"------")),
-    Act::World(Call::Wait(Waited::Woke(Wake::Writable(0)))),
     // its link is still open, so the next client has the next number, and after a close the next one has the least free number
     Act::Connect,
     Act::World(Call::Wait(Waited::Woke(Wake::Opened(1)))),
-    Act::World(Call::Wait(Waited::Woke(Wake::Writable(1)))),
     Act::World(Call::Close(0)),
     Act::Connect,
     Act::World(Call::Wait(Waited::Woke(Wake::Opened(0)))),
@@ -314,7 +309,7 @@ const THERE: Kind<'static> = Kind::Files {
     output: "af_world_output",
 };
 
-const DEVICES: [Act; 21] = [
+const DEVICES: [Act; 28] = [
     Act::World(Call::Listen("localhost:0", Ready::Done)),
     Act::Device(Asked::Attach(1, SampleType::Alaw, MISSING, Ready::Failed)),
     Act::Device(Asked::Attach(1, SampleType::Alaw, THERE, Ready::Done)),
@@ -322,6 +317,8 @@ const DEVICES: [Act; 21] = [
     Act::Device(Asked::Attach(2, SampleType::Mu255, THERE, Ready::Done)),
     Act::Device(Asked::Attach(0, SampleType::Alaw, Kind::Silent, Ready::Done)),
     Act::Device(Asked::Attach(8, SampleType::Alaw, Kind::Silent, Ready::Failed)),
+    Act::Device(Asked::Attach(4, SampleType::Mu255, Kind::Loop, Ready::Done)),
+    Act::Device(Asked::Attach(4, SampleType::Mu255, Kind::Loop, Ready::Failed)),
     Act::World(Call::Wait(Waited::Woke(Wake::Ticked(0, 0)))),
     Act::World(Call::Wait(Waited::Woke(Wake::Ticked(1, 0)))),
     Act::World(Call::Wait(Waited::Woke(Wake::Ticked(2, 0)))),
@@ -337,6 +334,12 @@ const DEVICES: [Act; 21] = [
     Act::Device(Asked::Hook(1, Put::Done)),
     Act::Device(Asked::Capture(3, Put::Failed, b"-----")),
     Act::Device(Asked::Emit(3, b"x", Put::Failed)),
+    // a device that hears itself is full of silence, and takes as much as it gave
+    Act::Device(Asked::Emit(4, b"x", Put::Failed)),
+    Act::Device(Asked::Capture(4, Put::Done, &[255; 5])),
+    Act::Device(Asked::Emit(4, b"abcdef", Put::Failed)),
+    Act::Device(Asked::Emit(4, b"abcde", Put::Done)),
+    Act::Device(Asked::Capture(4, Put::Done, &[255; 5])),
 ];
 
 // An input of three bytes, and an output that has a byte already.

@@ -27,11 +27,12 @@ fn assert_faults(rt: &impl Abort, alloc: Global, cases: &[(&[u8], u32)]) -> Resu
     Ok(())
 }
 
-// The names of the files of a device.
+// The names of the files of a device, or a word for each of them if it hears itself.
 fn names(kind: Kind<'_>) -> Option<(&str, &str)> {
     match kind {
         Kind::Silent => None,
         Kind::Files { input, output } => Some((input, output)),
+        Kind::Loop => Some(("its", "own")),
         Kind::Codec { .. } => None,
         Kind::Card { .. } => None,
     }
@@ -71,10 +72,11 @@ fn assert_due(rt: &impl Abort, cases: &[(u32, &[(u64, u32)])]) {
 
 #[test]
 fn configurations_are_read(rt: HostRuntime) -> Result<(), Fail> {
-    let text = "# four devices\n\n device  mu255 08000 4294967295   silent\n\
+    let text = "# five devices\n\n device  mu255 08000 4294967295   silent\n\
                 device lin32 44100 7 line files grüße.raw /dev/null\n\
                 device lin16 48000 0  stereo files stereo line\n\
-                device alaw 8000 1 stereo line silent";
+                device alaw 8000 1 stereo line silent\n\
+                device alaw 8000 1 stereo line loop";
     let first = DeviceSpec {
         ty: SampleType::Mu255,
         rate: 8000,
@@ -108,6 +110,7 @@ fn configurations_are_read(rt: HostRuntime) -> Result<(), Fail> {
         (second, Some(("grüße.raw", "/dev/null"))),
         (third, Some(("stereo", "line"))),
         (fourth, None),
+        (fourth, Some(("its", "own"))),
     ];
     assert_states(&rt, rt.alloc(), text.as_bytes(), &devices)
 }
@@ -128,6 +131,7 @@ fn assert_program(rt: &impl Abort, kind: Kind<'_>, program: &Program<'_>) -> Res
         } => (Some(card), restarts, words),
         Kind::Silent => return Err(Fail::from("the device is silent")),
         Kind::Files { .. } => return Err(Fail::from("the device has files")),
+        Kind::Loop => return Err(Fail::from("the device hears itself")),
     };
     assert_eq!(rt; card, *wanted);
     assert_eq!(rt; restarts, *most);
@@ -191,12 +195,14 @@ fn a_program_has_restarts_and_words(rt: HostRuntime) -> Result<(), Fail> {
             )],
         ),
         (
-            b"device alaw 8000 0 line microphone 0 1234567890123456789012345678901234567890123456789012345678901234",
+            b"device alaw 8000 0 line microphone 0 123456789012345678901234567890123456789012345678901234567890123456789012345678901234567890123456789012345678901234567890123456789012345678901234567890123456789012345678901234567890123456789012345678901234567890123456789012345678901234567890123456789012345",
             &[(
                 true,
                 Some(CardKind::Microphone),
                 0,
-                &["1234567890123456789012345678901234567890123456789012345678901234"],
+                &[
+                    "123456789012345678901234567890123456789012345678901234567890123456789012345678901234567890123456789012345678901234567890123456789012345678901234567890123456789012345678901234567890123456789012345678901234567890123456789012345678901234567890123456789012345",
+                ],
             )],
         ),
         (
@@ -260,6 +266,8 @@ fn the_first_faulty_line_is_numbered(rt: HostRuntime) -> Result<(), Fail> {
             (b"# nothing\n\n", 3),
             (b"device lin16 8001 0 silent", 1),
             (b"device lin16 8000 0 files a b c", 1),
+            (b"device lin16 8000 0 loop a", 1),
+            (b"device lin16 8000 0 Loop", 1),
             (b"device lin16 8000 0 line line silent\n", 1),
             // two channels that are stated twice, after the line, after the backend, before the start, or alone
             (b"device lin16 8000 0 stereo stereo silent\n", 1),
@@ -284,7 +292,7 @@ fn the_first_faulty_line_is_numbered(rt: HostRuntime) -> Result<(), Fail> {
                 b"device lin16 8000 0 codec 1 cat\ndevice lin16 8000 0 silent\ndevice lin16 8000 0 line codec 1 cat",
                 3,
             ),
-            // a card with no restarts, no words, a ninth word, too many restarts, a word of 65 bytes, its line in the wrong
+            // a card with no restarts, no words, a ninth word, too many restarts, a word of 256 bytes, its line in the wrong
             // place, or another name; and a second codec after cards
             (b"device lin16 8000 0 card", 1),
             (b"device lin16 8000 0 card cat", 1),
@@ -295,7 +303,7 @@ fn the_first_faulty_line_is_numbered(rt: HostRuntime) -> Result<(), Fail> {
             (b"device lin16 8000 0 card 1000001 cat", 1),
             (b"device lin16 8000 0 card 00000000001 cat", 1),
             (
-                b"device lin16 8000 0 card 0 12345678901234567890123456789012345678901234567890123456789012345",
+                b"device lin16 8000 0 card 0 1234567890123456789012345678901234567890123456789012345678901234567890123456789012345678901234567890123456789012345678901234567890123456789012345678901234567890123456789012345678901234567890123456789012345678901234567890123456789012345678901234567890123456",
                 1,
             ),
             (b"device lin16 8000 0 card line 1 cat", 1),
@@ -364,13 +372,15 @@ fn a_line_has_a_program(rt: HostRuntime) -> Result<(), Fail> {
             b"device alaw 8000 0 line codec 1 phone\nphone 0 7 phone 0 device line #",
             &[(0, 7, &["phone", "0", "device", "line", "#"])],
         ),
-        // a word of 64 bytes
+        // a word of 255 bytes
         (
-            b"device alaw 8000 0 line silent\nphone 0 1 1234567890123456789012345678901234567890123456789012345678901234",
+            b"device alaw 8000 0 line silent\nphone 0 1 123456789012345678901234567890123456789012345678901234567890123456789012345678901234567890123456789012345678901234567890123456789012345678901234567890123456789012345678901234567890123456789012345678901234567890123456789012345678901234567890123456789012345",
             &[(
                 0,
                 1,
-                &["1234567890123456789012345678901234567890123456789012345678901234"],
+                &[
+                    "123456789012345678901234567890123456789012345678901234567890123456789012345678901234567890123456789012345678901234567890123456789012345678901234567890123456789012345678901234567890123456789012345678901234567890123456789012345678901234567890123456789012345",
+                ],
             )],
         ),
         // eight lines
@@ -440,7 +450,7 @@ fn a_faulty_phone_line_is_numbered(rt: HostRuntime) -> Result<(), Fail> {
             ),
             // a faulty device before one
             (b"device alaw 8000 0 line\nphone 0 1 ring", 1),
-            // with no device, no restarts, no words, too many restarts, a ninth word, a word of 65 bytes, and not in UTF-8
+            // with no device, no restarts, no words, too many restarts, a ninth word, a word of 256 bytes, and not in UTF-8
             (b"device alaw 8000 0 line silent\nphone", 2),
             (b"device alaw 8000 0 line silent\nphone ring 1 0", 2),
             (b"device alaw 8000 0 line silent\nphone 0", 2),
@@ -452,7 +462,7 @@ fn a_faulty_phone_line_is_numbered(rt: HostRuntime) -> Result<(), Fail> {
                 2,
             ),
             (
-                b"device alaw 8000 0 line silent\nphone 0 1 12345678901234567890123456789012345678901234567890123456789012345",
+                b"device alaw 8000 0 line silent\nphone 0 1 1234567890123456789012345678901234567890123456789012345678901234567890123456789012345678901234567890123456789012345678901234567890123456789012345678901234567890123456789012345678901234567890123456789012345678901234567890123456789012345678901234567890123456",
                 2,
             ),
             (b"device alaw 8000 0 line silent\nphone 0 1 \xff", 2),

@@ -3,7 +3,7 @@ use crate::tests::checks::holds;
 use af_io::{Args, MemSink, MemSource};
 use af_outside::{DeviceSpec, Happening, Lifecycle, LifecycleFaults, Tape, ToldKind, Wake};
 use af_script::{Script, print_log, read_script};
-use afd_log::{Log, Logged, NoSight};
+use afd_log::{Fronts, Log, Logged, NoSight};
 use afd_serve::{Endless, LiveEnd, afd_live, status_of};
 use std::alloc::Global;
 use std::process::Abort;
@@ -540,7 +540,7 @@ static SERVED: [Served<'static>; 8] = [
 
 #[test]
 fn what_is_asked_of_the_world_is_told(rt: HostRuntime) -> Result<(), Fail> {
-    let log = Log::new(&rt, false);
+    let log = Log::new(&rt, false, Fronts::PLAIN);
     for case in &SERVED {
         assert_served(&rt, rt.alloc(), &rt, &log, case)?;
     }

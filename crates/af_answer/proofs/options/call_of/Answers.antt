@@ -3,13 +3,24 @@ use Rattle.std.proofs.lemmas.Bool.{and_left, and_right}
 use Rattle.clap.specs.Words.{Row, Text, kind_of, matches_of, takes}
 use Rattle.clap.specs.declared.error.kind.ErrorKind.TheVariants as kinds
 use Rattle.af_cli.proofs.ToolNameLemmas.{not_taken}
-use Rattle.af_answer.specs.AnswerWords.{AnswerWords, answer_app, answer_words, words_in, is_answer_spelled, names_answer}
+use Rattle.af_cli.specs.Words.{wait_at}
+use Rattle.af_answer.specs.AnswerWords.{AnswerWords, answer_app, answer_wait, answer_words, words_in, is_answer_spelled, names_answer}
 use Rattle.af_answer.proofs.options.call_of.Goals as goal
 
 -- what arguments ask that name the machine, by the rows of their matches
 asked_words : (words : List Text) (rows : List Row) → names_answer words ≡ true → rows ≡ matches_of answer_app words → answer_words words ≡ words_in rows
 unfolding answer_words
 asked_words words rows named same = ap (λ (b : Bool). if b then words_in (matches_of answer_app words) else None) named ∙ ap words_in (sym same)
+
+-- how long they have the server waited for, by these rows
+asked_wait : (words : List Text) (rows : List Row) → names_answer words ≡ true → rows ≡ matches_of answer_app words → answer_wait words ≡ wait_at rows
+unfolding answer_wait
+asked_wait words rows named same = ap (λ (b : Bool). if b then wait_at (matches_of answer_app words) else None) named ∙ ap wait_at (sym same)
+
+pub returns-in-Some-clause-wait : goal.returns-in-Some-clause-wait
+returns-in-Some-clause-wait c =
+    let named : names_answer c.args.words.now ≡ true = search rules in
+    asked_wait c.args.words.now _ named (c.in-Ok.ensures.ok ∙ ap (λ (w : List Text). matches_of answer_app w) c.as_slice.ensures) ∙ c.in-Some.ensures.wait
 
 pub returns-then-not-names_answer-clause-usage : goal.returns-then-not-names_answer-clause-usage
 unfolding is_answer_spelled

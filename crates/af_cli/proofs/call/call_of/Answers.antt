@@ -2,8 +2,8 @@ use Rattle.std.proofs.Common.{rules, ◌≡◌, ◌∙◌, false, List, ap, sym}
 use Rattle.std.specs.Prelude.{Some, None}
 use Rattle.clap.specs.Words.{Row, Text, kind_of, matches_of, takes}
 use Rattle.clap.specs.declared.error.kind.ErrorKind.TheVariants as kinds
-use Rattle.af_cli.specs.Words.{job_in, tool_app}
-use Rattle.af_cli.proofs.ToolNameLemmas.{is_named, job_named, no_job, none_taken, not_taken, taken_named, untaken}
+use Rattle.af_cli.specs.Words.{job_in, tool_app, wait_at}
+use Rattle.af_cli.proofs.ToolNameLemmas.{is_named, job_named, no_job, none_taken, not_taken, taken_named, untaken, wait_named}
 use Rattle.af_cli.proofs.call.call_of.Goals as goal
 
 pub returns-in_default-clause-usage : goal.returns-in_default-clause-usage
@@ -33,6 +33,16 @@ returns-in-Some-call_in-clause-ok c =
     ∙ ap (λ (w : List Text). job_in tool (matches_of (tool_app tool) w)) (sym c.as_slice.ensures)
     ∙ ap (λ (rows : List Row). job_in tool rows) (sym c.in-Ok.ensures.ok)
     ∙ sym c.in-Some-call_in.ensures.value
+
+pub returns-in-Some-call_in-clause-wait : goal.returns-in-Some-call_in-clause-wait
+returns-in-Some-call_in-clause-wait c =
+    let words = c.args.words.now in
+    let tool = c.in-Some-tool_named.tool in
+    let n = is_named words c.in-Some.name.now c.in-Some.ensures in
+    wait_named words c.in-Some.name.now (Some tool) n c.in-Some-tool_named.ensures
+    ∙ ap (λ (w : List Text). wait_at (matches_of (tool_app tool) w)) (sym c.as_slice.ensures)
+    ∙ ap (λ (rows : List Row). wait_at rows) (sym c.in-Ok.ensures.ok)
+    ∙ c.in-Some-call_in.ensures.wait
 
 pub returns-clause-usage : goal.returns-clause-usage
 returns-clause-usage c e =

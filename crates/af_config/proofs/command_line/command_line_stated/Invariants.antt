@@ -9,7 +9,7 @@ abbrev pub invariant-loop-word : goal.invariant-loop-word
 invariant-loop-word l = record {
   text : IsUtf8 l.rest;
   whole : words l.line ≡ words_of l.command ++ words l.rest;
-  short : are_short (words_of l.command) ≡ true;
+  short : are_short l.longest (words_of l.command) ≡ true;
 }
 
 abbrev pub decreases-loop-word : goal.decreases-loop-word

@@ -1,7 +1,7 @@
 use Rattle.mio.specs.Events.{items}
 use Rattle.af_lines.proofs.LinesLemmas.{change_fits}
 use Rattle.af_live.proofs.StreamsLemmas.{kept_stays, nothing_stays, waited_stays}
-use Rattle.af_live.proofs.WakingLemmas.{kept_fits, kept_lines, kept_links, kept_round, last_stays, nothing_kept, polled_lines, polled_links}
+use Rattle.af_live.proofs.WakingLemmas.{kept_fits, kept_lines, kept_links, kept_round, last_stays, nothing_kept, polled_lines, polled_links, polled_pauses}
 use Rattle.af_live.proofs.waking.next_wake.Goals as goal
 
 pub returns-in-Some-take_ready-clause-links : goal.returns-in-Some-take_ready-clause-links
@@ -34,6 +34,10 @@ returns-in-Some-next_change-clause-fits g c = change_fits _ c.args.lines.now c.n
 pub returns-clause-kept : goal.returns-clause-kept
 returns-clause-kept g c = λ k _ below ready.
     absurd (nothing_kept _ _ c.in_default-take_ready.ensures.count c.in_default-take_ready.ensures.first k below ready)
+
+pub returns-clause-pauses : goal.returns-clause-pauses
+returns-clause-pauses g c =
+    polled_pauses c.args.more _ _ _ c.next_tick.new.self.round _ _ c.poll_once.result _ _ c.in_default-take_ready.ensures.first c.poll_once.ensures.lines c.poll_once.ensures.pause
 
 pub returns-clause-links : goal.returns-clause-links
 returns-clause-links g c = polled_links (items c.poll_once.new.sockets.events) c.poll_once.result _ _ _ c.in_default-take_ready.ensures.first c.poll_once.ensures.fits c.poll_once.ensures.links

@@ -1,5 +1,5 @@
 use Rattle.std.proofs.Common.{rules, arith, ◌≡◌, refl, ◌∙◌}
-use Rattle.af_dialogue.proofs.PartLemmas.{goes_stop, goes_value, reached_goes, reached_here, reached_on}
+use Rattle.af_toolkit.proofs.PartLemmas.{goes_stop, goes_value, reached_goes, reached_here, reached_on}
 use Rattle.af_relay.proofs.RelayPartLemmas.{is_relay, passes_next}
 use Rattle.af_relay.proofs.pass.pass_blocks.Goals as goal
 
@@ -13,7 +13,7 @@ loop-left-init g c = record {
   count_to = omega arith;
   size = refl;
   few = omega arith;
-  passing = reached_here is_relay;
+  passing = rw c.block_count-left.ensures (reached_here is_relay);
 }
 
 pub returns-in_err-passed-clause-goes : goal.returns-in_err-passed-clause-goes

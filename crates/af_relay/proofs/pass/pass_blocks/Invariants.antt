@@ -1,7 +1,7 @@
-use Rattle.std.proofs.Common.{◌≡◌, ◌≤◌, ◌+◌, length, IsSome}
+use Rattle.std.proofs.Common.{◌≡◌, ◌<◌, ◌≤◌, ◌+◌, ◌^◌, length, IsSome}
 use Rattle.std.specs.declared.option.Option.TheVariants.{None}
-use Rattle.af_dialogue.proofs.PartLemmas.{Reached}
-use Rattle.af_relay.specs.Pass.{both, passes}
+use Rattle.af_toolkit.proofs.PartLemmas.{Reached}
+use Rattle.af_relay.specs.Pass.{block_count, both, passes}
 use Rattle.af_toolkit.specs.Trace.{refused}
 use Rattle.af_toolkit.specs.ToolParts.{link_sight}
 use Rattle.af_relay.specs.RelayParts.{relaying}
@@ -15,9 +15,9 @@ invariant-loop-left g l = record {
   tells_to : IsSome (g.M.Link.left l.initial.to.link) → IsSome (g.M.Link.left l.to.link);
   count_from : g.L.Link.faults l.initial.from.link ≤ g.L.Link.faults l.from.link;
   count_to : g.M.Link.faults l.initial.to.link ≤ g.M.Link.faults l.to.link;
-  size : length l.block ≡ length l.initial.block;
-  few : l.passed.resynced + l.left ≤ l.plan.job.blocks;
-  passing : Reached (relaying refused) (passes l.plan.job.blocks l.plan.job l.plan.pace l.initial.passed) (passes l.left l.plan.job l.plan.pace l.passed)
+  size : length l.room ≡ length l.initial.room;
+  few : l.passed.resynced + l.left < 2 ^ 64;
+  passing : Reached (relaying refused) (passes (block_count l.plan.job.blocks) l.plan.job l.plan.pace l.initial.passed) (passes l.left l.plan.job l.plan.pace l.passed)
       (both (link_sight g.L.Link.left g.L.Link.sent l.initial.from) (link_sight g.M.Link.left g.M.Link.sent l.initial.to))
       (both (link_sight g.L.Link.left g.L.Link.sent l.from) (link_sight g.M.Link.left g.M.Link.sent l.to));
 }

@@ -19,7 +19,7 @@ pass_between-requires-clause-alike g c = pair_alike c.args.job.now c.args.from.n
 
 pub returns-in-Ok-pass_between-clause-ran : goal.returns-in-Ok-pass_between-clause-ran
 returns-in-Ok-pass_between-clause-ran g c v w told_from told_to =
-    let went = between_reported c.args.job.now c.in-Ok.device _ _ c.in-Ok-pass_between.ensures.goes (v, told_from, refl) (w, told_to, refl) (c.report.ensures.followed _) in
+    let went = between_reported c.args.job.now c.in-Ok.device _ _ c.in-Ok-pass_between.ensures.goes (v, told_from, refl) (w, told_to, refl) ((rw c.block_count.ensures at c.report.ensures.followed) _) in
     between_ran c.args.job.now _ _ _ _ c.in-Ok.device went (among_ok _ c.in-Ok.ensures.value) c.in-Ok.ensures.stated c.requires.range
 
 pub returns-in-Err-pass_between-clause-ran : goal.returns-in-Err-pass_between-clause-ran

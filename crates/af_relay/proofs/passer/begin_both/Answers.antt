@@ -3,7 +3,7 @@ use Rattle.std.specs.Prelude.{Err}
 use Rattle.std.specs.declared.option.Option.TheVariants.{None}
 use Rattle.af_lib.specs.Calls.{ConnState}
 use Rattle.af_toolkit.specs.Trace.{fault_end}
-use Rattle.af_dialogue.proofs.PartLemmas.{goes_stop, goes_through}
+use Rattle.af_toolkit.proofs.PartLemmas.{goes_stop, goes_through}
 use Rattle.af_relay.proofs.RelayPartLemmas.{asked_from, asked_to, is_relay}
 use Rattle.af_relay.proofs.passer.begin_both.Goals as goal
 

@@ -1,7 +1,7 @@
 use Rattle.std.proofs.Common.{rules, ◌≡◌}
 use Rattle.std.specs.Prelude.{Err}
 use Rattle.af_toolkit.specs.Trace.{fault_end}
-use Rattle.af_dialogue.proofs.PartLemmas.{goes_stop, goes_through}
+use Rattle.af_toolkit.proofs.PartLemmas.{goes_stop, goes_through}
 use Rattle.af_relay.proofs.RelayPartLemmas.{asked_from, asked_to, is_relay}
 use Rattle.af_relay.proofs.passer.finish_both.Goals as goal
 

@@ -1,5 +1,5 @@
 use Rattle.std.proofs.Common.{rules, refl}
-use Rattle.af_dialogue.proofs.PartLemmas.{goes_stop, goes_through, goes_value}
+use Rattle.af_toolkit.proofs.PartLemmas.{goes_stop, goes_through, goes_value}
 use Rattle.af_toolkit.proofs.ToolPartLemmas.{asks_go, is_tool}
 use Rattle.af_standing.proofs.ask.controls_report_of.Goals as goal
 

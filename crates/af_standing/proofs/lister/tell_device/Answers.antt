@@ -1,5 +1,5 @@
 use Rattle.std.proofs.Common.{rules}
-use Rattle.af_dialogue.proofs.PartLemmas.{goes_stop, goes_through}
+use Rattle.af_toolkit.proofs.PartLemmas.{goes_stop, goes_through}
 use Rattle.af_toolkit.proofs.ToolPartLemmas.{is_tool, writes_go}
 use Rattle.af_toolkit.proofs.StepLemmas.{not_link}
 use Rattle.af_standing.proofs.lister.tell_device.Goals as goal

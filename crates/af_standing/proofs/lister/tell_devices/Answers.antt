@@ -1,5 +1,5 @@
 use Rattle.std.proofs.Common.{rules, arith, ◌≡◌, ◌<◌, length, ap, ◌∙◌, refl, inl, inr, Result, Err}
-use Rattle.af_dialogue.proofs.PartLemmas.{goes_stop, goes_value, reached_goes, reached_here}
+use Rattle.af_toolkit.proofs.PartLemmas.{goes_stop, goes_value, reached_goes, reached_here}
 use Rattle.af_toolkit.proofs.ToolPartLemmas.{is_tool, keeps_all, keeps_on}
 use Rattle.af_standing.proofs.ListLemmas.{tell_next, tell_none, telling_on}
 use Rattle.af_toolkit.specs.declared.end.ToolEnd.{ToolEnd}

@@ -1,5 +1,5 @@
 use Rattle.std.proofs.Common.{◌≤◌, drop, Ok}
-use Rattle.af_dialogue.proofs.PartLemmas.{Reached}
+use Rattle.af_toolkit.proofs.PartLemmas.{Reached}
 use Rattle.af_toolkit.specs.Ends.{KeepsConnection}
 use Rattle.af_toolkit.specs.Trace.{refused}
 use Rattle.af_toolkit.specs.ToolParts.{tool_sight, tooling}

@@ -10,6 +10,6 @@ returns-in-Some-clause-goes g c held =
     let out = c.to_server.new.out in
     let fits : size ≤ length c.args.room.now = search rules in
     let long : length out ≡ size = omega (arith, length-take-le size c.args.room.now fits) in
-    let is : Some c.in-Some.coding ≡ c.args.coding = search rules in
+    let is : Some c.in-Some.coding ≡ c.args.turn.coding = search rules in
     let same = take_at out (drop size c.args.room.now) size long ∙ c.to_server.ensures ∙ ap (λ (o : Option Coding). as_served o c.args.block.now) is in
     rw same at (c.play_samples-in-Some.ensures.goes held)

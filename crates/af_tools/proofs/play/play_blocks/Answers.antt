@@ -42,15 +42,15 @@ loop-block-init g c =
       permitted = omega arith;
       stated = next.stated;
       ended = λ short. next.ended (subst (λ (n : ℕ). first < n) sizes short);
-      few = omega arith;
+      few = rw c.from_time-course.ensures (omega arith);
       fits = fits_begin sound.length;
       rest = rest_begin sound.length;
       given = record { bytes = read; consumed = read_before read gives; all = omega arith };
       block_fits = block_fits sound.coding 0 c.requires.block c.width-width.ensures low within (omega arith);
-      stepped = stepped_begin sound.coding width c.args.playback.start.0 size sound.head (subst (λ (b : List ℕ). Consumed (left_before read gives) b gives) (sym same) (read_before read gives));
+      stepped = rw c.from_time-course.ensures (stepped_begin sound.coding width c.args.playback.pace c.args.playback.told size sound.head (subst (λ (b : List ℕ). Consumed (left_before read gives) b gives) (sym same) (read_before read gives)));
       playing = λ bytes held is tells.
-          play_filled (play_begin sound c.args.playback.block c.args.playback.start.0 width (read ++ bytes) (left_before read gives) (omega arith) c.width-width.ensures (ap (left_before read) is))
-          (subst (λ (b : List ℕ). Consumed (left_before read gives) b gives) (sym same) (read_before read gives)) tells sized within next.stated (λ short. next.ended (subst (λ (n : ℕ). first < n) sizes short));
+          rw c.from_time-course.ensures (play_filled (play_begin sound c.args.playback.block c.args.playback.pace c.args.playback.told width (read ++ bytes) (left_before read gives) (omega arith) c.width-width.ensures (ap (left_before read) is))
+          (subst (λ (b : List ℕ). Consumed (left_before read gives) b gives) (sym same) (read_before read gives)) tells sized within next.stated (λ short. next.ended (subst (λ (n : ℕ). first < n) sizes short)));
     }
 
 pub returns-then-count-eq0-clause-goes : goal.returns-then-count-eq0-clause-goes
@@ -63,21 +63,21 @@ returns-then-count-eq0-clause-takes g c =
     let i = c.loop-block.invariant in
     takes_ended c.loop-block.given c.loop-block.filled i.given i.permitted i.rest i.fits (i.ended (block_short i.block_fits c.if-count-eq0.true))
 
-pub returns-in_err-play_block-clause-goes : goal.returns-in_err-play_block-clause-goes
-returns-in_err-play_block-clause-goes g c bytes held is tells =
+pub returns-in_err-told-clause-goes : goal.returns-in_err-told-clause-goes
+returns-in_err-told-clause-goes g c bytes held is tells =
     let i = c.loop-block.invariant in
-    play_refused (i.playing bytes held is tells) i.block_fits c.time_after_frames-at.ensures (omega arith) (search rules) (c.in_err-play_block.ensures.goes held)
+    play_refused (i.playing bytes held is tells) i.block_fits (omega arith) (search rules) (c.in_err-told.ensures.goes held)
 
-pub returns-in_err-play_block-clause-takes : goal.returns-in_err-play_block-clause-takes
-returns-in_err-play_block-clause-takes g c =
+pub returns-in_err-told-clause-takes : goal.returns-in_err-told-clause-takes
+returns-in_err-told-clause-takes g c =
     let i = c.loop-block.invariant in
-    takes_link (search rules) (given_within i.given i.permitted) c.in_err-play_block.ensures.end
+    takes_link (search rules) (given_within i.given i.permitted) c.in_err-told.ensures.end
 
 pub returns-then-filled-size-clause-goes : goal.returns-then-filled-size-clause-goes
 returns-then-filled-size-clause-goes g c bytes held is tells =
     let i = c.loop-block.invariant in
     let short = c.if-filled-size.true in
-    play_last (i.playing bytes held is tells) i.block_fits c.time_after_frames-at.ensures (omega arith) (c.in_ok-play_block.ensures.goes held) (omega arith)
+    rw c.on-course.ensures (play_last (i.playing bytes held is tells) i.block_fits (omega arith) (c.in_ok-told.ensures.goes held) (omega arith))
 
 pub returns-then-filled-size-clause-takes : goal.returns-then-filled-size-clause-takes
 returns-then-filled-size-clause-takes g c =
@@ -93,7 +93,7 @@ returns-in_err-filled-clause-goes g c bytes held is tells =
     let low = c.requires.sound.1 in
     let permitted = i.permitted in
     let same : c.from_residual-in_err-filled.result ≡ Err (fill_end fault) = search rules in
-    rw same (play_unfilled (i.playing bytes held is (told_unfilled fault e.fills tells)) i.block_fits c.time_after_frames-at.ensures (omega arith) (c.in_ok-play_block.ensures.goes held) fault c.still_left-left.ensures e.fills (e.room ∙ i.block) tells (omega arith))
+    rw same (play_unfilled (i.playing bytes held is (told_unfilled fault e.fills tells)) i.block_fits (omega arith) (c.in_ok-told.ensures.goes held) fault c.still_left-left.ensures e.fills (e.room ∙ i.block) tells (omega arith))
 
 pub returns-in_err-filled-clause-takes : goal.returns-in_err-filled-clause-takes
 returns-in_err-filled-clause-takes g c =
@@ -108,7 +108,7 @@ loop-block-preserved g c =
     let n = c.loop-block.filled in
     let permitted = i.permitted in
     let few = i.few in
-    let a = c.in_ok-play_block.ensures in
+    let a = c.in_ok-told.ensures in
     let fewer = div-le_self n c.width-width.result in
     let e = c.in_ok-filled.ensures in
     let had = e.fills.had in
@@ -125,16 +125,16 @@ loop-block-preserved g c =
       permitted = omega arith;
       stated = next.stated;
       ended = λ short. next.ended (omega arith);
-      few = omega arith;
+      few = rw c.on-course.ensures (omega arith);
       fits = fits_on sound.length c.loop-block.left c.loop-block.given n i.rest i.fits i.stated;
       rest = rest_on sound.length c.loop-block.left c.still_left-left.result c.loop-block.given n i.rest c.still_left-left.ensures;
       given = given_on i.given had next.within;
       block_fits = block_fits sound.coding (c.loop-block.given + n) c.requires.block c.width-width.ensures c.requires.sound.1 (omega arith) (omega arith);
-      stepped = stepped_on c.loop-block.block i.stepped (length-take-le n c.loop-block.block (omega (arith, i.block, i.within))) (omega (arith, c.if-filled-size.false, i.within)) i.block_fits c.time_after_frames-at.ensures (omega arith)
-          (c.in_ok-play_block.ensures.goes None) (take c.in_ok-filled.filled c.fill_stated.new.block) had.consumed;
+      stepped = rw c.on-course.ensures (stepped_on c.loop-block.block i.stepped (length-take-le n c.loop-block.block (omega (arith, i.block, i.within))) (omega (arith, c.if-filled-size.false, i.within)) i.block_fits (omega arith)
+          (c.in_ok-told.ensures.goes None) (take c.in_ok-filled.filled c.fill_stated.new.block) had.consumed);
       playing = λ bytes held is tells.
           let before = consumed_told (g.S.Source.left c.loop-block.source) (g.S.Source.left c.fill_stated.new.source) (take c.in_ok-filled.filled c.fill_stated.new.block) had.consumed tells in
-          play_next (i.playing bytes held is before) i.block_fits c.time_after_frames-at.ensures (omega arith) (c.in_ok-play_block.ensures.goes held) (omega arith) c.still_left-left.ensures had tells filled;
+          rw c.on-course.ensures (play_next (i.playing bytes held is before) i.block_fits (omega arith) (c.in_ok-told.ensures.goes held) (omega arith) c.still_left-left.ensures had tells filled);
     }
 
 pub returns-then-count-eq0-clause-step : goal.returns-then-count-eq0-clause-step
@@ -144,21 +144,21 @@ returns-then-count-eq0-clause-step g c input told =
     let within = i.within in
     let full = length-take-le c.loop-block.filled c.loop-block.block (omega (arith, i.block, i.within)) in
     let ended = subst (λ (k : ℕ). k < p.block * c.width-width.result → IsSpent (g.S.Source.left c.loop-block.source) ⊎ (c.loop-block.left ≡ Some k)) (sym full) i.ended in
-    let first = step_first p.sound p.block p.start.0 c.width-width.result c.width-width.ensures i.stepped i.fits (omega arith) c.loop-block.left i.rest ended in
-    step_ends p.sound p.block p.start.0 c.width-width.result c.width-width.ensures i.stepped i.fits (omega arith) _ first (input, told, refl) (λ bad. cc bad) (λ v at. ([], appended_none _)) (λ bad. cc bad)
+    let first = step_first p.sound p.block p.pace p.told c.width-width.result c.width-width.ensures i.stepped i.fits (omega arith) c.loop-block.left i.rest ended in
+    step_ends p.sound p.block p.pace p.told c.width-width.result c.width-width.ensures i.stepped i.fits (omega arith) _ first (input, told, refl) (λ bad. cc bad) (λ v at. ([], appended_none _)) (λ bad. cc bad)
 
-pub returns-in_err-play_block-clause-step : goal.returns-in_err-play_block-clause-step
-returns-in_err-play_block-clause-step g c input told =
+pub returns-in_err-told-clause-step : goal.returns-in_err-told-clause-step
+returns-in_err-told-clause-step g c input told =
     let i = c.loop-block.invariant in
     let p = c.args.playback in
-    let e = c.in_err-play_block.ensures in
+    let e = c.in_err-told.ensures in
     let within = i.within in
     let full = length-take-le c.loop-block.filled c.loop-block.block (omega (arith, i.block, i.within)) in
     let ended = subst (λ (k : ℕ). k < p.block * c.width-width.result → IsSpent (g.S.Source.left c.loop-block.source) ⊎ (c.loop-block.left ≡ Some k)) (sym full) i.ended in
-    let first = step_first p.sound p.block p.start.0 c.width-width.result c.width-width.ensures i.stepped i.fits (omega arith) c.loop-block.left i.rest ended in
-    let same : c.from_residual.result ≡ Err c.in_err-play_block.field-0.0 = search rules in
+    let first = step_first p.sound p.block p.pace p.told c.width-width.result c.width-width.ensures i.stepped i.fits (omega arith) c.loop-block.left i.rest ended in
+    let same : c.from_residual.result ≡ Err c.in_err-told.field-0.0 = search rules in
     let other = not_failed same e.end in
-    step_ends p.sound p.block p.start.0 c.width-width.result c.width-width.ensures i.stepped i.fits (omega arith) _ first (input, told, refl) (λ bad. absurd (other bad)) (λ v at. shown refused (Err _) (e.goes None) at) (λ bad. absurd (other bad))
+    step_ends p.sound p.block p.pace p.told c.width-width.result c.width-width.ensures i.stepped i.fits (omega arith) _ first (input, told, refl) (λ bad. absurd (other bad)) (λ v at. shown refused (Err _) (e.goes None) at) (λ bad. absurd (other bad))
 
 pub returns-then-filled-size-clause-step : goal.returns-then-filled-size-clause-step
 returns-then-filled-size-clause-step g c input told =
@@ -167,8 +167,8 @@ returns-then-filled-size-clause-step g c input told =
     let within = i.within in
     let full = length-take-le c.loop-block.filled c.loop-block.block (omega (arith, i.block, i.within)) in
     let ended = subst (λ (k : ℕ). k < p.block * c.width-width.result → IsSpent (g.S.Source.left c.loop-block.source) ⊎ (c.loop-block.left ≡ Some k)) (sym full) i.ended in
-    let first = step_first p.sound p.block p.start.0 c.width-width.result c.width-width.ensures i.stepped i.fits (omega arith) c.loop-block.left i.rest ended in
-    step_ends p.sound p.block p.start.0 c.width-width.result c.width-width.ensures i.stepped i.fits (omega arith) _ first (input, told, refl) (λ bad. cc bad) (λ v at. shown refused (Ok _) (c.in_ok-play_block.ensures.goes None) at) (λ bad. cc bad)
+    let first = step_first p.sound p.block p.pace p.told c.width-width.result c.width-width.ensures i.stepped i.fits (omega arith) c.loop-block.left i.rest ended in
+    step_ends p.sound p.block p.pace p.told c.width-width.result c.width-width.ensures i.stepped i.fits (omega arith) _ first (input, told, refl) (λ bad. cc bad) (λ v at. shown refused (Ok _) (c.in_ok-told.ensures.goes None) at) (λ bad. cc bad)
 
 pub returns-in_err-filled-clause-step : goal.returns-in_err-filled-clause-step
 returns-in_err-filled-clause-step g c input told =
@@ -180,8 +180,8 @@ returns-in_err-filled-clause-step g c input told =
     let size : length c.fill_stated.new.block ≡ p.block * c.width-width.result = e.room ∙ i.block in
     let most = read.2 in
     let some = div-le_self n c.width-width.result in
-    let s = stepped_on c.loop-block.block i.stepped (length-take-le n c.loop-block.block (omega (arith, i.block, i.within))) (omega (arith, c.if-filled-size.false, i.within)) i.block_fits c.time_after_frames-at.ensures (omega arith)
-    (c.in_ok-play_block.ensures.goes None) read.0 read.1 in
+    let s = stepped_on c.loop-block.block i.stepped (length-take-le n c.loop-block.block (omega (arith, i.block, i.within))) (omega (arith, c.if-filled-size.false, i.within)) i.block_fits (omega arith)
+    (c.in_ok-told.ensures.goes None) read.0 read.1 in
     let fits = fits_on p.sound.length c.loop-block.left c.loop-block.given n i.rest i.fits i.stated in
-    let first = step_later p.sound p.block p.start.0 c.width-width.result c.width-width.ensures s fits (omega arith) (omega arith) in
-    step_ends p.sound p.block p.start.0 c.width-width.result c.width-width.ensures s fits (omega arith) _ first (input, told, refl) (λ _. appended_none _) (λ v at. ([], appended_none _)) (λ _. omega arith)
+    let first = step_later p.sound p.block p.pace p.told c.width-width.result c.width-width.ensures s fits (omega arith) (omega arith) in
+    step_ends p.sound p.block p.pace p.told c.width-width.result c.width-width.ensures s fits (omega arith) _ first (input, told, refl) (λ _. appended_none _) (λ v at. ([], appended_none _)) (λ _. omega arith)

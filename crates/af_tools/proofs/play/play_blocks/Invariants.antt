@@ -22,15 +22,15 @@ invariant-loop-block g l = record {
   permitted : l.given + l.filled ≤ l.most;
   stated : FitsStated l.left l.filled;
   ended : l.filled < l.size → IsSpent (g.S.Source.left l.source) ⊎ (l.left ≡ Some l.filled);
-  few : l.frames ≤ l.given;
+  few : l.course.frames ≤ l.given;
   fits : FitsStated l.sound.length l.given;
   rest : l.left ≡ stated_after l.sound.length l.given;
   given : ConsumedAll (l.given + l.filled) (left_before (take l.first l.fn.room) (g.S.Source.left l.initial.source)) (g.S.Source.left l.source);
   block_fits : BlockFits l.filled l.size l.width (l.sound.head + l.given);
-  stepped : IsStepped l.sound.coding l.width l.start.0 l.size l.sound.head l.frames l.given (take l.filled l.block) (left_before (take l.first l.fn.room) (g.S.Source.left l.initial.source)) (g.S.Source.left l.source)
+  stepped : IsStepped l.sound.coding l.width l.pace l.fn.playback.told l.size l.sound.head l.course l.given (take l.filled l.block) (left_before (take l.first l.fn.room) (g.S.Source.left l.initial.source)) (g.S.Source.left l.source)
       (tool_sight g.L.Link.left g.L.Link.sent l.initial.conn None) (tool_sight g.L.Link.left g.L.Link.sent l.conn None);
   playing : (bytes : List ℕ) (held : Option (List ℕ)) → g.S.Source.left l.initial.source ≡ Some bytes → IsSome (g.S.Source.left l.source) →
-      IsFilled (plays_sound l.sound l.fn.playback.block l.start.0 (take l.first l.fn.room ++ bytes)) l.sound.coding l.width l.start.0 l.size l.frames (l.sound.head + l.given) l.filled l.left l.block (g.S.Source.left l.source)
+      IsFilled (plays_sound l.sound l.fn.playback.block l.pace l.fn.playback.told (take l.first l.fn.room ++ bytes)) l.sound.coding l.width l.pace l.size l.course (l.sound.head + l.given) l.filled l.left l.block (g.S.Source.left l.source)
       (tool_sight g.L.Link.left g.L.Link.sent l.initial.conn held) (tool_sight g.L.Link.left g.L.Link.sent l.conn held);
 }
 

@@ -4,9 +4,9 @@ use Rattle.af_io.proofs.ConsumedLemmas.{consumed_none, consumed_told}
 use Rattle.af_toolkit.specs.declared.end.ToolEnd.TheVariants as end
 use Rattle.af_sample.specs.Channels.{IsChannelCount}
 use Rattle.af_lib.specs.Calls.{channels_or_one}
-use Rattle.af_toolkit.specs.Ends.{client_of, is_of_report}
+use Rattle.af_toolkit.specs.Ends.{client_of}
 use Rattle.af_tools.specs.Play.{play_finish}
-use Rattle.af_tools.specs.Reading.{is_of_sound, is_of_blocks}
+use Rattle.af_tools.specs.Reading.{is_of_sound, is_of_blocks, is_of_played}
 use Rattle.af_tools.proofs.HavingRun.{aplay_missing_ran, aplay_there_ran}
 use Rattle.af_tools.proofs.DeviceChoiceLemmas.{is_missing, is_there, missing_iff, reported, there_iff}
 use Rattle.af_tools.proofs.EndLemmas.{err_of, never}
@@ -47,7 +47,7 @@ returns-in-Ok-play_on-clause-ran g c input bytes told is tells =
 
 pub returns-in-Ok-play_on-clause-no_device : goal.returns-in-Ok-play_on-clause-no_device
 returns-in-Ok-play_on-clause-no_device g c n =
-    there_iff _ _ _ _ (is_there _ _ c.in-Ok.device c.in-Ok.ensures.value) (λ k. never is_of_report _ (end.NoDevice k) c.report.ensures.end refl) n
+    there_iff _ _ _ _ (is_there _ _ c.in-Ok.device c.in-Ok.ensures.value) (λ k. never (is_of_played c.args.job.now.strict) _ (end.NoDevice k) c.report.ensures.end refl) n
 
 pub returns-in-Err-play_on-clause-ran : goal.returns-in-Err-play_on-clause-ran
 returns-in-Err-play_on-clause-ran g c input bytes told is tells =
@@ -73,7 +73,7 @@ pub returns-in-Ok-play_on-clause-source : goal.returns-in-Ok-play_on-clause-sour
 returns-in-Ok-play_on-clause-source g c =
     let s = c.in-Ok-sound_of.ensures in
     let e = c.in-Ok-play_on.ensures in
-    played_use g.S.Source.left g.S.Source.faults c.report.result s.read s.fault.0 e.takes e.fault.0 c.report.ensures.end
+    played_use g.S.Source.left g.S.Source.faults c.report.result s.read s.fault.0 c.args.job.now.strict e.takes e.fault.0 c.report.ensures.end
 
 pub returns-in-Err-play_on-clause-source : goal.returns-in-Err-play_on-clause-source
 returns-in-Err-play_on-clause-source g c =
@@ -118,7 +118,7 @@ returns-in-Ok-play_on-clause-step g c input bytes told is tells =
     let e = c.in-Ok-play_on.ensures in
     let before = consumed_told (g.S.Source.left c.sound_of.new.source) (g.S.Source.left c.play_on.new.source) e.takes.bytes e.takes.consumed tells in
     let t = is_there c.args.conn.now.devices c.args.job.now.device c.in-Ok.device c.in-Ok.ensures.value in
-    inr (played_source t.get (c.in-Ok-sound_of.ensures.brings bytes is before) (λ bad. absurd (never is_of_report _ end.ReadFault c.report.ensures.end refl bad)) (e.step input told))
+    inr (played_source t.get (c.in-Ok-sound_of.ensures.brings bytes is before) (λ bad. absurd (never (is_of_played c.args.job.now.strict) _ end.ReadFault c.report.ensures.end refl bad)) (e.step input told))
 
 pub returns-in-Err-play_on-clause-step : goal.returns-in-Err-play_on-clause-step
 returns-in-Err-play_on-clause-step g c input bytes told is tells =

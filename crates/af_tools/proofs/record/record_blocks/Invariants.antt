@@ -13,7 +13,7 @@ invariant-loop-left g l = record {
   some : 1 ≤ l.block;
   going : l.row < l.job.stop_blocks;
   left : l.left ≤ l.job.frames;
-  recording : IsRecording (records_all l.job l.sound l.fn.start.0) l.job l.sound l.block l.at.0 l.left l.row
+  recording : IsRecording (records_all l.job l.sound l.fn.start.0) l.job l.sound l.block l.at.0 l.left l.row l.lost
       (tool_sight g.L.Link.left g.L.Link.sent l.initial.conn (g.K.Sink.held l.initial.sink)) (tool_sight g.L.Link.left g.L.Link.sent l.conn (g.K.Sink.held l.sink));
   taken : IsTaken l.job l.sound l.fn.start.0 l.block l.at.0 l.left l.row
       (tool_sight g.L.Link.left g.L.Link.sent l.initial.conn (g.K.Sink.held l.initial.sink)) (tool_sight g.L.Link.left g.L.Link.sent l.conn (g.K.Sink.held l.sink));

@@ -3,13 +3,14 @@ use Rattle.clap.specs.Words.{Text}
 use Rattle.af_io.specs.Observed.{Appended}
 use Rattle.af_io.specs.Dial.{AppendedBack, IsFirstOf, ToldLink}
 use Rattle.af_toolkit.specs.declared.end.ToolEnd.TheVariants as end
+use Rattle.af_toolkit.specs.Ends.{has_done_all}
 use Rattle.af_toolkit.specs.Trace.{ClientState, fault_end}
 use Rattle.af_relay.specs.Pass.{both, doing, relay_of}
 use Rattle.af_relay.specs.RelayParts.{RelayDid}
 use Rattle.af_tools.specs.Run.{no_client, relays_to, ReturnsBoth}
 use Rattle.af_cli.specs.Words.{relay}
 use Rattle.af_io.proofs.AppendedLemmas.{appended_on}
-use Rattle.af_toolkit.proofs.ToolEndLemmas.{fault_undone}
+use Rattle.af_toolkit.proofs.ToolEndLemmas.{fault_short}
 use Rattle.af_toolkit.proofs.ToolPartLemmas.{client_begun}
 use Rattle.af_tools.proofs.DialLemmas.{ran_none, ran_over_both, ran_refused, ran_unset}
 use Rattle.af_tools.proofs.relay.run_relay.Goals as goal
@@ -55,17 +56,17 @@ returns-in-Err-clause-asked g c =
       whole = refl;
       appended = subst (λ (x : Option (List Text)). Appended (g.D.Dial.asked c.args.dial.now) (c.args.call.now.from.now ∷ []) x) (sym c.hang_up.ensures.asked) c.in-Far.ensures.asked;
       none = λ e. cc;
-      all = λ done. absurd (fault_undone c.in-Err.fault (sym way ∙ done));
+      all = λ done. absurd (fault_short c.in-Err.fault (ap has_done_all (sym way) ∙ done));
     }
 
 pub returns-in-Failed-clause-ran : goal.returns-in-Failed-clause-ran
 returns-in-Failed-clause-ran g c links bytes told = ran_none (relay c.args.call.now.from.now c.args.call.now.to.now c.args.call.now.order c.args.call.now.job) bytes end.DialFault links _ _ _ _ refl (c.in-Failed.ensures.gives ∙ told) c.in-Failed.ensures.back
 
 pub returns-in-Failed-clause-asked : goal.returns-in-Failed-clause-asked
-returns-in-Failed-clause-asked g c = record { named = c.args.call.now.from.now ∷ []; others = c.args.call.now.to.now ∷ []; whole = refl; appended = c.in-Failed.ensures.asked; none = λ e. cc; all = λ e. absurd (let bad : end.DialFault ≡ end.Done = e in cc) }
+returns-in-Failed-clause-asked g c = record { named = c.args.call.now.from.now ∷ []; others = c.args.call.now.to.now ∷ []; whole = refl; appended = c.in-Failed.ensures.asked; none = λ e. cc; all = λ e. cc }
 
 pub returns-in-OutOfMemory-clause-ran : goal.returns-in-OutOfMemory-clause-ran
 returns-in-OutOfMemory-clause-ran g c links bytes told = ran_none (relay c.args.call.now.from.now c.args.call.now.to.now c.args.call.now.order c.args.call.now.job) bytes end.OutOfMemory links _ _ _ _ refl (c.in-OutOfMemory.ensures.gives ∙ told) c.in-OutOfMemory.ensures.back
 
 pub returns-in-OutOfMemory-clause-asked : goal.returns-in-OutOfMemory-clause-asked
-returns-in-OutOfMemory-clause-asked g c = record { named = c.args.call.now.from.now ∷ []; others = c.args.call.now.to.now ∷ []; whole = refl; appended = c.in-OutOfMemory.ensures.asked; none = λ e. cc; all = λ e. absurd (let bad : end.OutOfMemory ≡ end.Done = e in cc) }
+returns-in-OutOfMemory-clause-asked g c = record { named = c.args.call.now.from.now ∷ []; others = c.args.call.now.to.now ∷ []; whole = refl; appended = c.in-OutOfMemory.ensures.asked; none = λ e. cc; all = λ e. cc }

@@ -5,16 +5,16 @@ use Rattle.af_toolkit.specs.declared.end.ToolEnd.TheVariants as end
 use Rattle.af_cli.specs.Words.{Job}
 use Rattle.af_cli.specs.Call.{job_of_call}
 use Rattle.af_tools.specs.Reading.{TellsIfRead}
-use Rattle.af_tools.specs.Run.{EndsForCause, JobDone, job_form, job_reads}
+use Rattle.af_tools.specs.Run.{EndsForCause, JobDone, is_of_job, job_form, job_reads}
 use Rattle.af_tools.proofs.OutcomeLemmas.{did, ranged_call}
 use Rattle.af_tools.specs.RunSteps.{JobInStep}
 use Rattle.af_tools.proofs.RunStepLemmas.{idle_steps}
-use Rattle.af_tools.proofs.DialLemmas.{not_too_long, ran_none}
+use Rattle.af_tools.proofs.DialLemmas.{lost_strict, not_too_long, ran_none}
 use Rattle.af_tools.proofs.run.af_run.Goals as goal
 
 pub returns-in-Err-OutOfMemory-clause-told : goal.returns-in-Err-OutOfMemory-clause-told
 returns-in-Err-OutOfMemory-clause-told g c j called used links bytes told tells =
-    did j bytes end.OutOfMemory links _ _ _ _ _ (ran_none j bytes end.OutOfMemory links _ _ _ _ refl told refl) (λ e. cc) (λ few e. cc)
+    did j bytes end.OutOfMemory links _ _ _ _ _ (ran_none j bytes end.OutOfMemory links _ _ _ _ refl told refl) (λ e. cc) (λ few e. cc) (λ e. cc)
 
 pub returns-in-Ok-clause-told : goal.returns-in-Ok-clause-told
 returns-in-Ok-clause-told g c j called used links bytes told tells =
@@ -24,7 +24,8 @@ returns-in-Ok-clause-told g c j called used links bytes told tells =
     subst (λ (x : Job). JobDone x bytes c.run_call.result links (g.D.Dial.links c.run_call.new.dial) (g.K.Sink.held c.args.sink.now) (g.K.Sink.held c.run_call.new.sink) (g.D.Dial.back c.args.dial.now) (g.D.Dial.back c.run_call.new.dial))
     same
     (did j' bytes c.run_call.result links _ _ _ _ _ (c.run_call.ensures.ran links bytes told read) (λ way. ranged_call c.in-Ok.call c.in-Ok.ensures.call)
-    (not_too_long j' c.run_call.ensures.end c.run_call.ensures.causes.source read))
+    (not_too_long j' c.run_call.ensures.end c.run_call.ensures.causes.source read)
+    (λ lost. lost_strict j' (ap (is_of_job j') (sym lost) ∙ c.run_call.ensures.end)))
 
 pub returns-in-Ok-clause-causes : goal.returns-in-Ok-clause-causes
 returns-in-Ok-clause-causes g c =

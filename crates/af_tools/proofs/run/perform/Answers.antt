@@ -24,7 +24,7 @@ returns-in-Set-clause-followed g c input bytes told tells =
     rw set ((c.aset.ensures.ran input told).followed)
 
 -- an end of list is one of a tool that reads no source
-list_end : (how : ToolEnd) → is_of_list how ≡ true → is_of_tool false how ≡ true
+list_end : (how : ToolEnd) → is_of_list how ≡ true → is_of_tool false false how ≡ true
 list_end (end.NoDevice devices) is = refl
 list_end how is = is
 

@@ -1,5 +1,5 @@
 use Rattle.std.proofs.Common.{rules, ◌≡◌, true, false, refl, sym, ◌∙◌}
-use Rattle.af_dialogue.proofs.PartLemmas.{goes_value}
+use Rattle.af_toolkit.proofs.PartLemmas.{goes_value}
 use Rattle.af_tools.specs.Set.{states_controls}
 use Rattle.af_toolkit.proofs.ToolPartLemmas.{asks_go, is_tool}
 use Rattle.af_tools.proofs.set.set_controls.Goals as goal

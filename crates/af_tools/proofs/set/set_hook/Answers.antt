@@ -1,5 +1,5 @@
 use Rattle.std.proofs.Common.{rules, ◌≡◌, refl, None, Some}
-use Rattle.af_dialogue.proofs.PartLemmas.{goes_value}
+use Rattle.af_toolkit.proofs.PartLemmas.{goes_value}
 use Rattle.af_toolkit.proofs.ToolPartLemmas.{asks_go, is_tool}
 use Rattle.af_tools.proofs.set.set_hook.Goals as goal
 

@@ -1,5 +1,5 @@
 use Rattle.std.proofs.Common.{rules}
-use Rattle.af_dialogue.proofs.PartLemmas.{goes_stop, goes_through}
+use Rattle.af_toolkit.proofs.PartLemmas.{goes_stop, goes_through}
 use Rattle.af_toolkit.proofs.ToolPartLemmas.{is_tool}
 use Rattle.af_tools.proofs.set.set_on.Goals as goal
 

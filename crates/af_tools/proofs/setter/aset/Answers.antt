@@ -10,7 +10,7 @@ use Rattle.af_tools.proofs.setter.aset.Goals as goal
 
 pub returns-in-Err-clause-ran : goal.returns-in-Err-clause-ran
 returns-in-Err-clause-ran g c input told =
-    missing_ran _ _ _ _ (aset_on c.args.job.now c.args.conn.now.devices (client_of c.args.conn.now input)) _ _ _ (is_missing _ _ _ c.in-Err.ensures.value)
+    missing_ran _ _ _ _ _ (aset_on c.args.job.now c.args.conn.now.devices (client_of c.args.conn.now input)) _ _ _ (is_missing _ _ _ c.in-Err.ensures.value)
 
 pub returns-in-Err-clause-no_device : goal.returns-in-Err-clause-no_device
 returns-in-Err-clause-no_device g c n = missing_iff _ _ _ (is_missing _ _ _ c.in-Err.ensures.value) n
@@ -18,7 +18,7 @@ returns-in-Err-clause-no_device g c n = missing_iff _ _ _ (is_missing _ _ _ c.in
 pub returns-in-Ok-set_on-clause-ran : goal.returns-in-Ok-set_on-clause-ran
 returns-in-Ok-set_on-clause-ran g c input told =
     let w = client_of c.args.conn.now input in
-    there_ran _ _ _ _ (aset_on c.args.job.now c.args.conn.now.devices w) c.in-Ok.device _ _ _ _ _ (is_there _ _ _ c.in-Ok.ensures.value)
+    there_ran _ _ _ _ _ (aset_on c.args.job.now c.args.conn.now.devices w) c.in-Ok.device _ _ _ _ _ (is_there _ _ _ c.in-Ok.ensures.value)
     (trace_goes_on refused _ (input, told, refl) (c.in-Ok-set_on.ensures.goes (g.K.Sink.held c.args.sink.now)) (c.report.ensures.followed _))
 
 pub returns-in-Ok-set_on-clause-no_device : goal.returns-in-Ok-set_on-clause-no_device
@@ -27,7 +27,7 @@ returns-in-Ok-set_on-clause-no_device g c n = there_iff _ _ _ _ (is_there _ _ c.
 pub returns-in-Err-set_on-clause-ran : goal.returns-in-Err-set_on-clause-ran
 returns-in-Err-set_on-clause-ran g c input told =
     let w = client_of c.args.conn.now input in
-    there_ran _ _ _ _ (aset_on c.args.job.now c.args.conn.now.devices w) c.in-Ok.device _ _ _ _ _ (is_there _ _ _ c.in-Ok.ensures.value)
+    there_ran _ _ _ _ _ (aset_on c.args.job.now c.args.conn.now.devices w) c.in-Ok.device _ _ _ _ _ (is_there _ _ _ c.in-Ok.ensures.value)
     (trace_stops refused _ (input, told, refl) (c.in-Err-set_on.ensures.goes (g.K.Sink.held c.args.sink.now)))
 
 pub returns-in-Err-set_on-clause-no_device : goal.returns-in-Err-set_on-clause-no_device

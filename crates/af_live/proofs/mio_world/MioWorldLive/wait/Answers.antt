@@ -26,7 +26,7 @@ returns g c = record {
         (subst (λ (o : Option Wake). IfSome o (λ wake. WakeFits c.self.inside.links c.self.inside.devices.round c.self.inside.lines wake)) (sym c.answer-waited.ensures.given) c.next_wake-next.ensures.fits);
     opens = subst (λ (s : RealState). MatchOption (given_wake c.answer-waited.result) (KeepsOpen s.links c.next_wake-next.new.links) (λ wake. Opens wake s.links c.next_wake-next.new.links)) c.self.view_is
         (subst (λ (o : Option Wake). MatchOption o (KeepsOpen c.self.inside.links c.next_wake-next.new.links) (λ wake. Opens wake c.self.inside.links c.next_wake-next.new.links)) (sym c.answer-waited.ensures.given) c.next_wake-next.ensures.opens);
-    pauses = subst (λ (s : RealState). PausesBy c.args.more c.next_wake-next.new.step.is_late s.links s.poll (latest_poll c.next_wake-next.new.sockets)) c.self.view_is
+    pauses = subst (λ (s : RealState). PausesBy c.args.more c.next_wake-next.new.step.is_late s.links c.next_wake-next.new.lines s.poll (latest_poll c.next_wake-next.new.sockets)) c.self.view_is
         c.next_wake-next.ensures.pauses;
     links = subst (λ (s : RealState). LeadsLinks (latest_poll c.next_wake-next.new.sockets).events (given_wake c.answer-waited.result) s.links c.next_wake-next.new.links) c.self.view_is
         (subst (λ (o : Option Wake). LeadsLinks (latest_poll c.next_wake-next.new.sockets).events o c.self.inside.links c.next_wake-next.new.links) (sym c.answer-waited.ensures.given) c.next_wake-next.ensures.links);

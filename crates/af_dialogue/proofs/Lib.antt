@@ -1,4 +1,0 @@
-pub mod DialogueLemmas
-pub mod PartnerLemmas
-pub mod SightLemmas
-pub mod PartLemmas

@@ -1,0 +1,4 @@
+pub mod StepLemmas
+pub mod SelectLemmas
+pub mod ToldLemmas
+pub mod RunLemmas

@@ -1,0 +1,68 @@
+-- The tool events on a link that is set up first.
+use Rattle.std.proofs.Common.{◌≡◌, inl, inr, ℕ, List, [], ◌∷◌, refl, sym, ◌∙◌, subst, Ok, Err, Option, Some}
+use Rattle.clap.specs.Words.{Text}
+use Rattle.af_io.proofs.AppendedLemmas.{appended_none}
+use Rattle.af_io.specs.Dial.{AppendedBack, IsFirstOf, ToldLink}
+use Rattle.af_wire.specs.declared.order.Order.{Order}
+use Rattle.af_wire.specs.Front.{setup_bytes}
+use Rattle.af_lib.specs.declared.fault.ConnFault.{ConnFault}
+use Rattle.af_lib.specs.Calls.{ConnState, IsSetUp}
+use Rattle.af_lib.specs.Ring.{RingState}
+use Rattle.af_toolkit.specs.declared.end.ToolEnd.TheVariants as tool
+use Rattle.af_toolkit.specs.Trace.{ClientState, client_after_setup, fault_end, new_client, setup_answer}
+use Rattle.af_toolkit.specs.Ends.{client_of}
+use Rattle.af_toolkit.specs.ToolParts.{LinkSight}
+use Rattle.af_toolkit.proofs.ToolPartLemmas.{client_begun, on_link, setup_known}
+use Rattle.af_events.specs.declared.end.EventsEnd.{EventsEnd}
+use Rattle.af_events.specs.declared.job.EventsJob.{EventsJob}
+use Rattle.af_events.specs.Trace.{missing}
+use Rattle.af_events.specs.Told.{RanBy}
+use Rattle.af_events.specs.EventsWords.{EventsWords, events_call}
+use Rattle.af_events.specs.EventsRun.{IsNotSetUp, RanAsked, RanOver}
+
+module _ {L : Type 0} (order : Order) {left sent : L → Option (List ℕ)} {faults : L → ℕ} {old new : L} {ring : RingState} {input : List ℕ} where
+  -- a link that was not set up
+  pub not_set_up : (f : ConnFault) → IsSetUp order left sent faults old new ring (Err f) → left old ≡ Some input → IsNotSetUp order input (fault_end f) (sent old) (sent new)
+  not_set_up f is told =
+      let sight : L → LinkSight = λ l. record { left = left l; client = new_client order ring; sent = sent l } in
+      on_link (Err f) (setup_answer order input) (client_after_setup order input) (setup_bytes order) (sight old) (sight new) is.sends (setup_known order left sent faults old new ring input (Err f) is told)
+
+-- memory ran out before anything was sent
+pub starved : (order : Order) (input : List ℕ) (sent : Option (List ℕ)) → IsNotSetUp order input tool.OutOfMemory sent sent
+starved order input sent = inl (refl, record { front = []; rest = setup_bytes order; whole = refl; appended = appended_none sent })
+
+-- one that was
+pub set_up_ran : {L : Type 0} {order : Order} {left sent : L → Option (List ℕ)} {faults : L → ℕ} (job : EventsJob) {input : List ℕ} {far : L} (conn : ConnState L) {how : EventsEnd} (s' : Option (List ℕ)) {h h' : Option (List ℕ)} →
+    conn.order ≡ order → conn.sequence ≡ 0 → IsSetUp order left sent faults far conn.link conn.ring (Ok conn.devices) → left far ≡ Some input →
+    ((i : List ℕ) → left conn.link ≡ Some i → RanBy (missing job.devices conn.devices) job conn.devices (client_of conn i) how (sent conn.link) s' h h') → RanOver order job input how (sent far) s' h h'
+set_up_ran {order = order} {left} {sent} {faults} job {input} {far} conn {how} s' {h} {h'} same first is told ran =
+    let k = setup_known order left sent faults far conn.link conn.ring input (Ok conn.devices) is told (λ e. cc e) in
+    let place : client_of conn k.0 ≡ client_after_setup order input = client_begun order conn k.0 same first ∙ k.3 in
+    inr (
+      conn.devices,
+      sent conn.link,
+      sym k.2,
+      is.sends.whole (λ e. cc e),
+      subst (λ (w : ClientState). RanBy (missing job.devices conn.devices) job conn.devices w how (sent conn.link) s' h h') place (ran k.0 k.1),
+    )
+
+-- the first link of a dial
+pub first_ran : {F : Type 0} (left sent : F → Option (List ℕ)) {asked : EventsWords} {how : EventsEnd} (far : F) (after : Option (List ℕ)) (links : List ToldLink) {before between links' : Option (List ToldLink)} {back back' middle : Option (List (List ℕ))} {h h' : Option (List ℕ)} →
+    before ≡ Some links → IsFirstOf left sent far before between → links' ≡ between → middle ≡ back → AppendedBack middle after back' →
+    ((input : List ℕ) → left far ≡ Some input → RanOver asked.order asked.job input how (sent far) after h h') → RanAsked asked how links links' back back' h h'
+first_ran left sent far after [] {between = between} told first stay same added ran = absurd (subst (λ (l : Option (List ToldLink)). IsFirstOf left sent far l between) told first)
+first_ran left sent {asked} {how} far after (link ∷ links) {between = between} {back' = back'} {h = h} {h' = h'} told first stay same added ran =
+    let is = subst (λ (l : Option (List ToldLink)). IsFirstOf left sent far l between) told first in
+    record {
+      first = link;
+      rest = links;
+      links_are = refl;
+      links_stay = stay ∙ is.2;
+      sent = after;
+      given_back = subst (λ (b : Option (List (List ℕ))). AppendedBack b after back') same added;
+      ran = subst (λ (s : Option (List ℕ)). RanOver asked.order asked.job link.gives how s after h h') is.1 (ran link.gives is.0);
+    }
+
+-- words ask one thing
+pub one_asked : (words : List Text) (a b : EventsWords) → events_call words ≡ Some a → events_call words ≡ Some b → b ≡ a
+one_asked words a b is also = let both : Some b ≡ Some a = sym also ∙ is in cc both

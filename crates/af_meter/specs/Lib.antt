@@ -1,0 +1,10 @@
+pub mod Levels
+pub mod Tallies
+pub mod Plans
+pub mod Lines
+pub mod Rows
+pub mod Trace
+pub mod Told
+pub mod MeterArguments
+pub mod MeterWords
+pub mod MeterRun

@@ -35,7 +35,7 @@ exec %s %s %s $way %d 2 %d %s
 """
 LATE = re.compile(rb"^# late by (\d+) ms, dropped (\d+) frames \(audiofile-(\w+)-card\)$", re.M)
 GAPS = re.compile(rb"^# ((?:\d+ (?:under|over)runs?(?: of at least \d+ ms)?(?:, )?)+) \(audiofile-(\w+)-card\)$", re.M)
-LOST = re.compile(rb"^afd: device (\d): its program had no room, and (\d+) frames were lost$", re.M)
+LOST = re.compile(rb"^afd: \S+ device (\d): its program had no room, and (\d+) frames were lost$", re.M)
 
 
 def is_missing(trial):

@@ -73,7 +73,7 @@ class Giver:
 
     def __init__(self, folder, card):
         os.mkfifo(os.path.join(folder, "given"))
-        text = GIVES % (os.path.join(ROOT, "tools"), card.rate, card.width)
+        text = GIVES % (os.path.dirname(__file__), card.rate, card.width)
         self.process = subprocess.Popen([sys.executable, "-c", text], cwd=folder, stderr=subprocess.DEVNULL)
 
     def __enter__(self):

@@ -115,7 +115,7 @@ class Trial(Trials):
     def __init__(self, name, afd, af):
         self.room = tempfile.TemporaryDirectory()
         super().__init__(self.tool, afd, af, self.room.name)
-        self.trial, self.told, self.servers, self.begun = name, [], [], waited(os.getpid())
+        self.trial, self.told, self.servers, self.begun = name, [], [], waited(os.getpid()) + stolen()
 
     def holds(self, what, true):
         self.trials += 1
@@ -124,8 +124,9 @@ class Trial(Trials):
             self.told.append("not so: %s: %s" % (self.trial, what))
 
     def starved(self):
-        """For how many seconds it and its servers had to wait for a processor."""
-        return sum(server.starved for server in self.servers) + waited(os.getpid()) - self.begun
+        """For how many seconds it and its servers had to wait for a processor, and other machines had the processors of this
+        one."""
+        return sum(server.starved for server in self.servers) + waited(os.getpid()) + stolen() - self.begun
 
     def serve(self, *devices, before=(), folder=None):
         """A server with these devices, in order: what notes, or lines."""
@@ -173,6 +174,15 @@ def waited(*processes):
             with open("/proc/%d/schedstat" % process) as file:
                 nanoseconds += int(file.read().split()[1])
     return nanoseconds / 1e9
+
+
+def stolen():
+    """For how many seconds other machines had a processor of this one, on average, where the system tells."""
+    with contextlib.suppress(OSError, IndexError):
+        with open("/proc/stat") as file:
+            ticks = int(file.readline().split()[8])
+        return ticks / os.sysconf("SC_CLK_TCK") / (os.cpu_count() or 1)
+    return 0
 
 
 class Client(threading.Thread):

@@ -49,13 +49,15 @@ def logged(afd, devices, said, folder=None):
 
 
 def fill(far, least=0):
-    """Fills a terminal with bytes, but for so many. How many went in."""
+    """Fills a terminal with bytes, or with so many. How many went in. The system hands them on a moment later, and that makes room
+    for more."""
     count = 0
     os.set_blocking(far, False)
-    for piece in (64, 1):
+    for piece in 5 * [64] + 5 * [1]:
         with contextlib.suppress(BlockingIOError):
             while not least or count < least:
                 count += os.write(far, b"x" * min(piece, least - count if least else piece))
+        time.sleep(0.02)
     os.set_blocking(far, True)
     return count
 

@@ -65,8 +65,8 @@ def difference(what, pattern, said, missing, some):
 def sleeping_sink(afd, af):
     """What takes a recording sleeps for longer than a server keeps sound."""
     with tempfile.TemporaryDirectory() as folder, serving(afd, folder, STEREO, 20) as server:
-        record = started([af, "arecord", server.address, "--frames=%d" % (7 * STEREO[1])])
-        time.sleep(5.5)
+        record = started([af, "arecord", server.address, "--frames=%d" % (9 * STEREO[1])])
+        time.sleep(7.5)
         recorded, said = record.communicate(timeout=SECONDS)
     return difference("a recording", GONE, said, silent(recorded, STEREO), True)
 

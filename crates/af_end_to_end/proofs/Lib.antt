@@ -22,6 +22,8 @@ pub mod ArecordLawLemmas
 pub mod ApassSoundLemmas
 pub mod ApassLemmas
 pub mod ApassLawLemmas
+pub mod SpeakerLemmas
 pub mod Example
 pub mod RecordExample
 pub mod ApassExample
+pub mod SpeakerExample

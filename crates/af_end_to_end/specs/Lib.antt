@@ -6,3 +6,4 @@ pub mod Told
 pub mod Aplay
 pub mod Arecord
 pub mod Apass
+pub mod Speaker

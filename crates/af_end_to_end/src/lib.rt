@@ -11,6 +11,7 @@ ghost use Rattle.af_end_to_end.specs.Performing.{PerformsInTurns};
 ghost use Rattle.af_end_to_end.specs.Playing.{PlaysInRun};
 ghost use Rattle.af_end_to_end.specs.Sent.{ReadsWhatIsSent};
 ghost use Rattle.af_end_to_end.specs.Sounding.{IsHeardInRun};
+ghost use Rattle.af_end_to_end.specs.Speaker.{JobsAreHanded, SpeakersAreHanded};
 ghost use Rattle.af_end_to_end.specs.Told.{IsAnsweredInRun};
 
 /// What is sent is what is read. Suppose that a client sends a setup and then requests, and that all bytes that its link gave so
@@ -81,4 +82,14 @@ pub fn arecord_law()
 /// as the output control lets them through.
 pub fn apass_law()
     ensures { ApassIsHeard }
+{}
+
+/// From a device to the program of its loudspeaker. Suppose that the acts of the program keep to what a card promises, and that
+/// the sounds that they say were emitted are those that the device emitted in a run. Then each program that ran took the sounds
+/// that the device emitted while it ran, from its standard input, in order and none left out. It is still owed a hundredth of a
+/// second at most. And if a job of aplay sounds on the device, and nobody else plays at its times, each of these sounds has the
+/// samples of the source at their times.
+pub fn speaker_law()
+    ensures handed { SpeakersAreHanded }
+    ensures jobs { JobsAreHanded }
 {}

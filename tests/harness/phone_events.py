@@ -20,7 +20,8 @@ class Told:
         self.process = subprocess.Popen(
             [trial.af, "events", server.address, *words], stdout=subprocess.PIPE, stderr=subprocess.PIPE, stdin=subprocess.DEVNULL)
         self.lines = queue.Queue()
-        threading.Thread(target=self.read, daemon=True).start()
+        self.reader = threading.Thread(target=self.read, daemon=True)
+        self.reader.start()
 
     def read(self):
         for line in self.process.stdout:
@@ -46,9 +47,10 @@ class Told:
         return dialled < 100
 
     def ends(self, seconds=5 + LATE):
-        """The status at its end, and what it said."""
-        _, said = self.process.communicate(timeout=seconds)
-        return self.process.returncode, said
+        """The status at its end, and what it said. All its lines are there then."""
+        status = self.process.wait(seconds)
+        self.reader.join(seconds)
+        return status, self.process.stderr.read()
 
 
 def events_as_they_come(trial):

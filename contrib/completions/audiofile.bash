@@ -48,7 +48,7 @@ _audiofile() {
         words='--calls=1..1000 --greeting=COMMAND --message=COMMAND --device=0..7 --rings=1..20 --wait=0..3600'
         ;;
     "af events")
-        words='--device=0..7|all --kinds=ring,digit,loop,hook --count=1..1000000 --order=big|little --wait=0..3600'
+        words='--device=0..7|all --kinds=ring,digit,loop,hook --count=1..1000000 --for=1..86400000 --order=big|little --wait=0..3600'
         ;;
     "af meter")
         words='--device=0..7 --every=1..60000 --count=1..1000000 --below=1..32768 --for=1..3600000 --order=big|little --wait=0..3600'

@@ -99,3 +99,32 @@ def events_of_one_kind(trial):
         kinds = {tuple(line[1:3]) for line in lines}
         trial.holds("of its device and its kinds alone: %s" % lines, len(lines) == 3 and kinds <= {("0", "ring"), ("0", "digit")})
         trial.ends(server)
+
+
+def events_for_a_time(trial):
+    """For half a second of device time: what happens before the tool asks is not told, what happens meanwhile is, and it ends by
+    itself soon after, while the line goes on."""
+    phone = Phone("timed", 0)
+    with trial.serve(SILENT_LINE, phone) as server:
+        phone.say("ring on", "digit 1", "ring off")
+        time.sleep(0.3)
+        begun = time.monotonic()
+        told = Told(trial, server, "--for=500")
+        dialled = 0
+        while told.process.poll() is None and dialled < 200:
+            phone.say("digit 5")
+            dialled += 1
+            time.sleep(0.05)
+        lasted = time.monotonic() - begun
+        status, said = told.ends()
+        trial.holds("it is done by itself: %s %s" % (status, said), (status, said) == (0, b""))
+        trial.holds("in half a second, and not much later: %.2f" % lasted, 0.5 <= lasted < 0.7 + LATE)
+        phone.say("digit 6")
+        lines = []
+        while (line := told.next(0.5)) is not None:
+            lines.append(line)
+        trial.holds("only what came meanwhile is told: %d of %d" % (len(lines), dialled),
+                    3 <= len(lines) <= dialled and all(line[1:] == ["0", "digit", "5"] for line in lines))
+        times = [int(line[0]) for line in lines]
+        trial.holds("within the time: %s" % times, times == sorted(times) and times[-1] - times[0] <= (0.5 + 0.2 + LATE) * 8000)
+        trial.ends(server)

@@ -24,6 +24,8 @@ CHANNELS_AT = 17
 ASKING_ON = {"arecord", "list", "meter"}
 # and those that write a line for each of these replies
 LINES = {"list": "GetTime", "meter": "Record"}
+# the replies after which events for a time have their lines
+TELLING = {"GetTime", "Record"}
 # a standard output that is a pipe without a reader
 NOBODY = "nobody"
 
@@ -138,6 +140,22 @@ def joined(items):
     return b"".join(item.octets for item in items)
 
 
+def asks_on(run):
+    """Whether it writes while it still asks: events do for a time."""
+    return run.words[0] in ASKING_ON or any(word.startswith("--for=") for word in run.words)
+
+
+def turns_of(peer):
+    """Each request with what answers it: a reply, and before it events."""
+    answers, events = [], []
+    for item in replies_of(peer):
+        events.append(item)
+        if item.kind != "event":
+            answers.append(events)
+            events = []
+    return list(zip(requests_of(peer), answers))
+
+
 def recorded(replies):
     """How many bytes replies to Records have. Other replies have none."""
     return sum(len(reply.data) for reply in replies)
@@ -145,10 +163,14 @@ def recorded(replies):
 
 def written(run, replies):
     """How many bytes are written after these replies. A list has a line for each device once its time is known, and a meter one
-    for each interval once that was recorded. A sound file has a header, which is written once the time is known, and may have a
-    pad byte after the last block."""
+    for each interval once that was recorded. Events for a time have theirs after the reply that they came before, if that tells the
+    time. A sound file has a header, which is written once the time is known, and may have a pad byte after the last block."""
     if run.words[0] in LINES:
         told = sum(reply.name == LINES[run.words[0]] for reply in replies)
+        return sum(len(line) for line in run.output.splitlines(keepends=True)[:told])
+    if run.words[0] == "events":
+        last = max((at for at, reply in enumerate(replies) if reply.name in TELLING), default=0)
+        told = sum(reply.kind == "event" for reply in replies[:last])
         return sum(len(line) for line in run.output.splitlines(keepends=True)[:told])
     if not any(reply.name == "GetTime" for reply in replies):
         return 0
@@ -163,7 +185,7 @@ def failing_links(run):
     """The runs in which each write to a link in turn fails, and each read of it fails or meets the end, at once or in the middle
     of a reply. A write fails at the latest when its reply is read."""
     for word, peer in run.peers.items():
-        turns = [(request.octets, reply.octets) for request, reply in zip(*items_of(peer.sent, peer.gives))] if peer.sent else []
+        turns = [(request.octets, joined(answer)) for request, answer in turns_of(peer)] if peer.sent else []
         for at, (request, reply) in enumerate(turns):
             before, half = turns[:at], reply[: len(reply) // 2]
             yield failing_link(run, word, before, True, "write %d to %s fails" % (at, word))
@@ -180,7 +202,7 @@ def failing_link(run, word, turns, resets, how):
     peers = {**run.peers, word: Peer(given, sent, resets, turns)}
     if word == "SERVER" and not whole:
         peers["OTHER"] = Peer()
-    output = run.output[: written(run, whole)] if run.words[0] in ASKING_ON else b""
+    output = run.output[: written(run, whole)] if asks_on(run) else b""
     status, text = (13, "link failed") if resets else (14, "link ended")
     return replace(run, name="%s, %s" % (run.name, how), peers=peers, output=output, status=status, text=text, cut=True)
 
@@ -205,10 +227,10 @@ def failing_sink(run):
     and a list for none after the line."""
     for room in range(len(run.output)):
         peers = run.peers
-        if run.words[0] in ASKING_ON:
-            replies, requests = replies_of(peers["SERVER"]), requests_of(peers["SERVER"])
-            asked = next(at for at in range(len(replies)) if written(run, replies[: at + 1]) > room)
-            peers = {**peers, "SERVER": replace(peers["SERVER"], sent=joined(requests[: asked + 1]))}
+        if asks_on(run):
+            turns = turns_of(peers["SERVER"])
+            asked = next(at for at in range(len(turns)) if written(run, sum((answer for _, answer in turns[: at + 1]), [])) > room)
+            peers = {**peers, "SERVER": replace(peers["SERVER"], sent=joined(request for request, _ in turns[: asked + 1]))}
         yield replace(
             run, name="%s, its sink fails after %d bytes" % (run.name, room), peers=peers, output=run.output[:room], room=room, status=6,
             text="write failed")

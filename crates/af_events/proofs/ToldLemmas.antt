@@ -1,9 +1,12 @@
 -- Which events were told, by the trace of the tool.
-use Rattle.std.proofs.Common.{◌≡◌, ◌<◌, ◌+◌, ◌-◌, ◌==◌, ◌⊎◌, ◌↔◌, ℕ, zero, suc, Bool, true, false, List, [], ◌∷◌, ◌++◌, sym, ap, ◌∙◌, refl, arith, append-nil, Result, Ok, Err, Option, None, Some, inl, inr, if◌then◌else◌}
+use Rattle.std.proofs.Common.{◌≡◌, ◌<◌, ◌+◌, ◌==◌, ◌⊎◌, ◌↔◌, ℕ, zero, suc, Bool, true, false, List, [], ◌∷◌, ◌++◌, sym, ap, ◌∙◌, refl, arith, append-nil, Result, Ok, Err, Option, None, Some, inl, inr, if◌then◌else◌}
 use Rattle.std.specs.Prelude.{IsOk, length, slice_get}
 use Rattle.std.proofs.lemmas.Bool.Decides.{nat_tests}
 use Rattle.af_wire.specs.declared.event.Event.{Event}
 use Rattle.af_request.specs.declared.reply.DeviceInfo.{DeviceInfo}
+use Rattle.af_time.specs.declared.DevTime.{DevTime}
+use Rattle.af_request.specs.Asked.{free_ac, get_time}
+use Rattle.af_lib.specs.Calls.{as_done, as_time}
 use Rattle.af_lib.specs.declared.fault.ConnFault.{ConnFault}
 use Rattle.af_lib.specs.declared.fault.ConnFault.TheVariants as fault
 use Rattle.af_toolkit.specs.Parts.{Outcome, after_deeds, answered, followed, goes_on, outcome}
@@ -11,7 +14,8 @@ use Rattle.af_toolkit.specs.declared.end.ToolEnd.{ToolEnd}
 use Rattle.af_toolkit.specs.declared.end.ToolEnd.TheVariants as tool
 use Rattle.af_toolkit.specs.Trace.{ClientState, done, ends}
 use Rattle.af_toolkit.specs.Ends.{ObservedTrace, is_of_link_or_sink}
-use Rattle.af_toolkit.specs.ToolParts.{ToolDeeds, asks, deeds, doing}
+use Rattle.af_toolkit.specs.ToolParts.{ToolDeeds, asks, begins, deeds, doing}
+use Rattle.af_toolkit.proofs.PartLemmas.{first_ok}
 use Rattle.af_toolkit.proofs.ToolEndLemmas.{is_whole, last_output, part_answered, part_finish, tool_ran}
 use Rattle.af_cli.specs.declared.events.DeviceChoice.{DeviceChoice}
 use Rattle.af_cli.specs.declared.events.DeviceChoice.TheVariants as choice
@@ -20,9 +24,13 @@ use Rattle.af_events.specs.declared.end.EventsEnd.{EventsEnd}
 use Rattle.af_events.specs.declared.end.EventsEnd.TheVariants as end
 use Rattle.af_events.specs.declared.job.EventsJob.{EventsJob}
 use Rattle.af_events.specs.Lines.{is_asked, line_for, lines_for}
-use Rattle.af_events.specs.Trace.{after_event, awaits_event, count_of, events_trace, keeps_every, has_line, left_after, missing, missing_one, most_waits, next_event, selects_all, selects_from, selects_if, tells, tells_all}
-use Rattle.af_events.specs.Told.{AreHanded, EventsRan, Heard, RanBy, is_of_events, number_asked}
+use Rattle.af_events.specs.Trace.{after_event, awaits_event, clock_context, count_of, events_trace, keeps_every, has_line, left_after, missing, missing_one, most_waits, next_event, selects_all, selects_from, selects_if, tells, tells_all, tells_by, tells_during, tells_for}
+use Rattle.af_events.specs.declared.span.Span.{Span}
+use Rattle.af_events.specs.Spans.{span_of}
+use Rattle.af_events.specs.Timed.{HeardFor, events_among}
+use Rattle.af_events.specs.Told.{AreHanded, CameBy, EventsRan, IsDoneBy, RanBy, is_of_events, number_asked}
 use Rattle.af_events.proofs.StepLemmas.{after_line, after_one}
+use Rattle.af_events.proofs.SteppingLemmas.{counted, output_then, stepping_from}
 
 abbrev Ended : Type 0
 Ended = Outcome ToolDeeds (Unit {0} × ClientState) ConnFault
@@ -60,9 +68,6 @@ by_left n job more w false is later =
     let some : 0 < more = grind (arith, nat_tests, is) in
     rw is (later some)
 
-counted : (job : EventsJob) (left : ℕ) (e : Event) → 0 < left → (if is_asked job e then 1 else 0) + left_after job left e ≡ left
-counted job left e some = elim (is_asked job e) as (λ b. (if b then 1 else 0) + (if b then left - 1 else left) ≡ left) [ true ↦ omega (arith, some) | false ↦ omega (arith, some) ]
-
 by_next : (n : ℕ) (job : EventsJob) (left : ℕ) (w : ClientState) → 0 < left → (r : Result Event ConnFault) → next_event w ≡ r → ((more : ℕ) → 0 < more → Tellings job (after_event w) more (tells n job more (after_event w))) →
     Tellings job w left (followed doing (deeds [] []) (answered r (after_event w)) (λ y. after_one n job left y.0 y.1))
 unfolding goes_on
@@ -82,49 +87,84 @@ unfolding asks
 if_silent true kinds number w = refl
 if_silent false kinds number w = refl
 
-silent_then : {X : Type 0} (did : ToolDeeds) (end : Result (Unit {0} × ClientState) ConnFault) (next : Unit {0} × ClientState → Outcome ToolDeeds X ConnFault) → did.output ≡ [] → ((v : Unit {0} × ClientState) → (next v).did.output ≡ []) → (followed doing did end next).did.output ≡ []
-silent_then did (Ok v) next first more = ap (λ (l : List ℕ). l ++ (next v).did.output) first ∙ more v
-silent_then did (Err f) next first more = first
-
 from_silent : (kinds : EventKinds) (number : ℕ) (devices : List DeviceInfo) (w : ClientState) → (selects_from kinds number devices w).did.output ≡ []
 unfolding goes_on
 from_silent kinds number [] w = refl
-from_silent kinds number (device ∷ more) w = silent_then _ _ (λ y. selects_from kinds (number + 1) more y.1) (if_silent device.line kinds number w) (λ v. from_silent kinds (number + 1) more v.1)
+from_silent kinds number (device ∷ more) w = output_then _ _ (λ y. selects_from kinds (number + 1) more y.1) (if_silent device.line kinds number w) (λ v. from_silent kinds (number + 1) more v.1)
 
 all_silent : (devices : DeviceChoice) (kinds : EventKinds) (all : List DeviceInfo) (w : ClientState) → (selects_all devices kinds all w).did.output ≡ []
 all_silent (choice.One number) kinds all w = if_silent true kinds number w
 all_silent choice.All kinds all w = from_silent kinds 0 all w
 
 -- what the tool has told by its trace: nothing, and it is not done; or the events that it heard
-pub record Told (job : EventsJob) (devices : List DeviceInfo) (w : ClientState) (o : Ended) : Type 0 where
+pub record Told (lasting : Option ℕ) (job : EventsJob) (devices : List DeviceInfo) (w : ClientState) (o : Ended) : Type 0 where
   pub events : List Event
-  pub heard : Heard job devices w events
+  pub heard : CameBy lasting job devices w events
   pub wrote : o.did.output ≡ lines_for job events
-  pub number : IsOk o.end → number_asked job events ≡ count_of job
+  pub number : IsOk o.end → IsDoneBy lasting job devices w events
 
-abbrev ToldOrNot : EventsJob → List DeviceInfo → ClientState → Ended → Type 0
-ToldOrNot job devices w o = ((o.did.output ≡ []) × (IsOk o.end → ⊥)) ⊎ Told job devices w o
+abbrev ToldOrNot : Option ℕ → EventsJob → List DeviceInfo → ClientState → Ended → Type 0
+ToldOrNot lasting job devices w o = ((o.did.output ≡ []) × (IsOk o.end → ⊥)) ⊎ Told lasting job devices w o
+
+-- the same after deeds that wrote nothing
+told_after : {lasting : Option ℕ} {job : EventsJob} {devices : List DeviceInfo} {w : ClientState} {o : Ended} (did : ToolDeeds) → did.output ≡ [] → ToldOrNot lasting job devices w o → ToldOrNot lasting job devices w (after_deeds doing did o)
+told_after {o = o} did silent (inl none) = inl (ap (λ (l : List ℕ). l ++ o.did.output) silent ∙ none.0, none.1)
+told_after {o = o} did silent (inr t) = inr (record { events = t.events; heard = t.heard; wrote = ap (λ (l : List ℕ). l ++ o.did.output) silent ∙ t.wrote; number = t.number })
+
+-- the context is freed, of which nothing is written
+freed_output : (did : ToolDeeds) (end : Result (Unit {0} × ClientState) ConnFault) → (followed doing did end (λ y. asks (free_ac 1) as_done y.1)).did.output ≡ did.output
+unfolding asks
+freed_output did (Ok y) = append-nil did.output
+freed_output did (Err f) = refl
+
+begins_silent : (span : Span) (w : ClientState) → (begins (clock_context span) span.device w).did.output ≡ []
+unfolding goes_on asks
+begins_silent span w = output_then (asks (clock_context span) as_done w).did (asks (clock_context span) as_done w).end (λ y. asks (get_time span.device) as_time y.1) refl (λ v. refl)
+
+-- a job for a time, by how its context began
+by_begun : (milliseconds : ℕ) (job : EventsJob) (devices : List DeviceInfo) (w v : ClientState) (did : ToolDeeds) → (let span = span_of milliseconds job.devices devices in 0 < count_of job → did.output ≡ [] →
+    (selects_all job.devices job.kinds devices w).end ≡ Ok (tt, v) → v.ring.lost ≡ 0 → (end : Result (DevTime × ClientState) ConnFault) → (begins (clock_context span) span.device v).end ≡ end →
+    ToldOrNot (Some milliseconds) job devices w (followed doing did end (λ y. goes_on doing (tells_during span y.0.0 job) (λ _. asks (free_ac 1) as_done) y.1)))
+unfolding goes_on
+by_begun milliseconds job devices w v did some silent selected kept (Ok y) is =
+    let span = span_of milliseconds job.devices devices in
+    let part = tells_during span y.0.0 job in
+    let t = stepping_from span y.0.0 job y.1 some in
+    let heard : HeardFor span job devices w t.steps = record { from = v; selected = selected; kept = kept; start = y.0; there = y.1; begun = is; last = t.last; came = t.came } in
+    inr (record {
+      events = events_among t.steps;
+      heard = (t.steps, heard, refl);
+      wrote = ap (λ (l : List ℕ). l ++ (goes_on doing part (λ _. asks (free_ac 1) as_done) y.1).did.output) silent ∙ freed_output (part y.1).did (part y.1).end ∙ t.wrote;
+      number = λ ok. elim (t.done (first_ok doing part (λ _. asks (free_ac 1) as_done) y.1 ok)) [
+        | inl all ↦ inl all
+        | inr over ↦ inr (t.steps, heard, refl, over)
+      ];
+    })
+by_begun milliseconds job devices w v did some silent selected kept (Err f) is = inl (silent, λ ok. cc ok)
+
+-- once the server is asked for all that is wanted, and no event was lost
+told_by : (lasting : Option ℕ) (job : EventsJob) (devices : List DeviceInfo) (w v : ClientState) → 0 < count_of job → (selects_all job.devices job.kinds devices w).end ≡ Ok (tt, v) → v.ring.lost ≡ 0 →
+    ToldOrNot lasting job devices w (tells_by lasting job devices v)
+unfolding tells_for goes_on
+told_by None job devices w v some selected kept =
+    let t = tellings most_waits job (count_of job) v some in
+    inr (record { events = t.events; heard = record { from = v; selected = selected; kept = kept; handed = t.handed }; wrote = t.wrote; number = t.number })
+told_by (Some milliseconds) job devices w v some selected kept = by_begun milliseconds job devices w v _ some (begins_silent (span_of milliseconds job.devices devices) v) selected kept _ refl
 
 by_kept : (job : EventsJob) (devices : List DeviceInfo) (w v : ClientState) (did : ToolDeeds) → 0 < count_of job → did.output ≡ [] → (selects_all job.devices job.kinds devices w).end ≡ Ok (tt, v) → (b : Bool) → (v.ring.lost == 0) ≡ b →
-    ToldOrNot job devices w (after_deeds doing did (goes_on doing keeps_every (λ _. tells most_waits job (count_of job)) v))
+    ToldOrNot job.lasting job devices w (after_deeds doing did (goes_on doing keeps_every (λ _. tells_by job.lasting job devices) v))
 unfolding goes_on keeps_every
 by_kept job devices w v did some silent selected true is =
-    let t = tellings most_waits job (count_of job) v some in
     let none : v.ring.lost ≡ 0 = grind (arith, nat_tests, is) in
-    rw is (inr (record {
-      events = t.events;
-      heard = record { from = v; selected = selected; kept = none; handed = t.handed };
-      wrote = ap (λ (l : List ℕ). l ++ (tells most_waits job (count_of job) v).did.output) silent ∙ t.wrote;
-      number = t.number;
-    }))
+    rw is (told_after did silent (told_after (deeds [] []) refl (told_by job.lasting job devices w v some selected none)))
 by_kept job devices w v did some silent selected false is = rw is (inl (ap (λ (l : List ℕ). l ++ []) silent, λ ok. cc ok))
 
 by_selected : (job : EventsJob) (devices : List DeviceInfo) (w : ClientState) (did : ToolDeeds) → 0 < count_of job → did.output ≡ [] → (end : Result (Unit {0} × ClientState) ConnFault) → (selects_all job.devices job.kinds devices w).end ≡ end →
-    ToldOrNot job devices w (followed doing did end (λ y. goes_on doing keeps_every (λ _. tells most_waits job (count_of job)) y.1))
+    ToldOrNot job.lasting job devices w (followed doing did end (λ y. goes_on doing keeps_every (λ _. tells_by job.lasting job devices) y.1))
 by_selected job devices w did some silent (Ok y) is = by_kept job devices w y.1 did some silent is (y.1.ring.lost == 0) refl
 by_selected job devices w did some silent (Err f) is = inl (silent, λ ok. cc ok)
 
-pub told_or_not : (job : EventsJob) (devices : List DeviceInfo) (w : ClientState) → 0 < count_of job → ToldOrNot job devices w (tells_all job devices w)
+pub told_or_not : (job : EventsJob) (devices : List DeviceInfo) (w : ClientState) → 0 < count_of job → ToldOrNot job.lasting job devices w (tells_all job devices w)
 unfolding tells_all goes_on
 told_or_not job devices w some = by_selected job devices w _ some (all_silent job.devices job.kinds devices w) _ refl
 

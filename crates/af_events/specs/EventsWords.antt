@@ -27,7 +27,7 @@ words_of_call call = record { server = call.server.now; order = call.order; job 
 unfoldable pub events_app : App
 events_app = command_app (codes "events") events_arguments
 
--- whose lines, which kinds, and how many events
+-- whose lines, which kinds, how many events, and for how long
 abbrev pub choice_at : List Row → Option DeviceChoice
 choice_at rows = value_of argument.devices rows >>= choice_in
 
@@ -37,12 +37,16 @@ kinds_at rows = value_of argument.kinds rows >>= kinds_in
 abbrev pub stated_count : List Row → Option (Option ℕ)
 stated_count rows = stated_number_at argument.count rows
 
+abbrev pub stated_lasting : List Row → Option (Option ℕ)
+stated_lasting rows = stated_number_at argument.lasting rows
+
 abbrev pub job_at : List Row → Option EventsJob
 job_at rows = do
   devices ← choice_at rows
   kinds ← kinds_at rows
   count ← stated_count rows
-  Some (record { devices = devices; kinds = kinds; count = count })
+  lasting ← stated_lasting rows
+  Some (record { devices = devices; kinds = kinds; count = count; lasting = lasting })
 
 -- what the matches of the command ask, if each value is in its range; how long the server is waited for is no matter of the job
 abbrev pub events_in : List Row → Option EventsWords

@@ -11,6 +11,8 @@ use Rattle.af_events.specs.declared.end.EventsEnd.{EventsEnd}
 use Rattle.af_events.specs.declared.end.EventsEnd.TheVariants as end
 use Rattle.af_events.specs.declared.job.EventsJob.{EventsJob}
 use Rattle.af_events.specs.Lines.{is_asked, lines_for}
+use Rattle.af_events.specs.Spans.{span_of}
+use Rattle.af_events.specs.Timed.{HeardFor, IsTimeOver, Step, events_among}
 use Rattle.af_events.specs.Trace.{after_event, count_of, events_trace, missing, next_event, selects_all}
 
 -- a client is handed these events, one after another
@@ -31,22 +33,35 @@ pub record Heard (job : EventsJob) (devices : List DeviceInfo) (w : ClientState)
   pub kept : from.ring.lost ≡ 0
   pub handed : AreHanded from events
 
+-- These events came: by the steps of the client if the job is for so many milliseconds.
+abbrev pub CameBy : Option ℕ → EventsJob → List DeviceInfo → ClientState → List Event → Type 0
+CameBy None job devices w events = Heard job devices w events
+CameBy (Some milliseconds) job devices w events = (steps : List Step)
+    × HeardFor (span_of milliseconds job.devices devices) job devices w steps × (events ≡ events_among steps)
+
+-- The job is done with these events: they are as many as it has, or its time is over.
+abbrev pub IsDoneBy : Option ℕ → EventsJob → List DeviceInfo → ClientState → List Event → Type 0
+IsDoneBy None job devices w events = number_asked job events ≡ count_of job
+IsDoneBy (Some milliseconds) job devices w events = (number_asked job events ≡ count_of job)
+    ⊎ ((steps : List Step) × (heard : HeardFor (span_of milliseconds job.devices devices) job devices w steps)
+    × (events ≡ events_among steps) × IsTimeOver (span_of milliseconds job.devices devices) heard.start.0 heard.last)
+
 -- Nothing was written; or what was written are the lines of the events that came and are asked for, in order, or the first of
 -- these if something from outside ended the tool.
 abbrev pub WroteLines : EventsJob → List DeviceInfo → ClientState → ToolEnd → (output : List ℕ) → Type 0
 WroteLines job devices w how output = (output ≡ [])
-    ⊎ ((events : List Event) × Heard job devices w events × (unwritten : List ℕ) × (lines_for job events ≡ output ++ unwritten)
-    × (is_outer how ≡ false → unwritten ≡ []))
+    ⊎ ((events : List Event) × CameBy job.lasting job devices w events × (unwritten : List ℕ)
+    × (lines_for job events ≡ output ++ unwritten) × (is_outer how ≡ false → unwritten ≡ []))
 
--- As many events came and were told as the job has: each has its line, and there is no other.
+-- As many events came and were told as the job has, or all that came in its time: each has its line, and there is no other.
 pub record ToldAll (job : EventsJob) (devices : List DeviceInfo) (w : ClientState) (output : List ℕ) : Type 0 where
   pub events : List Event
-  pub heard : Heard job devices w events
-  pub number : number_asked job events ≡ count_of job
+  pub heard : CameBy job.lasting job devices w events
+  pub number : IsDoneBy job.lasting job devices w events
   pub wrote : output ≡ lines_for job events
 
 -- The tool ran, by what its link gives. It did as its trace, wrote the lines of events that came, and is done exactly if it told
--- as many as the job has, unless something from outside ended it.
+-- as many as the job has or its time is over, unless something from outside ended it.
 pub record EventsRan (job : EventsJob) (devices : List DeviceInfo) (w : ClientState) (how : ToolEnd)
     (sent sent' held held' : Option (List ℕ)) : Type 0 where
   pub ran : ToolRan ⊤ (events_trace job devices w) how sent sent' held held'

@@ -1,12 +1,15 @@
 -- What the tool events does: it asks for events of the devices that are wanted, waits for them, and writes a line for each.
 use Rattle.std.specs.Prelude.{ℕ, zero, suc, ◌+◌, ◌-◌, ◌^◌, ◌==◌, if◌then◌else◌, Bool, true, false, List, [], ◌∷◌, drop, length}
-use Rattle.std.specs.Prelude.{slice_get, is_some, option_map, unwrap_or, Result, Ok, Option, None, Some}
+use Rattle.std.specs.Prelude.{slice_get, is_some, option_map, pos, unwrap_or, Result, Ok, Option, None, Some}
 use Rattle.af_wire.specs.declared.event.Event.{Event}
-use Rattle.af_request.specs.Asked.{select_events}
+use Rattle.af_time.specs.declared.DevTime.{DevTime}
+use Rattle.af_sample.specs.declared.sample_type.SampleType.TheVariants.{Mu255}
+use Rattle.af_sample.specs.SampleTypes.{code_of}
+use Rattle.af_request.specs.Asked.{Asked, create_ac, free_ac, record_run, select_events}
 use Rattle.af_request.specs.declared.reply.DeviceInfo.{DeviceInfo}
 use Rattle.af_lib.specs.declared.fault.ConnFault.{ConnFault}
 use Rattle.af_lib.specs.declared.fault.ConnFault.TheVariants as fault
-use Rattle.af_lib.specs.Calls.{as_done, event_of}
+use Rattle.af_lib.specs.Calls.{as_done, as_recorded, event_of}
 use Rattle.af_lib.specs.Incoming.{after_message}
 use Rattle.af_cli.specs.declared.events.DeviceChoice.{DeviceChoice}
 use Rattle.af_cli.specs.declared.events.DeviceChoice.TheVariants as choice
@@ -14,13 +17,15 @@ use Rattle.af_cli.specs.declared.events.EventKinds.{EventKinds}
 use Rattle.af_cli.specs.Events.{mask_of}
 use Rattle.af_toolkit.specs.Parts.{Goes, called, goes_on, has_value, stops}
 use Rattle.af_toolkit.specs.Trace.{ClientState, Trace, done, ends, refused}
-use Rattle.af_toolkit.specs.ToolParts.{LinkSight, ToolPart, asks, deeds, doing, tooling, trace_of, writes}
+use Rattle.af_toolkit.specs.ToolParts.{LinkSight, ToolPart, asks, begins, deeds, doing, tooling, trace_of, writes}
 use Rattle.af_toolkit.specs.declared.end.ToolEnd.{ToolEnd}
 use Rattle.af_toolkit.specs.declared.end.ToolEnd.TheVariants as tool
 use Rattle.af_events.specs.declared.end.EventsEnd.{EventsEnd}
 use Rattle.af_events.specs.declared.end.EventsEnd.TheVariants as end
 use Rattle.af_events.specs.declared.job.EventsJob.{EventsJob}
+use Rattle.af_events.specs.declared.span.Span.{Span}
 use Rattle.af_events.specs.Lines.{is_asked, line_for}
+use Rattle.af_events.specs.Spans.{frame_time, frames_of, is_at_end, span_of}
 
 -- after how many events a job is done: one without a count has more to tell than there is time for
 abbrev pub count_of : EventsJob → ℕ
@@ -99,12 +104,61 @@ tells (suc n) job left =
 abbrev pub most_waits : ℕ
 most_waits = 2 ^ 64 - 1
 
+-- As many events are told as a client keeps, the oldest first, until none is left to be told. The value is how many are left.
+unfoldable pub tells_oldest : (n : ℕ) → EventsJob → (left : ℕ) → ToolPart ℕ
+tells_oldest zero job left = has_value doing left
+tells_oldest (suc n) job left =
+    goes_on doing awaits_event (λ e.
+    goes_on doing (tells_one job left e) (λ more.
+    if more == 0 then has_value doing 0 else tells_oldest n job more))
+
+unfoldable pub tells_kept : EventsJob → (left : ℕ) → ToolPart ℕ
+tells_kept job left w = tells_oldest (length w.ring.events) job left w
+
+-- the same if none was lost
+abbrev pub tells_ring : EventsJob → (left : ℕ) → ToolPart ℕ
+tells_ring job left = goes_on doing keeps_every (λ _. tells_kept job left)
+
+-- A frame of mu-law, a byte for each channel, is recorded: the reply comes once it has gone by, and tells the device's time.
+unfoldable pub hears_frame : (channels at : ℕ) → ToolPart DevTime
+hears_frame channels at =
+    goes_on doing (asks (record_run true 1 at channels) (as_recorded true channels)) (λ r. has_value doing r.time)
+
+-- What came is told, and then a frame is waited for, at most so many times. The device has told this time last.
+unfoldable pub tells_until : (n : ℕ) → Span → (start : ℕ) → EventsJob → (number told left : ℕ) → ToolPart (Unit {0})
+tells_until zero span start job number told left = goes_on doing (tells_ring job left) (λ _. has_value doing tt)
+tells_until (suc n) span start job number told left =
+    goes_on doing (tells_ring job left) (λ more.
+    if is_at_end span start told more then has_value doing tt
+    else goes_on doing (hears_frame span.channels (frame_time span start number)) (λ now.
+    tells_until n span start job (number + 1) now.0 more))
+
+-- events are told for a time, from a time of the device on
+abbrev pub tells_during : Span → (start : ℕ) → EventsJob → ToolPart (Unit {0})
+tells_during span start job = tells_until (frames_of span) span start job 1 start (count_of job)
+
+-- the context on the device whose time counts: the server is to give mu-law
+abbrev pub clock_context : Span → Asked
+clock_context span = create_ac span.device 1 (code_of Mu255) span.channels 0 (pos 0) (pos 0)
+
+-- it is made and tells the device's time, events are told for a time, and it is freed
+unfoldable pub tells_for : Span → EventsJob → ToolPart (Unit {0})
+tells_for span job =
+    goes_on doing (begins (clock_context span) span.device) (λ now.
+    goes_on doing (tells_during span now.0 job) (λ _.
+    asks (free_ac 1) as_done))
+
+-- events are told for a time if one is stated, and else until the count is reached; then nothing more is sent
+abbrev pub tells_by : Option ℕ → EventsJob → List DeviceInfo → ToolPart (Unit {0})
+tells_by None job devices = tells most_waits job (count_of job)
+tells_by (Some milliseconds) job devices = tells_for (span_of milliseconds job.devices devices) job
+
 -- all of it, by the devices of the server
 unfoldable pub tells_all : EventsJob → List DeviceInfo → ToolPart (Unit {0})
 tells_all job devices =
     goes_on doing (selects_all job.devices job.kinds devices) (λ _.
     goes_on doing keeps_every (λ _.
-    tells most_waits job (count_of job)))
+    tells_by job.lasting job devices))
 
 -- the trace of the tool, by the devices of the server and what the link gives
 unfoldable pub events_trace : EventsJob → List DeviceInfo → ClientState → Trace

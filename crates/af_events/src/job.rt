@@ -14,6 +14,8 @@ pub struct EventsJob {
     pub kinds: EventKinds,
     /// After how many events it is done, 1..1000000. If that is not stated, it goes on until the link ends.
     pub count: Option<u32>,
+    /// After how many milliseconds of a device's time it is done, 1..86400000. If that is not stated, only the count ends it.
+    pub lasting: Option<u32>,
 }
 
 impl EventsJob {

@@ -1,12 +1,14 @@
 //! The tool `events`: it writes a line for each event of a telephone line.
 #![tactic(auto)]
 
+mod during;
 mod end;
 mod job;
 mod line;
 mod options;
 mod run;
 mod select;
+mod span;
 mod tell;
 mod teller;
 

@@ -7,7 +7,7 @@ ghost use Rattle.af_cli.specs.Arguments.{as_listed};
 ghost use Rattle.af_cli.specs.Words.{wait_at};
 ghost use Rattle.af_events.specs.Trace.{count_of};
 ghost use Rattle.af_events.specs.EventsArguments.{events_arguments};
-ghost use Rattle.af_events.specs.EventsWords.{choice_at, events_app, events_call, events_in, events_wait, is_events_spelled, job_at, kinds_at, names_events, stated_count, words_of_call};
+ghost use Rattle.af_events.specs.EventsWords.{choice_at, events_app, events_call, events_in, events_wait, is_events_spelled, job_at, kinds_at, names_events, stated_count, stated_lasting, words_of_call};
 
 use crate::job::EventsJob;
 use af_cli::{
@@ -49,7 +49,14 @@ const COUNT: Argument<'static> = Argument {
     what: "how many events are told",
 };
 
-static EVENTS: [Argument<'static>; 6] = [SERVER, DEVICES, KINDS, COUNT, ORDER, WAIT];
+const LASTING: Argument<'static> = Argument {
+    name: "for",
+    values: Values::Number(1, 86400000),
+    absent: Absent::Otherwise("until the connection ends"),
+    what: "the milliseconds of device time after which it is done",
+};
+
+static EVENTS: [Argument<'static>; 7] = [SERVER, DEVICES, KINDS, COUNT, LASTING, ORDER, WAIT];
 
 /// The arguments: the server first.
 #[tactic(auto, unfolding(crate::specs::EventsArguments::events_arguments))]
@@ -90,6 +97,13 @@ fn count_at(matches: &ArgMatches<'_>) -> Option<Option<u32>>
     stated_number_at(matches, &COUNT)
 }
 
+// For how many milliseconds they are told, if that is stated.
+fn lasting_at(matches: &ArgMatches<'_>) -> Option<Option<u32>>
+    ensures { result ≡ stated_lasting (rows_of (found_of matches.now)) }
+{
+    stated_number_at(matches, &LASTING)
+}
+
 // What is to be told.
 fn job_at(matches: &ArgMatches<'_>) -> Option<EventsJob>
     ensures value { result ≡ job_at (rows_of (found_of matches.now)) }
@@ -98,10 +112,12 @@ fn job_at(matches: &ArgMatches<'_>) -> Option<EventsJob>
     let devices = choice_at(matches)?;
     let kinds = kinds_at(matches)?;
     let count = count_at(matches)?;
+    let lasting = lasting_at(matches)?;
     Some(EventsJob {
         devices,
         kinds,
         count,
+        lasting,
     })
 }
 

@@ -14,8 +14,13 @@ use af_lib::Conn;
 use af_toolkit::{ToolEnd, write_piece};
 use af_wire::Event;
 
-// Writes the line of an event if it is asked for, and answers how many are still to be told.
-fn tell_one<K: Sink>(job: &EventsJob, left: u64, event: Event, sink: &mut K) -> Result<u64, ToolEnd>
+/// Writes the line of an event if it is asked for, and answers how many are still to be told.
+pub fn tell_one<K: Sink>(
+    job: &EventsJob,
+    left: u64,
+    event: Event,
+    sink: &mut K,
+) -> Result<u64, ToolEnd>
     requires { 0 < left }
     ensures goes { GoesOnSink K.held sink.old sink.new (tells_one job.now left event) result }
     ensures fault { CountsFault (result ≡ Err ToolEnd.SinkFault) (K.faults sink.old) (K.faults sink.new) }

@@ -4,12 +4,14 @@ ghost use Rattle.std.specs.declared.option.Option.TheVariants.{None, Some};
 ghost use Rattle.af_io.specs.Observed.{CountsFault};
 ghost use Rattle.af_toolkit.specs.Ends.{is_of_link_or_sink, KeepsConnection};
 ghost use Rattle.af_toolkit.specs.ToolParts.{GoesWriting};
-ghost use Rattle.af_events.specs.Trace.{count_of, has_line, missing, missing_one, tells_all};
+ghost use Rattle.af_events.specs.Trace.{count_of, has_line, missing, missing_one, tells_all, tells_by};
 ghost use Rattle.af_events.specs.Told.{is_of_events, RunsEvents};
 
+use crate::during::tell_for;
 use crate::end::EventsEnd;
 use crate::job::EventsJob;
 use crate::select::{check_kept, select_all};
+use crate::span::span_of;
 use crate::tell::tell;
 use af_cli::DeviceChoice;
 use af_io::{Link, Sink};
@@ -55,6 +57,29 @@ fn missing<L: Link + Drop>(choice: DeviceChoice, conn: &Conn<L>) -> Option<Event
     }
 }
 
+// Tells events for a time if one is stated, and else until the count is reached.
+fn tell_by<L: Link + Drop, K: Sink>(
+    job: &EventsJob,
+    conn: &mut Conn<L>,
+    sink: &mut K,
+) -> Result<(), ToolEnd>
+    requires usable { conn.old.cause ≡ None }
+    requires some { 0 < count_of job.now }
+    ensures goes { GoesWriting L.left L.sent K.held conn.old conn.new sink.old sink.new
+        (tells_by job.now.lasting job.now conn.old.devices) result }
+    ensures holds { KeepsConnection L.left L.faults conn.old conn.new result }
+    ensures end { IfErr result (λ how. is_of_link_or_sink how ≡ true) }
+    ensures fault { CountsFault (result ≡ Err ToolEnd.SinkFault) (K.faults sink.old) (K.faults sink.new) }
+{
+    match job.lasting {
+        Some(milliseconds) => {
+            let span = span_of(milliseconds, job.devices, conn.devices());
+            tell_for(span, job, conn, sink)
+        }
+        None => tell(job, job.count(), conn, sink),
+    }
+}
+
 // Asks for events of the devices that are wanted, and tells them.
 fn tell_all<L: Link + Drop, K: Sink>(
     job: &EventsJob,
@@ -71,11 +96,11 @@ fn tell_all<L: Link + Drop, K: Sink>(
 {
     select_all(job.devices, job.kinds, conn)?;
     check_kept(conn)?;
-    tell(job, job.count(), conn, sink)
+    tell_by(job, conn, sink)
 }
 
 /// Asks for events of the telephone line of a device, or of each that has a line, and writes a line for each event, until so many
-/// are told. The connection is one that was just made.
+/// are told or so much time has gone by. The connection is one that was just made.
 pub fn events<L: Link + Drop, K: Sink>(
     job: &EventsJob,
     conn: &mut Conn<L>,

@@ -6,7 +6,9 @@ ghost use Rattle.std.specs.Prelude.{◌≡◌};
 ghost use Rattle.af.specs.Statuses.{answer_status, events_status, tool_status};
 
 use af_answer::{AnswerEnd, answer_run, names_answer};
+use af_attendant::{attendant_run, names_attendant};
 use af_cli::{Call, true_form_of};
+use af_command::SystemRunner;
 use af_details::{
     Page, Streams, WatchedDial, WatchedSource, WatchedSpawner, as_tool_end, page_asked,
     states_option, tell_answer, tell_events, tell_meter, tell_no_text, tell_output, tell_tool,
@@ -184,7 +186,10 @@ fn run_with_server(rt: &HostRuntime, stated: Args, details: bool) -> u8 {
 
 // Runs the tool that the arguments name. It answers the exit status, and the end of a tool that means the same.
 fn run_tool(rt: &HostRuntime, words: &Args, details: bool) -> (u8, Option<ToolEnd>) {
-    if names_answer(words) {
+    if names_attendant(words) {
+        let end = attend_hearing(rt, words, details);
+        (answer_status_of(end), as_tool_end(end))
+    } else if names_answer(words) {
         let end = attend(rt, words, details);
         (answer_status_of(end), as_tool_end(end))
     } else if names_events(words) {
@@ -207,6 +212,12 @@ fn run_tool(rt: &HostRuntime, words: &Args, details: bool) -> (u8, Option<ToolEn
 
 // For how many seconds the arguments have a refused dial tried again. Those that ask for nothing dial nobody.
 fn wait_of(rt: &HostRuntime, words: &Args) -> u32 {
+    if names_attendant(words) {
+        return match af_attendant::call_of(rt.alloc(), words) {
+            Ok(call) => call.wait,
+            Err(_) => 0,
+        };
+    }
     if names_answer(words) {
         return match af_answer::call_of(rt.alloc(), words) {
             Ok(call) => call.wait,
@@ -328,9 +339,27 @@ fn attend(rt: &HostRuntime, words: &Args, details: bool) -> AnswerEnd {
             words,
             end,
             dial.seen(),
-            spawner.calls(),
+            Some(spawner.calls()),
             reason,
         );
+    }
+    end
+}
+
+// Attends a line and hears its caller, over standard output, TCP, and the programs of the system. A command that still runs where
+// the connection has failed is ended here.
+fn attend_hearing(rt: &HostRuntime, words: &Args, details: bool) -> AnswerEnd {
+    let Some(mut dial) = dial_for(rt, words, details) else {
+        return said_answer(rt, AnswerEnd::OutOfMemory);
+    };
+    let mut sink = StdSink::new(io::writer(rt));
+    let mut runner = SystemRunner::new(*rt);
+    let end = attendant_run(rt.alloc(), words, &mut sink, &mut dial, &mut runner);
+    runner.close();
+    let end = said_answer(rt, end);
+    if details {
+        let reason = sink.reason();
+        tell_answer(rt, rt.alloc(), words, end, dial.seen(), None, reason);
     }
     end
 }

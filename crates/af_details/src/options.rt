@@ -2,7 +2,7 @@
 ghost use Rattle.std.specs.Prelude.{◌≡◌};
 ghost use Rattle.af_details.specs.Pages.{command_named};
 
-use af_answer::answer_arguments;
+use af_attendant::attendant_arguments;
 use af_cli::{Absent, Argument, Tool, tool_named};
 use af_events::events_arguments;
 use af_meter::meter_arguments;
@@ -60,7 +60,7 @@ impl Command {
     pub fn arguments<'a>(self) -> &'a [Argument<'a>] {
         match self {
             Command::Tool(tool) => tool.arguments(),
-            Command::Answer => answer_arguments(),
+            Command::Answer => attendant_arguments(),
             Command::Events => events_arguments(),
             Command::Meter => meter_arguments(),
         }

@@ -2,6 +2,7 @@
 use Rattle.std.specs.Prelude.{◌≡◌, ℕ, Bool, true, false, List, [], ◌∷◌, ◌||◌, if◌then◌else◌, codes, bytes_eq, is_some, Option, Some}
 use Rattle.af_cli.specs.Words.{is_spelled, job}
 use Rattle.af_answer.specs.AnswerWords.{answer_words, is_answer_spelled, names_answer}
+use Rattle.af_attendant.specs.AttendantWords.{attendant_call, is_attendant_spelled, names_attendant}
 use Rattle.af_events.specs.EventsWords.{events_call, is_events_spelled, names_events}
 use Rattle.af_meter.specs.MeterWords.{is_meter_spelled, meter_call, names_meter}
 
@@ -25,7 +26,8 @@ with_server server (name ∷ words) = name ∷ server ∷ words
 -- the job of another tool
 unfoldable pub asks : List (List ℕ) → Bool
 asks words =
-    if names_answer words then is_some (answer_words words)
+    if names_attendant words then is_some (attendant_call words)
+    else if names_answer words then is_some (answer_words words)
     else if names_events words then is_some (events_call words)
     else if names_meter words then is_some (meter_call words)
     else is_some (job words)
@@ -33,7 +35,8 @@ asks words =
 -- the words are valid, so that they are never Usage
 unfoldable pub is_valid : List (List ℕ) → Bool
 is_valid words =
-    if names_answer words then is_answer_spelled words
+    if names_attendant words then is_attendant_spelled words
+    else if names_answer words then is_answer_spelled words
     else if names_events words then is_events_spelled words
     else if names_meter words then is_meter_spelled words
     else is_spelled words

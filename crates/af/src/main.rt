@@ -11,8 +11,8 @@ use af_cli::{Call, true_form_of};
 use af_command::SystemRunner;
 use af_details::{
     Page, Streams, WatchedDial, WatchedSource, WatchedSpawner, as_tool_end, page_asked,
-    states_option, tell_answer, tell_events, tell_meter, tell_no_text, tell_output, tell_tool,
-    tell_typed,
+    states_option, tell_answer, tell_events, tell_log, tell_meter, tell_no_text, tell_output,
+    tell_tool, tell_typed,
 };
 use af_environment::{completed_words, server_variable, tell_server_variable};
 use af_events::{EventsEnd, events_run, names_events};
@@ -20,6 +20,7 @@ use af_io::{
     Args, StdSink, StdSource, TcpDial, WordsFault, open_standard_streams, program_words,
     wants_details,
 };
+use af_logger::{StdCommands, log_run, names_log};
 use af_meter::{meter_run, names_meter};
 use af_patience::{NetFaults, PatientDial, ToolNet};
 use af_process::StdSpawner;
@@ -201,6 +202,9 @@ fn run_tool(rt: &HostRuntime, words: &Args, details: bool) -> (u8, Option<ToolEn
     } else if names_meter(words) {
         let end = measure(rt, words, details);
         (status_of(end), Some(end))
+    } else if names_log(words) {
+        let end = record_pieces(rt, words, details);
+        (status_of(end), Some(end))
     } else {
         if details {
             tell_typed(rt, rt.alloc(), words);
@@ -232,6 +236,12 @@ fn wait_of(rt: &HostRuntime, words: &Args) -> u32 {
     }
     if names_meter(words) {
         return match af_meter::call_of(rt.alloc(), words) {
+            Ok(call) => call.wait,
+            Err(_) => 0,
+        };
+    }
+    if names_log(words) {
+        return match af_logger::call_of(rt.alloc(), words) {
             Ok(call) => call.wait,
             Err(_) => 0,
         };
@@ -388,6 +398,21 @@ fn measure(rt: &HostRuntime, words: &Args, details: bool) -> ToolEnd {
     let end = said(rt, end);
     if details {
         tell_meter(rt, rt.alloc(), words, end, dial.seen(), sink.reason());
+    }
+    end
+}
+
+// Records a device in pieces, over standard output, TCP, and commands of the system.
+fn record_pieces(rt: &HostRuntime, words: &Args, details: bool) -> ToolEnd {
+    let Some(mut dial) = dial_for(rt, words, details) else {
+        return said(rt, ToolEnd::OutOfMemory);
+    };
+    let mut sink = StdSink::new(io::writer(rt));
+    let mut commands = StdCommands::new(*rt);
+    let end = log_run(rt.alloc(), words, &mut commands, &mut sink, &mut dial);
+    let end = said(rt, end);
+    if details {
+        tell_log(rt, rt.alloc(), words, end, dial.seen(), sink.reason());
     }
     end
 }

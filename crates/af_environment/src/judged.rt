@@ -7,6 +7,7 @@ use af_attendant::names_attendant;
 use af_cli::OptionsFault;
 use af_events::names_events;
 use af_io::Args;
+use af_logger::names_log;
 use af_meter::names_meter;
 use std::alloc::Global;
 
@@ -32,6 +33,11 @@ pub(crate) fn judged(alloc: Global, words: &Args) -> Result<(), OptionsFault>
         }
     } else if names_meter(words) {
         match af_meter::call_of(alloc, words) {
+            Ok(_) => Ok(()),
+            Err(fault) => Err(fault),
+        }
+    } else if names_log(words) {
+        match af_logger::call_of(alloc, words) {
             Ok(_) => Ok(()),
             Err(fault) => Err(fault),
         }

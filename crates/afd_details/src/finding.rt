@@ -102,13 +102,13 @@ fn word_expected(slot: Slot) -> &'static str {
 fn kind_expected(stereo: bool, line: bool) -> &'static str {
     match (stereo, line) {
         (true, _) => {
-            "stereo, line or a kind of device was expected: silent, files, loop, codec, speaker, microphone, card or encoder"
+            "stereo, line or a kind of device was expected: silent, files, loop, codec, speaker, microphone or card"
         }
         (false, true) => {
-            "line or a kind of device was expected: silent, files, loop, codec, speaker, microphone, card or encoder"
+            "line or a kind of device was expected: silent, files, loop, codec, speaker, microphone or card"
         }
         (false, false) => {
-            "a kind of device was expected: silent, files, loop, codec, speaker, microphone, card or encoder"
+            "a kind of device was expected: silent, files, loop, codec, speaker, microphone or card"
         }
     }
 }

@@ -71,7 +71,7 @@ BASH_COMPLETIONS = $(SHARE)/bash-completion/completions
 ZSH_COMPLETIONS = $(call shell_word,$(DESTDIR)$(ZSH))
 PAGES = $(SHARE)/doc/audiofile
 DISSECTORS = $(call shell_word,$(DESTDIR)$(WIRESHARK))
-SYSTEM_UNITS = afd.service audiofile-relay@.service audiofile-answer.service
+SYSTEM_UNITS = afd.service audiofile-relay@.service audiofile-answer.service audiofile-logger.service
 UNIT_EDIT = $(call shell_word,s|/usr/local/bin|$(call sed_text,$(call unit_word,$(PREFIX)/bin))|)
 ADAPTERS = $(wildcard contrib/audiofile-*-card contrib/audiofile-card-run contrib/audiofile-phone-*) contrib/audiofile-status \
   contrib/audiofile-playlist contrib/audiofile-meter

@@ -19,7 +19,7 @@ _audiofile() {
     [[ $program == audiofile-* ]] && first=1
     if ((COMP_CWORD < first)); then
         case $program in
-        af) words='aplay arecord aset apass answer events meter list help version' ;;
+        af) words='aplay arecord aset apass answer events meter log list help version' ;;
         afd) words='serve script exercise help version' ;;
         esac
         mapfile -t COMPREPLY < <(compgen -W "$words" -- "$word")
@@ -45,7 +45,7 @@ _audiofile() {
         words='--blocks=1..1000000 --from-device=0..7 --to-device=0..7 --type=mu255|alaw|lin16|lin32 --gain=-30..30 --block=1..4000 --delay=0..3000 --slack=0..3000 --follow --order=big|little --wait=0..3600'
         ;;
     "af answer")
-        words='--calls=1..1000 --greeting=COMMAND --message=COMMAND --device=0..7 --rings=1..20 --wait=0..3600'
+        words='--calls=1..1000 --greeting=COMMAND --message=COMMAND --device=0..7 --rings=1..20 --until=COMMAND --hang-up --wait=0..3600'
         ;;
     "af events")
         words='--device=0..7|all --kinds=ring,digit,loop,hook --count=1..1000000 --for=1..86400000 --order=big|little --wait=0..3600'
@@ -53,11 +53,14 @@ _audiofile() {
     "af meter")
         words='--device=0..7 --every=1..60000 --count=1..1000000 --below=1..32768 --for=1..3600000 --order=big|little --wait=0..3600'
         ;;
+    "af log")
+        words='--every=1..86400 --into=COMMAND --count=1..1000000 --device=0..7 --file=raw|au|wave --type=mu255|alaw|lin16|lin32 --block=1..4000 --time=0..4294967295 --order=big|little --wait=0..3600'
+        ;;
     "af list")
         words='--order=big|little --wait=0..3600'
         ;;
     "af help")
-        ((place == 2)) && words='aplay arecord aset apass answer events meter list'
+        ((place == 2)) && words='aplay arecord aset apass answer events meter log list'
         ;;
     "afd serve")
         ((place == 3)) && words='forever'

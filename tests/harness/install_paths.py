@@ -36,7 +36,7 @@ REFUSED = [
 # the installed units, and where the completions of zsh and the dissector lie unless told otherwise: a folder and a file
 UNITS = (
     "lib/systemd/system/afd.service", "lib/systemd/system/audiofile-relay@.service", "lib/systemd/system/audiofile-answer.service",
-    "lib/systemd/user/afd.service")
+    "lib/systemd/system/audiofile-logger.service", "lib/systemd/user/afd.service")
 ZSH, DISSECTOR = "share/zsh/site-functions", "share/audiofile/audiofile.lua"
 
 

@@ -24,6 +24,8 @@ SILENT_LINE = "device mu255 8000 0 line silent"
 RING, HOOK, CURRENT, DIGIT = audiofile.Kind
 # what the answering machine asks for before it waits
 ASKS = request("SelectEvents", 0, mask=RING | HOOK)
+# and what one that hears its caller asks for
+HEARS = request("SelectEvents", 0, mask=RING | HOOK | CURRENT | DIGIT)
 
 
 class Trial(cards.Trial):
@@ -137,13 +139,16 @@ class Machine:
     """`af answer` at the line of device 0, as it waits for rings. Its commands are run in the folder of the server. Used with
     `with`, it is ended at the end."""
 
+    asks = ASKS
+
     def __init__(self, trial, server, calls, greeting, message, *words):
         environment = {**os.environ, "AF": trial.af, "SERVER": server.address}
         tap = Tap(server.address)
+        self.address = tap.address
         self.process = subprocess.Popen(
             [trial.af, "answer", tap.address, "--calls=%d" % calls, "--greeting", greeting, "--message", message, *words],
             cwd=server.folder, env=environment, stdin=subprocess.DEVNULL, stdout=subprocess.PIPE, stderr=subprocess.PIPE)
-        trial.holds("the machine waits for rings", wait_for(lambda: tap.noted.endswith(ASKS)))
+        trial.holds("the machine waits for rings", wait_for(lambda: tap.noted.endswith(self.asks)))
         # the server takes it as soon as it comes
         time.sleep(0.1)
 
@@ -165,3 +170,9 @@ class Machine:
         except subprocess.TimeoutExpired:
             return None, b"it does not end", b""
         return self.process.returncode, said, faults
+
+
+class HearingMachine(Machine):
+    """The same where it hears its caller."""
+
+    asks = HEARS

@@ -6,11 +6,13 @@ ghost use Rattle.std.specs.Prelude.{◌≡◌};
 ghost use Rattle.af.specs.Statuses.{answer_status, events_status, tool_status};
 
 use af_answer::{AnswerEnd, answer_run, names_answer};
+use af_attendant::{attendant_run, names_attendant};
 use af_cli::{Call, true_form_of};
+use af_command::SystemRunner;
 use af_details::{
     Page, Streams, WatchedDial, WatchedSource, WatchedSpawner, as_tool_end, page_asked,
-    states_option, tell_answer, tell_events, tell_meter, tell_no_text, tell_output, tell_tool,
-    tell_typed,
+    states_option, tell_answer, tell_events, tell_log, tell_meter, tell_no_text, tell_output,
+    tell_tool, tell_typed,
 };
 use af_environment::{completed_words, server_variable, tell_server_variable};
 use af_events::{EventsEnd, events_run, names_events};
@@ -18,6 +20,7 @@ use af_io::{
     Args, StdSink, StdSource, TcpDial, WordsFault, open_standard_streams, program_words,
     wants_details,
 };
+use af_logger::{StdCommands, log_run, names_log};
 use af_meter::{meter_run, names_meter};
 use af_patience::{NetFaults, PatientDial, ToolNet};
 use af_process::StdSpawner;
@@ -184,7 +187,10 @@ fn run_with_server(rt: &HostRuntime, stated: Args, details: bool) -> u8 {
 
 // Runs the tool that the arguments name. It answers the exit status, and the end of a tool that means the same.
 fn run_tool(rt: &HostRuntime, words: &Args, details: bool) -> (u8, Option<ToolEnd>) {
-    if names_answer(words) {
+    if names_attendant(words) {
+        let end = attend_hearing(rt, words, details);
+        (answer_status_of(end), as_tool_end(end))
+    } else if names_answer(words) {
         let end = attend(rt, words, details);
         (answer_status_of(end), as_tool_end(end))
     } else if names_events(words) {
@@ -195,6 +201,9 @@ fn run_tool(rt: &HostRuntime, words: &Args, details: bool) -> (u8, Option<ToolEn
         }
     } else if names_meter(words) {
         let end = measure(rt, words, details);
+        (status_of(end), Some(end))
+    } else if names_log(words) {
+        let end = record_pieces(rt, words, details);
         (status_of(end), Some(end))
     } else {
         if details {
@@ -207,6 +216,12 @@ fn run_tool(rt: &HostRuntime, words: &Args, details: bool) -> (u8, Option<ToolEn
 
 // For how many seconds the arguments have a refused dial tried again. Those that ask for nothing dial nobody.
 fn wait_of(rt: &HostRuntime, words: &Args) -> u32 {
+    if names_attendant(words) {
+        return match af_attendant::call_of(rt.alloc(), words) {
+            Ok(call) => call.wait,
+            Err(_) => 0,
+        };
+    }
     if names_answer(words) {
         return match af_answer::call_of(rt.alloc(), words) {
             Ok(call) => call.wait,
@@ -221,6 +236,12 @@ fn wait_of(rt: &HostRuntime, words: &Args) -> u32 {
     }
     if names_meter(words) {
         return match af_meter::call_of(rt.alloc(), words) {
+            Ok(call) => call.wait,
+            Err(_) => 0,
+        };
+    }
+    if names_log(words) {
+        return match af_logger::call_of(rt.alloc(), words) {
             Ok(call) => call.wait,
             Err(_) => 0,
         };
@@ -328,9 +349,27 @@ fn attend(rt: &HostRuntime, words: &Args, details: bool) -> AnswerEnd {
             words,
             end,
             dial.seen(),
-            spawner.calls(),
+            Some(spawner.calls()),
             reason,
         );
+    }
+    end
+}
+
+// Attends a line and hears its caller, over standard output, TCP, and the programs of the system. A command that still runs where
+// the connection has failed is ended here.
+fn attend_hearing(rt: &HostRuntime, words: &Args, details: bool) -> AnswerEnd {
+    let Some(mut dial) = dial_for(rt, words, details) else {
+        return said_answer(rt, AnswerEnd::OutOfMemory);
+    };
+    let mut sink = StdSink::new(io::writer(rt));
+    let mut runner = SystemRunner::new(*rt);
+    let end = attendant_run(rt.alloc(), words, &mut sink, &mut dial, &mut runner);
+    runner.close();
+    let end = said_answer(rt, end);
+    if details {
+        let reason = sink.reason();
+        tell_answer(rt, rt.alloc(), words, end, dial.seen(), None, reason);
     }
     end
 }
@@ -359,6 +398,21 @@ fn measure(rt: &HostRuntime, words: &Args, details: bool) -> ToolEnd {
     let end = said(rt, end);
     if details {
         tell_meter(rt, rt.alloc(), words, end, dial.seen(), sink.reason());
+    }
+    end
+}
+
+// Records a device in pieces, over standard output, TCP, and commands of the system.
+fn record_pieces(rt: &HostRuntime, words: &Args, details: bool) -> ToolEnd {
+    let Some(mut dial) = dial_for(rt, words, details) else {
+        return said(rt, ToolEnd::OutOfMemory);
+    };
+    let mut sink = StdSink::new(io::writer(rt));
+    let mut commands = StdCommands::new(*rt);
+    let end = log_run(rt.alloc(), words, &mut commands, &mut sink, &mut dial);
+    let end = said(rt, end);
+    if details {
+        tell_log(rt, rt.alloc(), words, end, dial.seen(), sink.reason());
     }
     end
 }

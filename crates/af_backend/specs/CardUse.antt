@@ -1,4 +1,4 @@
--- A device that goes by a program, as a server has it: only the acts of the program are kept.
+-- A device that has a program for itself, as a server has it: only the acts of the program are kept.
 use Rattle.std.specs.Prelude.{◌≡◌, ◌≢◌, ⊤, ℕ, ◌*◌, ◌/◌, ◌-◌, ◌^◌, min, max, true, false, is_some, List, [], ◌∷◌, length, MatchOption}
 use Rattle.std.specs.declared.option.Option.{Option}
 use Rattle.std.specs.declared.option.Option.TheVariants.{None, Some}
@@ -18,8 +18,8 @@ use Rattle.af_card.specs.Between.{BetweenState, new_between, captured_of, is_ove
 use Rattle.af_card.specs.Passing.{HandsOf, Meets, captured_between}
 use Rattle.af_card.specs.Card.{CardState, DueOf, EmitsAndStarts, IsFed, StartsOnly, captures, emits}
 
--- the acts of its program, if they are observable; what stands between the two; the command line of each start; its pace while no
--- program runs; and the latest moment
+-- the acts of its program, if they are observable; what stands between the two; the command line of each start; its pace by the
+-- system's clock; and the latest moment
 pub record CardUse : Type 0 where
   pub acts : Option (List ToldAct)
   pub between : BetweenState
@@ -53,8 +53,8 @@ card_orders card = orders_of card.between.shape card.between.starts.restarts car
 abbrev pub shape_of : CardKind → ℕ → DeviceSpec → Shape
 shape_of kind width spec = record { kind = kind; frame_bytes = width; silence = silent_byte spec.ty; rate = spec.rate }
 
--- How many bytes may wait before the program of a device: before a card those of a quarter of a second, and before a loudspeaker
--- as few as the system can have. The system rounds this up.
+-- How many bytes may wait before the program of a device: before a card or an encoder those of a quarter of a second, and before
+-- a loudspeaker as few as the system can have. The system rounds this up.
 abbrev pub shortest_input : ℕ
 shortest_input = 2304
 
@@ -62,6 +62,7 @@ abbrev pub input_bytes_of : CardKind → Shape → ℕ
 input_bytes_of card_kind.Speaker shape = shortest_input
 input_bytes_of card_kind.Microphone shape = shortest_input
 input_bytes_of card_kind.Card shape = max (min (shape.rate / 4 * shape.frame_bytes) (2 ^ 32 - 1)) shortest_input
+input_bytes_of card_kind.Encoder shape = max (min (shape.rate / 4 * shape.frame_bytes) (2 ^ 32 - 1)) shortest_input
 
 -- It was just attached: its program was started once, by this command line, and runs.
 pub record IsBegun (kind : CardKind) (restarts : ℕ) (words : List (List ℕ)) (spec : DeviceSpec) (card : CardUse) : Type 0 where
@@ -75,7 +76,7 @@ pub record IsBegun (kind : CardKind) (restarts : ℕ) (words : List (List ℕ)) 
   pub fed : IsFedUse card
 
 -- It is asked at a moment, and so many frames are due: while its program runs, those that it gave or takes next, and else those
--- of the clock.
+-- of the clock. An encoder has those of the clock throughout.
 pub record AsksCard (at frames : ℕ) (before after : CardUse) : Type 0 where
   pub due : DueOf before.between.tick before.between.running at frames before.between after.between before.pace after.pace
   pub words : before.between.running ≡ None → StartsOnly at before.words before.between after.between before.acts after.acts

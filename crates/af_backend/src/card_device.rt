@@ -1,4 +1,4 @@
-// A device whose time is that of a program.
+// A device that has a program for itself.
 ghost use Rattle.std.specs.Prelude.{◌≡◌, ◌<◌, ◌≤◌, length, IfOk};
 ghost use Rattle.af_limits.specs.Limits.{longest_tick};
 ghost use Rattle.af_process.specs.Acts.{words_of};
@@ -28,7 +28,7 @@ pub(crate) struct CardOrders<'a> {
     pub words: &'a Words,
 }
 
-/// A device that goes by a program. It is in a box, so that devices without a program are small.
+/// A device that has a program for itself. It is in a box, so that devices without a program are small.
 #[derive(Drop)]
 pub struct CardDevice<P: Program + Drop> {
     card: Box<Card<P>>,
@@ -122,22 +122,22 @@ fn shape_of(card: CardKind, spec: &DeviceSpec) -> Shape
 /// Which ways bytes go.
 fn ways_of(card: CardKind) -> Ways {
     match card {
-        CardKind::Speaker => Ways::Given,
+        CardKind::Speaker | CardKind::Encoder => Ways::Given,
         CardKind::Microphone => Ways::Gives,
         CardKind::Card => Ways::Both,
     }
 }
 
 /// How many bytes may wait before the program. A loudspeaker has as few as the system can have, since that is the delay of its
-/// sound. A card has a quarter of a second. The system doubles this, and counts pieces of 10 or 20 milliseconds twice as long as
-/// they are.
+/// sound. A card and an encoder have a quarter of a second. The system doubles this, and counts pieces of 10 or 20 milliseconds
+/// twice as long as they are.
 fn input_bytes(shape: &Shape) -> u32
     requires { shape.now.frame_bytes ≤ 8 }
     ensures { result ≡ input_bytes_of shape.now.kind shape.now }
 {
     match shape.kind {
         CardKind::Speaker | CardKind::Microphone => SHORTEST_INPUT,
-        CardKind::Card => {
+        CardKind::Card | CardKind::Encoder => {
             let frame_bytes = u32::try_from(shape.frame_bytes).unwrap_or(1);
             (shape.rate / 4)
                 .saturating_mul(frame_bytes)

@@ -16,12 +16,12 @@ use Rattle.af_world.specs.declared.card_kind.CardKind.{CardKind}
 use Rattle.af_world.specs.declared.card_kind.CardKind.TheVariants as kind
 use Rattle.af_card.specs.declared.running.Running.{Running}
 use Rattle.af_card.specs.Ledger.{Run, card_book, ledger_of, new_run}
-use Rattle.af_card.specs.Fed.{RunFits, PastRunFits, HasWholeFrames, CapturedBy, CapturedOf, HandedBy, IsInStep, IsSilent, sound_of}
+use Rattle.af_card.specs.Fed.{RunFits, PastRunFits, HasWholeFrames, CapturedBy, CapturedNone, CapturedOf, HandedBy, IsInStep, IsSilent, sound_of}
 use Rattle.af_card.specs.Lost.{lost_of, lost_in, lost_now, lost_before, lost_after, most_lost}
 use Rattle.af_card.specs.Card.{IsFed, RunIsFed}
 use Rattle.af_card.proofs.FedLemmas.{captured-gave, handed-took, emitted-in-step, handed-part, new-run-fits, less-left}
 use Rattle.af_card.proofs.LostLemmas.{new-lost, took-lost, never-lost, untaken-lost, part-lost}
-use Rattle.af_card.specs.Between.{BetweenState, Account, Accounts, FitsNow, began_of, running_since, CapturesBy, IsWhole, LeavesLess, gives_sound}
+use Rattle.af_card.specs.Between.{BetweenState, Account, Accounts, FitsNow, began_of, running_since, CapturesBy, IsWhole, LeavesLess, gives_sound, hands_frames}
 
 -- some more acts
 pub Accounts-on : (b b' : BetweenState) (before after : Option (List ToldAct)) (acts : List ToldAct) → Accounts b before → Appended before acts after →
@@ -153,15 +153,22 @@ Account-captured b r sound left is tick ledger account on =
       },
     )))
 
--- a loudspeaker captures silence
+-- a loudspeaker and an encoder capture silence
 pub Account-silent : (b : BetweenState) (r : Running) (sound : List ℕ) → b.running ≡ Some r → b.tick ≡ None → gives_sound b.shape.kind ≡ false →
-    IsSilent b.shape.silence sound → (ledger : Ledger Run) → Account b ledger → Account (record b { tick = Some (length sound) }) (ledger_after card_book ledger (captured sound))
-Account-silent b r sound is tick speaker silent ledger account =
-    Account-captured b r sound b.left is tick ledger account (λ given sounds c. silently b.shape.kind speaker given sounds c) where
-      silently : (k : CardKind) → gives_sound k ≡ false → (given : List ℕ) (sounds : List (List ℕ)) → CapturedBy k b.shape given sounds b.left → CapturedBy k b.shape given (sound ∷ sounds) b.left
-      silently kind.Speaker gives given sounds c = record { given = c.given; silent = All-cons (IsSilent b.shape.silence) sound sounds silent c.silent; none = c.none }
-      silently kind.Microphone gives given sounds c = grind arith
-      silently kind.Card gives given sounds c = grind arith
+    CapturesBy b.shape.kind b.shape b.left (length sound) → IsSilent b.shape.silence sound → (ledger : Ledger Run) → Account b ledger → Account (record b { tick = Some (length sound) }) (ledger_after card_book ledger (captured sound))
+Account-silent b r sound is tick takes-alone can silent ledger account =
+    Account-captured b r sound b.left is tick ledger account (λ given sounds c. silently b.shape.kind takes-alone can given sounds c) where
+      more : (given : List ℕ) (sounds : List (List ℕ)) → CapturedNone b.shape.silence given sounds b.left → CapturedNone b.shape.silence given (sound ∷ sounds) b.left
+      more given sounds c = record { given = c.given; silent = All-cons (IsSilent b.shape.silence) sound sounds silent c.silent; none = c.none }
+
+      silently : (k : CardKind) → gives_sound k ≡ false → CapturesBy k b.shape b.left (length sound) → (given : List ℕ) (sounds : List (List ℕ)) → CapturedBy k b.shape given sounds b.left → CapturedBy k b.shape given (sound ∷ sounds) b.left
+      silently kind.Speaker gives can given sounds c = more given sounds c
+      silently kind.Microphone gives can given sounds c = grind arith
+      silently kind.Card gives can given sounds c = grind arith
+      silently kind.Encoder gives can given sounds c = record {
+        silence_alone = more given sounds c.silence_alone;
+        whole = All-cons (HasWholeFrames b.shape.frame_bytes) sound sounds can c.whole;
+      }
 
 -- what a program gave is captured from its front
 pub Account-front : (b : BetweenState) (r : Running) (bytes : ℕ) → b.running ≡ Some r → b.tick ≡ None → gives_sound b.shape.kind ≡ true →
@@ -184,6 +191,7 @@ Account-front b r bytes is tick gives can ledger account =
       front kind.Speaker gave-some can given sounds c = grind arith
       front kind.Microphone gave-some can given sounds c = parted given sounds can.0 can.1 c
       front kind.Card gave-some can given sounds c = parted given sounds can.0 can.1 c
+      front kind.Encoder gave-some can given sounds c = grind arith
 
 -- Emitted
 
@@ -196,14 +204,14 @@ abbrev pub CountsMore : BetweenState → List ℕ → ℕ → Type 0
 CountsMore b sound lost = (ledger : Ledger Run) (run : Run) → Account b ledger → ledger.running ≡ Some run → RunFits b.shape run b.left b.owed (Some (length sound)) →
     lost ≡ lost_of b.shape (record ledger { running = Some (record run { emitted = sound ∷ run.emitted }) })
 
--- only a card loses sound
+-- a loudspeaker and a microphone lose no sound
 pub counts-none : (b : BetweenState) (sound : List ℕ) → (b.shape.kind ≡ kind.Speaker) ⊎ (b.shape.kind ≡ kind.Microphone) → CountsMore b sound b.lost
 counts-none b sound no-card ledger run account is fits =
     still-lost b ledger run (record run { emitted = sound ∷ run.emitted }) account is
     (never-lost b.shape.kind no-card b.shape.frame_bytes run.emitted (sound ∷ run.emitted) run.taken)
 
--- a card loses all of a sound for which it has no room
-pub counts-all : (b : BetweenState) (sound : List ℕ) → b.shape.kind ≡ kind.Card → CountsMore b sound (lost_after b.lost (length sound) b.shape.frame_bytes)
+-- a card or an encoder loses all of a sound for which it has no room
+pub counts-all : (b : BetweenState) (sound : List ℕ) → hands_frames b.shape.kind ≡ true → CountsMore b sound (lost_after b.lost (length sound) b.shape.frame_bytes)
 counts-all b sound card ledger run account is fits =
     more-lost b ledger run (record run { emitted = sound ∷ run.emitted }) (length sound / b.shape.frame_bytes) account is (untaken-lost b.shape run b.left b.owed sound card fits)
 
@@ -221,9 +229,9 @@ Account-untaken b r r' sound owed lost is began tick on counts ledger account =
       },
     ))
 
--- a card takes a first part of the sound of a tick
+-- a card or an encoder takes a first part of the sound of a tick
 pub Account-passed : (b : BetweenState) (r r' : Running) (sound : List ℕ) (count rest frames : ℕ) → b.running ≡ Some r → r'.began ≡ r.began → b.tick ≡ Some (length sound) →
-    b.shape.kind ≡ kind.Card → b.owed ≡ [] → count ≤ length sound → rest < b.shape.frame_bytes → count + rest ≡ frames * b.shape.frame_bytes → (ledger : Ledger Run) →
+    hands_frames b.shape.kind ≡ true → b.owed ≡ [] → count ≤ length sound → rest < b.shape.frame_bytes → count + rest ≡ frames * b.shape.frame_bytes → (ledger : Ledger Run) →
     Account b ledger →
     Account (record b {
       running = Some r';

@@ -21,7 +21,7 @@ use Rattle.af_card.specs.declared.shape.Shape.{Shape}
 use Rattle.af_card.specs.declared.running.Running.{Running}
 use Rattle.af_card.specs.Fed.{IsSilent}
 use Rattle.af_card.specs.Lost.{lost_after, without_room}
-use Rattle.af_card.specs.Between.{BetweenState, running_since, Accounts, PassesOn, CapturesBy, CapturesOf, IsWhole, CanCapture, LeavesLess, EmitsBy, EmitsTo, gives_sound}
+use Rattle.af_card.specs.Between.{BetweenState, running_since, Accounts, PassesOn, CapturesBy, CapturesOf, IsWhole, CanCapture, LeavesLess, EmitsBy, EmitsTo, gives_sound, hands_frames}
 use Rattle.af_card.proofs.AccountLemmas.{Accounts-on, Account-gave, Account-took, Account-knows, Account-untaken, Account-passed, Account-idle, Account-idles, Account-silent, Account-front, Account-begun, Account-failed, Account-ended, counts-none, counts-all}
 use Rattle.af_card.proofs.FedLemmas.{handed-nothing, handed-piece, handed-lost}
 
@@ -75,9 +75,10 @@ Accounts-idle b sound tick acts acts' none silent told fits =
     Accounts-on b (record b { tick = tick }) acts acts' (captured sound ∷ []) fits told (Account-idle b sound tick none silent) refl
 
 pub Accounts-silent : (b : BetweenState) (r : Running) (sound : List ℕ) (acts acts' : Option (List ToldAct)) → b.running ≡ Some r → b.tick ≡ None → gives_sound b.shape.kind ≡ false →
-    IsSilent b.shape.silence sound → Appended acts (captured sound ∷ []) acts' → Accounts b acts → Accounts (record b { tick = Some (length sound) }) acts'
-Accounts-silent b r sound acts acts' is tick none silent told fits =
-    Accounts-on b (record b { tick = Some (length sound) }) acts acts' (captured sound ∷ []) fits told (Account-silent b r sound is tick none silent) refl
+    CapturesBy b.shape.kind b.shape b.left (length sound) → IsSilent b.shape.silence sound → Appended acts (captured sound ∷ []) acts' → Accounts b acts →
+    Accounts (record b { tick = Some (length sound) }) acts'
+Accounts-silent b r sound acts acts' is tick none can silent told fits =
+    Accounts-on b (record b { tick = Some (length sound) }) acts acts' (captured sound ∷ []) fits told (Account-silent b r sound is tick none can silent) refl
 
 pub Accounts-front : (b : BetweenState) (r : Running) (bytes : ℕ) (acts acts' : Option (List ToldAct)) → b.running ≡ Some r → b.tick ≡ None → gives_sound b.shape.kind ≡ true →
     CapturesBy b.shape.kind b.shape b.left bytes → Appended acts (captured (take bytes b.left) ∷ []) acts' → Accounts b acts →
@@ -97,7 +98,7 @@ Accounts-owed b r sound acts acts' is tick speaker can told fits =
     (ap is_some is)
 
 pub Accounts-lost : (b : BetweenState) (r r' : Running) (sound : List ℕ) (acts acts' : Option (List ToldAct)) → b.running ≡ Some r → r'.began ≡ r.began → b.tick ≡ Some (length sound) →
-    b.shape.kind ≡ kind.Card → Appended acts (emitted sound ∷ []) acts' → Accounts b acts →
+    hands_frames b.shape.kind ≡ true → Appended acts (emitted sound ∷ []) acts' → Accounts b acts →
     Accounts (record b { running = Some r'; tick = None; lost = lost_after b.lost (length sound) b.shape.frame_bytes }) acts'
 Accounts-lost b r r' sound acts acts' is began tick card told fits =
     Accounts-on b (record b { running = Some r'; tick = None; lost = lost_after b.lost (length sound) b.shape.frame_bytes }) acts acts' (emitted sound ∷ []) fits told
@@ -118,7 +119,7 @@ Accounts-idles b sound acts acts' none told fits =
 
 -- nothing is taken of a sound
 unpassed : (b : BetweenState) (r r' : Running) (answer : Took) (sound owed : List ℕ) (acts mid acts' : Option (List ToldAct)) → b.running ≡ Some r → r'.began ≡ r.began →
-    b.tick ≡ Some (length sound) → b.shape.kind ≡ kind.Card → b.owed ≡ [] → Appended acts (emitted sound ∷ []) mid → (owed ≡ []) × Appended mid (offered sound answer ∷ []) acts' → Accounts b acts →
+    b.tick ≡ Some (length sound) → hands_frames b.shape.kind ≡ true → b.owed ≡ [] → Appended acts (emitted sound ∷ []) mid → (owed ≡ []) × Appended mid (offered sound answer ∷ []) acts' → Accounts b acts →
     Accounts (record b { running = Some r'; owed = owed; tick = None; lost = lost_after b.lost (length sound) b.shape.frame_bytes }) acts'
 unpassed b r r' answer sound owed acts mid acts' is began tick card none told same fits =
     let lost = Accounts-lost b r r' sound acts mid is began tick card told fits in
@@ -128,7 +129,7 @@ unpassed b r r' answer sound owed acts mid acts' is began tick card none told sa
     (Accounts-on after after mid acts' (offered sound answer ∷ []) lost same.1 (λ ledger account. account) refl)
 
 pub Accounts-passed : (b : BetweenState) (r r' : Running) (sound : List ℕ) (result : Took) (owed : List ℕ) (acts mid acts' : Option (List ToldAct)) → b.running ≡ Some r →
-    r'.began ≡ r.began → b.tick ≡ Some (length sound) → b.shape.kind ≡ kind.Card → b.owed ≡ [] → Appended acts (emitted sound ∷ []) mid →
+    r'.began ≡ r.began → b.tick ≡ Some (length sound) → hands_frames b.shape.kind ≡ true → b.owed ≡ [] → Appended acts (emitted sound ∷ []) mid →
     PassesOn result sound b.shape.frame_bytes owed mid acts' → Accounts b acts →
     Accounts (record b { running = Some r'; owed = owed; tick = None; lost = lost_after b.lost (without_room result (length sound) (length owed)) b.shape.frame_bytes }) acts'
 Accounts-passed b r r' sound (takes.Bytes n) owed acts mid acts' is began tick card none told passes fits =
@@ -157,7 +158,7 @@ Accounts-nobody b (Some r) sound acts acts' is tick (inr microphone) told fits =
     subst (λ x. Accounts (record b { running = x; tick = None }) acts') (sym is) (Accounts-unheard b r sound acts acts' is tick microphone told fits)
 
 pub Accounts-no-room : (b : BetweenState) (r : Running) (sound : List ℕ) (acts acts' : Option (List ToldAct)) → b.running ≡ Some r → b.tick ≡ Some (length sound) →
-    b.shape.kind ≡ kind.Card → Appended acts (emitted sound ∷ []) acts' → Accounts b acts →
+    hands_frames b.shape.kind ≡ true → Appended acts (emitted sound ∷ []) acts' → Accounts b acts →
     Accounts (record b { tick = None; lost = lost_after b.lost (length sound) b.shape.frame_bytes }) acts'
 Accounts-no-room b r sound acts acts' is tick card told fits =
     subst (λ x. Accounts (record b { running = x; tick = None; lost = lost_after b.lost (length sound) b.shape.frame_bytes }) acts') (sym is)
@@ -200,11 +201,11 @@ Accounts-ended b r at starts left owed acts acts' is tick some less after no-lef
 -- captures, if what runs is known only as a choice
 
 pub Accounts-silence : (b : BetweenState) (now : Option Running) (sound : List ℕ) (acts acts' : Option (List ToldAct)) → b.running ≡ now → b.tick ≡ None →
-    (now ≡ None) ⊎ (gives_sound b.shape.kind ≡ false) → IsSilent b.shape.silence sound → Appended acts (captured sound ∷ []) acts' → Accounts b acts →
+    (now ≡ None) ⊎ (gives_sound b.shape.kind ≡ false) → CapturesOf now b.shape b.left (length sound) → IsSilent b.shape.silence sound → Appended acts (captured sound ∷ []) acts' → Accounts b acts →
     Accounts (record b { tick = Some (length sound) }) acts'
-Accounts-silence b None sound acts acts' is tick why silent told fits = Accounts-idle b sound (Some (length sound)) acts acts' is silent told fits
-Accounts-silence b (Some r) sound acts acts' is tick (inl none) silent told fits = grind arith
-Accounts-silence b (Some r) sound acts acts' is tick (inr none) silent told fits = Accounts-silent b r sound acts acts' is tick none silent told fits
+Accounts-silence b None sound acts acts' is tick why can silent told fits = Accounts-idle b sound (Some (length sound)) acts acts' is silent told fits
+Accounts-silence b (Some r) sound acts acts' is tick (inl none) can silent told fits = grind arith
+Accounts-silence b (Some r) sound acts acts' is tick (inr none) can silent told fits = Accounts-silent b r sound acts acts' is tick none can silent told fits
 
 pub Accounts-given-sound : (b : BetweenState) (now : Option Running) (bytes : ℕ) (sound left : List ℕ) (acts acts' : Option (List ToldAct)) → b.running ≡ now → now ≢ None →
     b.tick ≡ None → gives_sound b.shape.kind ≡ true → CapturesOf now b.shape b.left bytes → sound ≡ take bytes b.left → left ≡ drop bytes b.left →
@@ -227,6 +228,7 @@ captures-where : (k : CardKind) (shape : Shape) (left : List ℕ) (bytes : ℕ) 
 captures-where kind.Speaker shape left bytes most whole = tt
 captures-where kind.Microphone shape left bytes most whole = (most, whole)
 captures-where kind.Card shape left bytes most whole = (most, whole)
+captures-where kind.Encoder shape left bytes most whole = whole
 
 captures-of : (running : Option Running) (shape : Shape) (left : List ℕ) (bytes : ℕ) → bytes ≤ length left → IsWhole shape.frame_bytes bytes → CapturesOf running shape left bytes
 captures-of None shape left bytes most whole = tt
@@ -235,6 +237,21 @@ captures-of (Some running) shape left bytes most whole = captures-where shape.ki
 -- whole frames that the program gave may be captured
 pub can-capture : (b : BetweenState) (bytes : ℕ) → b.tick ≡ None → bytes ≤ length b.left → (bytes % b.shape.frame_bytes == 0) ≡ true → CanCapture b bytes
 can-capture b bytes tick most whole = (tick, captures-of b.running b.shape b.left bytes most (whole-where b.shape.frame_bytes bytes whole))
+
+-- whole frames of silence may be captured, if the program gives no sound
+
+silence-where : (k : CardKind) (shape : Shape) (left : List ℕ) (bytes : ℕ) → gives_sound k ≡ false → IsWhole shape.frame_bytes bytes → CapturesBy k shape left bytes
+silence-where kind.Speaker shape left bytes gives whole = tt
+silence-where kind.Microphone shape left bytes gives whole = grind arith
+silence-where kind.Card shape left bytes gives whole = grind arith
+silence-where kind.Encoder shape left bytes gives whole = whole
+
+silence-of : (running : Option Running) (shape : Shape) (left : List ℕ) (bytes : ℕ) → gives_sound shape.kind ≡ false → IsWhole shape.frame_bytes bytes → CapturesOf running shape left bytes
+silence-of None shape left bytes gives whole = tt
+silence-of (Some running) shape left bytes gives whole = silence-where shape.kind shape left bytes gives whole
+
+pub can-capture-silence : (b : BetweenState) (bytes : ℕ) → b.tick ≡ None → gives_sound b.shape.kind ≡ false → (bytes % b.shape.frame_bytes == 0) ≡ true → CanCapture b bytes
+can-capture-silence b bytes tick gives whole = (tick, silence-of b.running b.shape b.left bytes gives (whole-where b.shape.frame_bytes bytes whole))
 
 pub none-where : {A : Type 0} (x : Option A) → is_some x ≡ false → x ≡ None
 none-where None none = refl

@@ -1,5 +1,5 @@
 -- What a card loses is whole frames. How many follows from what was emitted to it and what it took.
-use Rattle.std.proofs.Common.{◌≡◌, ℕ, ◌+◌, ◌-◌, ◌*◌, ◌/◌, ◌≤◌, ◌<◌, ◌⊎◌, inl, inr, List, [], ◌∷◌, ◌++◌, length, min, take, drop, refl, sym, ap, ◌∙◌, subst, arith}
+use Rattle.std.proofs.Common.{◌≡◌, ℕ, ◌+◌, ◌-◌, ◌*◌, ◌/◌, ◌≤◌, ◌<◌, ◌⊎◌, inl, inr, true, List, [], ◌∷◌, ◌++◌, length, min, take, drop, refl, sym, ap, ◌∙◌, subst, arith}
 use Rattle.std.proofs.Math.Nat.{add-mul, add-mul-div_right, div-eq_of_lt, mul-div_cancel, mul-le-mul_right, lt_of_mul-lt-mul_right, zero-div}
 use Rattle.std.specs.List.{All}
 use Rattle.std.proofs.lemmas.Bool.{cases_lt}
@@ -11,6 +11,7 @@ use Rattle.af_world.specs.declared.card_kind.CardKind.{CardKind}
 use Rattle.af_world.specs.declared.card_kind.CardKind.TheVariants as kind
 use Rattle.af_card.specs.declared.shape.Shape.{Shape}
 use Rattle.af_card.specs.Ledger.{Run, new_run}
+use Rattle.af_card.specs.Between.{hands_frames}
 use Rattle.af_card.specs.Fed.{RunFits, HasWholeFrames, IsInStep, AreAsLong, IsPassed, CapturedBy, HandedBy, sound_of}
 use Rattle.af_card.specs.Lost.{lost_by, lost_in}
 
@@ -87,32 +88,41 @@ tick-whole width bytes (c ∷ cs) emitted step whole =
     let frames = All-head (HasWholeFrames width) c cs whole in
     (frames.0, sym step.0 ∙ frames.1)
 
--- what is emitted to a card in a tick is whole frames
-sound-whole : (k : CardKind) → k ≡ kind.Card → (shape : Shape) (run : Run) (left sound : List ℕ) → CapturedBy k shape run.given run.captured left →
+-- what is emitted to a card or an encoder in a tick is whole frames
+sound-whole : (k : CardKind) → hands_frames k ≡ true → (shape : Shape) (run : Run) (left sound : List ℕ) → CapturedBy k shape run.given run.captured left →
     IsInStep (Some (length sound)) run.captured run.emitted → (frames : ℕ) × (length sound ≡ frames * shape.frame_bytes)
 sound-whole kind.Speaker is shape run left sound captured step = grind arith
 sound-whole kind.Microphone is shape run left sound captured step = grind arith
 sound-whole kind.Card is shape run left sound captured step = tick-whole shape.frame_bytes (length sound) run.captured run.emitted step captured.whole
+sound-whole kind.Encoder is shape run left sound captured step = tick-whole shape.frame_bytes (length sound) run.captured run.emitted step captured.whole
 
--- what a card lost so far
-card-lost : (k : CardKind) → k ≡ kind.Card → (shape : Shape) (run : Run) (left owed : List ℕ) (tick : Option ℕ) → CapturedBy k shape run.given run.captured left → HandedBy k shape run.emitted run.taken owed →
+-- what a card or an encoder lost so far
+
+frames-lost : (shape : Shape) (run : Run) (owed : List ℕ) (tick : Option ℕ) → All (HasWholeFrames shape.frame_bytes) run.captured → IsPassed shape.frame_bytes run.emitted (run.taken ++ owed) →
+    IsInStep tick run.captured run.emitted → (lost : ℕ) × (length (sound_of run.emitted) ≡ length run.taken + length owed + lost * shape.frame_bytes)
+frames-lost shape run owed tick captured passed step =
+    let whole = passed-whole shape.frame_bytes run.emitted (run.taken ++ owed) (step-whole shape.frame_bytes tick run.captured run.emitted step captured) passed in
+    (whole.0, whole.1 ∙ ap (λ n. n + whole.0 * shape.frame_bytes) (length-append run.taken owed))
+
+card-lost : (k : CardKind) → hands_frames k ≡ true → (shape : Shape) (run : Run) (left owed : List ℕ) (tick : Option ℕ) → CapturedBy k shape run.given run.captured left → HandedBy k shape run.emitted run.taken owed →
     IsInStep tick run.captured run.emitted → (lost : ℕ) × (length (sound_of run.emitted) ≡ length run.taken + length owed + lost * shape.frame_bytes)
 card-lost kind.Speaker is shape run left owed tick captured handed step = grind arith
 card-lost kind.Microphone is shape run left owed tick captured handed step = grind arith
-card-lost kind.Card is shape run left owed tick captured handed step =
-    let whole = passed-whole shape.frame_bytes run.emitted (run.taken ++ owed) (step-whole shape.frame_bytes tick run.captured run.emitted step captured.whole) handed.passed in
-    (whole.0, whole.1 ∙ ap (λ n. n + whole.0 * shape.frame_bytes) (length-append run.taken owed))
+card-lost kind.Card is shape run left owed tick captured handed step = frames-lost shape run owed tick captured.whole handed.passed step
+card-lost kind.Encoder is shape run left owed tick captured handed step = frames-lost shape run owed tick captured.whole handed.passed step
 
-part-of : (k : CardKind) → k ≡ kind.Card → (shape : Shape) (run : Run) (owed : List ℕ) → HandedBy k shape run.emitted run.taken owed → length owed < shape.frame_bytes
+part-of : (k : CardKind) → hands_frames k ≡ true → (shape : Shape) (run : Run) (owed : List ℕ) → HandedBy k shape run.emitted run.taken owed → length owed < shape.frame_bytes
 part-of kind.Speaker is shape run owed handed = grind arith
 part-of kind.Microphone is shape run owed handed = grind arith
 part-of kind.Card is shape run owed handed = handed.part
+part-of kind.Encoder is shape run owed handed = handed.part
 
--- the count of a card
-by-card : (k : CardKind) → k ≡ kind.Card → (width : ℕ) (emitted : List (List ℕ)) (taken : List ℕ) → lost_by k width emitted taken ≡ (length (sound_of emitted) - length taken) / width
+-- the count of a card or an encoder
+by-card : (k : CardKind) → hands_frames k ≡ true → (width : ℕ) (emitted : List (List ℕ)) (taken : List ℕ) → lost_by k width emitted taken ≡ (length (sound_of emitted) - length taken) / width
 by-card kind.Speaker is width emitted taken = grind arith
 by-card kind.Microphone is width emitted taken = grind arith
 by-card kind.Card is width emitted taken = refl
+by-card kind.Encoder is width emitted taken = refl
 
 -- one more sound is emitted, and so many of its frames found no room
 lost-more : (width emitted taken owed lost sound taken' owed' frames : ℕ) → owed < width → owed' < width → emitted ≡ taken + owed + lost * width →
@@ -130,12 +140,13 @@ new-lost shape = none shape.kind where
   none kind.Speaker = refl
   none kind.Microphone = refl
   none kind.Card = zero-div shape.frame_bytes
+  none kind.Encoder = zero-div shape.frame_bytes
 
 -- What a program takes of what it is owed is no loss.
 pub took-lost : (shape : Shape) (run : Run) (left owed : List ℕ) (tick : Option ℕ) (count : ℕ) → count ≤ length owed → RunFits shape run left owed tick →
     lost_in shape (record run { taken = run.taken ++ take count owed }) ≡ lost_in shape run
 took-lost shape run left owed tick count most fits = by-kind shape.kind refl where
-  of-card : shape.kind ≡ kind.Card → (length (sound_of run.emitted) - length (run.taken ++ take count owed)) / shape.frame_bytes ≡ (length (sound_of run.emitted) - length run.taken) / shape.frame_bytes
+  of-card : hands_frames shape.kind ≡ true → (length (sound_of run.emitted) - length (run.taken ++ take count owed)) / shape.frame_bytes ≡ (length (sound_of run.emitted) - length run.taken) / shape.frame_bytes
   of-card is =
       let lost = card-lost shape.kind is shape run left owed tick fits.captured fits.handed fits.in_step in
       let less = part-of shape.kind is shape run owed fits.handed in
@@ -144,21 +155,27 @@ took-lost shape run left owed tick count most fits = by-kind shape.kind refl whe
       let after = lost-is shape.frame_bytes (length (sound_of run.emitted)) (length (run.taken ++ take count owed)) (length owed - count) lost.0 (omega arith) (omega (arith, lost.1)) in
       after ∙ sym (lost-is shape.frame_bytes (length (sound_of run.emitted)) (length run.taken) (length owed) lost.0 less lost.1)
 
+  in-frames : hands_frames shape.kind ≡ true → lost_by shape.kind shape.frame_bytes run.emitted (run.taken ++ take count owed) ≡ lost_by shape.kind shape.frame_bytes run.emitted run.taken
+  in-frames is = by-card shape.kind is shape.frame_bytes run.emitted (run.taken ++ take count owed) ∙ of-card is ∙ sym (by-card shape.kind is shape.frame_bytes run.emitted run.taken)
+
   by-kind : (k : CardKind) → shape.kind ≡ k → lost_by shape.kind shape.frame_bytes run.emitted (run.taken ++ take count owed) ≡ lost_by shape.kind shape.frame_bytes run.emitted run.taken
   by-kind kind.Speaker is = subst (λ x. lost_by x shape.frame_bytes run.emitted (run.taken ++ take count owed) ≡ lost_by x shape.frame_bytes run.emitted run.taken) (sym is) refl
   by-kind kind.Microphone is = subst (λ x. lost_by x shape.frame_bytes run.emitted (run.taken ++ take count owed) ≡ lost_by x shape.frame_bytes run.emitted run.taken) (sym is) refl
-  by-kind kind.Card is = by-card shape.kind is shape.frame_bytes run.emitted (run.taken ++ take count owed) ∙ of-card is ∙ sym (by-card shape.kind is shape.frame_bytes run.emitted run.taken)
+  by-kind kind.Card is = in-frames (ap hands_frames is)
+  by-kind kind.Encoder is = in-frames (ap hands_frames is)
 
--- A device that is no card loses nothing.
+-- A loudspeaker and a microphone lose nothing.
 pub never-lost : (k : CardKind) → (k ≡ kind.Speaker) ⊎ (k ≡ kind.Microphone) → (width : ℕ) (emitted emitted' : List (List ℕ)) (taken : List ℕ) →
     lost_by k width emitted' taken ≡ lost_by k width emitted taken
 never-lost kind.Speaker no-card width emitted emitted' taken = refl
 never-lost kind.Microphone no-card width emitted emitted' taken = refl
 never-lost kind.Card (inl is) width emitted emitted' taken = grind arith
 never-lost kind.Card (inr is) width emitted emitted' taken = grind arith
+never-lost kind.Encoder (inl is) width emitted emitted' taken = grind arith
+never-lost kind.Encoder (inr is) width emitted emitted' taken = grind arith
 
--- A sound for which a card has no room is lost as a whole.
-pub untaken-lost : (shape : Shape) (run : Run) (left owed sound : List ℕ) → shape.kind ≡ kind.Card → RunFits shape run left owed (Some (length sound)) →
+-- A sound for which a card or an encoder has no room is lost as a whole.
+pub untaken-lost : (shape : Shape) (run : Run) (left owed sound : List ℕ) → hands_frames shape.kind ≡ true → RunFits shape run left owed (Some (length sound)) →
     lost_in shape (record run { emitted = sound ∷ run.emitted }) ≡ lost_in shape run + length sound / shape.frame_bytes
 untaken-lost shape run left owed sound is fits =
     let width = shape.frame_bytes in
@@ -170,8 +187,8 @@ untaken-lost shape run left owed sound is fits =
     by-card shape.kind is width (sound ∷ run.emitted) run.taken ∙ ap (λ n. (n - length run.taken) / width) (length-append (sound_of run.emitted) sound) ∙ more ∙
     ap (λ n. n + frames.0) (sym (by-card shape.kind is width run.emitted run.taken)) ∙ ap (λ n. lost_in shape run + n) (sym many)
 
--- If a card took a part of a sound, the part that was neither taken nor is owed is lost.
-pub part-lost : (shape : Shape) (run : Run) (left sound : List ℕ) (count rest frames : ℕ) → shape.kind ≡ kind.Card → count ≤ length sound → rest < shape.frame_bytes →
+-- If a card or an encoder took a part of a sound, the part that was neither taken nor is owed is lost.
+pub part-lost : (shape : Shape) (run : Run) (left sound : List ℕ) (count rest frames : ℕ) → hands_frames shape.kind ≡ true → count ≤ length sound → rest < shape.frame_bytes →
     count + rest ≡ frames * shape.frame_bytes → RunFits shape run left [] (Some (length sound)) →
     lost_in shape (record run { emitted = sound ∷ run.emitted; taken = run.taken ++ take count sound }) ≡
     lost_in shape run + (length sound - count - length (take (min rest (length sound - count)) (drop count sound))) / shape.frame_bytes

@@ -13,9 +13,10 @@ use Rattle.af_program.specs.Acts.{ToldAct, emitted, ended, took_acts}
 use Rattle.af_program.specs.Handing.{acts_if}
 use Rattle.af_program.specs.Waits.{begun_once_more, after_end}
 use Rattle.af_world.specs.declared.card_kind.CardKind.{CardKind}
+use Rattle.af_world.specs.declared.card_kind.CardKind.TheVariants as kind
 use Rattle.af_card.specs.declared.running.Running.{Running}
 use Rattle.af_card.specs.Lost.{lost_after, without_room}
-use Rattle.af_card.specs.Between.{BetweenState, PassesOn, after_give, running_since, takes_now}
+use Rattle.af_card.specs.Between.{BetweenState, PassesOn, after_give, hands_frames, running_since, takes_now}
 use Rattle.af_card.specs.Passing.{EndsIf, GivesOwed, HandsBy, HandsFrames, HandsOf, IsPart, Meets, PassesSound, begun_between, given_between, may_pass, offer_acts, owed_after, pass_acts, passed_between}
 
 -- Starts and ends
@@ -67,10 +68,18 @@ hands-frames b b1 after at sound acts acts1 acts' g p = record {
       (subst (λ (x : BetweenState). Appended acts1 (emitted sound ∷ pass_acts x p.took sound) acts') g.goes p.told);
 }
 
-pub hands-running : (b after : BetweenState) (r : Running) (k : CardKind) (at : ℕ) (sound : List ℕ) (acts acts' : Option (List ToldAct)) → b.running ≡ Some r → b.shape.kind ≡ k →
-    HandsBy k at sound b after acts acts' → HandsOf b.running at sound b after acts acts'
-hands-running b after r k at sound acts acts' is kind-is hands =
-    subst (λ now. HandsOf now at sound b after acts acts') (sym is) (subst (λ x. HandsBy x at sound b after acts acts') (sym kind-is) hands)
+-- a card or an encoder hands its sound in frames
+hands-by-frames : (k : CardKind) (at : ℕ) (sound : List ℕ) (b after : BetweenState) (acts acts' : Option (List ToldAct)) → hands_frames k ≡ true → HandsFrames at sound b after acts acts' →
+    HandsBy k at sound b after acts acts'
+hands-by-frames kind.Speaker at sound b after acts acts' is hands = grind arith
+hands-by-frames kind.Microphone at sound b after acts acts' is hands = grind arith
+hands-by-frames kind.Card at sound b after acts acts' is hands = hands
+hands-by-frames kind.Encoder at sound b after acts acts' is hands = hands
+
+pub frames-running : (b after : BetweenState) (r : Running) (at : ℕ) (sound : List ℕ) (acts acts' : Option (List ToldAct)) → b.running ≡ Some r → hands_frames b.shape.kind ≡ true →
+    HandsFrames at sound b after acts acts' → HandsOf b.running at sound b after acts acts'
+frames-running b after r at sound acts acts' is frames hands =
+    subst (λ now. HandsOf now at sound b after acts acts') (sym is) (hands-by-frames b.shape.kind at sound b after acts acts' frames hands)
 
 may-pass-where : (b : BetweenState) (r : Running) → b.running ≡ Some r → r.is_closed ≡ false → b.owed ≡ [] → may_pass b ≡ true
 may-pass-where b r is takes-sound none =

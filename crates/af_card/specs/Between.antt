@@ -1,5 +1,5 @@
 -- What stands between a device and its program, and how it fits the acts.
-use Rattle.std.specs.Prelude.{◌≡◌, ⊤, ℕ, ◌+◌, ◌*◌, ◌/◌, ◌%◌, ◌≤◌, ◌<◌, ◌-◌, Bool, true, false, not, ◌&&◌, ◌||◌, ◌==◌, nat_le, if◌then◌else◌, List, [], ◌∷◌, length, min, take, drop, replicate, is_some, is_none, All}
+use Rattle.std.specs.Prelude.{◌≡◌, ⊤, ℕ, ◌+◌, ◌*◌, ◌/◌, ◌%◌, ◌≤◌, ◌<◌, ◌-◌, Bool, true, false, not, ◌&&◌, ◌||◌, ◌==◌, nat_le, if◌then◌else◌, List, [], length, min, take, drop, replicate, is_some, is_none, All}
 use Rattle.std.specs.declared.option.Option.{Option}
 use Rattle.std.specs.declared.option.Option.TheVariants.{None, Some}
 use Rattle.af_limits.specs.Limits.{longest_capture, longest_tick}
@@ -55,6 +55,21 @@ abbrev pub gives_sound : CardKind → Bool
 gives_sound kind.Speaker = false
 gives_sound kind.Microphone = true
 gives_sound kind.Card = true
+gives_sound kind.Encoder = false
+
+-- Whether a device of this kind hands each sound on in whole frames, as far as its program has room, and loses the rest.
+abbrev pub hands_frames : CardKind → Bool
+hands_frames kind.Speaker = false
+hands_frames kind.Microphone = false
+hands_frames kind.Card = true
+hands_frames kind.Encoder = true
+
+-- whether a device of this kind goes by the system's clock, also while its program runs
+abbrev pub goes_by_clock : CardKind → Bool
+goes_by_clock kind.Speaker = false
+goes_by_clock kind.Microphone = false
+goes_by_clock kind.Card = false
+goes_by_clock kind.Encoder = true
 
 -- How it fits the ledger
 
@@ -116,8 +131,9 @@ abbrev pub CapturesBy : CardKind → Shape → List ℕ → ℕ → Type 0
 CapturesBy kind.Speaker shape left bytes = ⊤
 CapturesBy kind.Microphone shape left bytes = (bytes ≤ length left) × IsWhole shape.frame_bytes bytes
 CapturesBy kind.Card shape left bytes = (bytes ≤ length left) × IsWhole shape.frame_bytes bytes
+CapturesBy kind.Encoder shape left bytes = IsWhole shape.frame_bytes bytes
 
--- what a program gave is captured in whole frames
+-- what a program gave is captured in whole frames, and so is the silence of an encoder
 abbrev pub CapturesOf : Option Running → Shape → List ℕ → ℕ → Type 0
 CapturesOf None shape left bytes = ⊤
 CapturesOf (Some running) shape left bytes = CapturesBy shape.kind shape left bytes
@@ -127,6 +143,7 @@ abbrev pub EmitsBy : CardKind → Shape → List ℕ → ℕ → Type 0
 EmitsBy kind.Speaker shape owed bytes = (owed ≡ []) × (bytes ≤ piece_of shape)
 EmitsBy kind.Microphone shape owed bytes = ⊤
 EmitsBy kind.Card shape owed bytes = ⊤
+EmitsBy kind.Encoder shape owed bytes = ⊤
 
 abbrev pub EmitsTo : Option Running → Shape → List ℕ → ℕ → Type 0
 EmitsTo None shape owed bytes = ⊤
@@ -143,6 +160,7 @@ abbrev pub LeavesLess : CardKind → Shape → List ℕ → Type 0
 LeavesLess kind.Speaker shape left = ⊤
 LeavesLess kind.Microphone shape left = length left < shape.frame_bytes
 LeavesLess kind.Card shape left = length left < shape.frame_bytes
+LeavesLess kind.Encoder shape left = ⊤
 
 abbrev pub CanEnd : BetweenState → Type 0
 CanEnd b = (b.tick ≡ None) × LeavesLess b.shape.kind b.shape b.left
@@ -153,6 +171,7 @@ abbrev pub captures_by : CardKind → Shape → List ℕ → ℕ → Bool
 captures_by kind.Speaker shape left bytes = true
 captures_by kind.Microphone shape left bytes = nat_le bytes (length left) && (bytes % shape.frame_bytes == 0)
 captures_by kind.Card shape left bytes = nat_le bytes (length left) && (bytes % shape.frame_bytes == 0)
+captures_by kind.Encoder shape left bytes = bytes % shape.frame_bytes == 0
 
 abbrev pub captures_of : Option Running → Shape → List ℕ → ℕ → Bool
 captures_of None shape left bytes = true
@@ -162,6 +181,7 @@ abbrev pub emits_by : CardKind → Shape → List ℕ → ℕ → Bool
 emits_by kind.Speaker shape owed bytes = (length owed == 0) && nat_le bytes (piece_of shape)
 emits_by kind.Microphone shape owed bytes = true
 emits_by kind.Card shape owed bytes = true
+emits_by kind.Encoder shape owed bytes = true
 
 abbrev pub emits_to : Option Running → Shape → List ℕ → ℕ → Bool
 emits_to None shape owed bytes = true
@@ -193,12 +213,13 @@ gives_now k None = false
 gives_now k (Some running) = gives_sound k && not running.is_over
 
 -- The frames that are due by a program: whole frames that it gave, at most as many as a tick has; or a piece, once it is owed
--- nothing.
+-- nothing. By the program of an encoder none are due.
 
 abbrev pub frames_by : CardKind → Shape → List ℕ → List ℕ → ℕ
 frames_by kind.Speaker shape left owed = if length owed == 0 then piece_frames shape else 0
 frames_by kind.Microphone shape left owed = min (length left / shape.frame_bytes) longest_tick
 frames_by kind.Card shape left owed = min (length left / shape.frame_bytes) longest_tick
+frames_by kind.Encoder shape left owed = 0
 
 abbrev pub frames_of : BetweenState → ℕ
 frames_of b = frames_by b.shape.kind b.shape b.left b.owed
@@ -217,6 +238,7 @@ abbrev pub is_over_by : CardKind → Running → ℕ → Bool
 is_over_by kind.Speaker running at = running.is_closed || is_stalled running.took at
 is_over_by kind.Microphone running at = running.is_over || is_stalled running.gave at
 is_over_by kind.Card running at = running.is_over || is_stalled running.gave at
+is_over_by kind.Encoder running at = running.is_closed || is_stalled running.took at
 
 abbrev pub is_over_of : Option Running → CardKind → ℕ → Bool
 is_over_of None k at = false
@@ -227,6 +249,7 @@ abbrev pub takes_nothing : CardKind → Running → ℕ → Bool
 takes_nothing kind.Speaker running at = false
 takes_nothing kind.Microphone running at = false
 takes_nothing kind.Card running at = not running.is_closed && is_stalled running.took at
+takes_nothing kind.Encoder running at = false
 
 abbrev pub running_after_look : Option Running → CardKind → ℕ → Option Running
 running_after_look None k at = None

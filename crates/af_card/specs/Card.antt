@@ -1,5 +1,5 @@
 -- A device whose sound goes to a program, comes from it, or both, as a caller has it.
-use Rattle.std.specs.Prelude.{◌≡◌, ◌≢◌, ◌⊎◌, ⊤, [], ◌∷◌, ℕ, ◌+◌, Bool, not, is_none, nat_lt, ◌&&◌, ◌==◌, if◌then◌else◌, List, MatchOption}
+use Rattle.std.specs.Prelude.{◌≡◌, ◌≢◌, ◌⊎◌, ⊤, [], ◌∷◌, ℕ, ◌+◌, ◌-◌, ◌%◌, Bool, not, is_none, nat_lt, true, false, ◌&&◌, ◌==◌, if◌then◌else◌, List, MatchOption}
 use Rattle.std.specs.declared.option.Option.{Option}
 use Rattle.std.specs.declared.option.Option.TheVariants.{None, Some}
 use Rattle.af_io.specs.declared.flow.Put.{Put}
@@ -9,14 +9,15 @@ use Rattle.af_io.specs.Observed.{Appended, Unchanged}
 use Rattle.af_program.specs.declared.program.Launched.{Launched}
 use Rattle.af_program.specs.Acts.{ToldAct, launched, emitted}
 use Rattle.af_program.specs.Waits.{StartsFit, may_come}
+use Rattle.af_world.specs.declared.card_kind.CardKind.{CardKind}
 use Rattle.af_card.specs.declared.shape.Shape.{Shape}
 use Rattle.af_card.specs.declared.running.Running.{Running}
 use Rattle.af_card.specs.Ledger.{Run, ledger_of}
 use Rattle.af_card.specs.Fed.{PastFits, RunFits}
-use Rattle.af_card.specs.Between.{BetweenState, new_between, frames_of, is_dead, may_capture, may_emit}
+use Rattle.af_card.specs.Between.{BetweenState, new_between, frames_of, goes_by_clock, is_dead, may_capture, may_emit}
 use Rattle.af_card.specs.Passing.{HandsNone, begun_between}
 
--- a device: its program, what stands between the two, the command line of each start, its pace while no program runs, and the
+-- a device: its program, what stands between the two, the command line of each start, its pace by the system's clock, and the
 -- latest moment
 pub record CardState (P : Type 0) : Type 0 where
   pub program : P
@@ -38,7 +39,8 @@ RunIsFed shape (Some run) = (left : List ℕ) × (owed : List ℕ) × (tick : Op
 
 -- This holds of all acts, at each moment. Captured: in ticks while a program ran, what it gave, in order and in whole frames,
 -- each once; else silence. Handed: to each program what was emitted while it ran, in order, each sample at most once. A
--- loudspeaker loses none. A card may lose the last frames of a tick. In step: in each tick as much is captured as emitted.
+-- loudspeaker loses none. A card or an encoder may lose the last frames of a tick. In step: in each tick as much is captured as
+-- emitted.
 -- Starts: at most one more than there are restarts, each after its wait.
 pub record IsFed (shape : Shape) (restarts : ℕ) (acts : List ToldAct) : Type 0 where
   pub past : PastFits shape (ledger_of acts)
@@ -62,6 +64,20 @@ abbrev pub DueByProgram : ℕ → ℕ → BetweenState → PaceState → PaceSta
 DueByProgram at frames after pace pace' =
     MatchOption after.running ((frames ≡ 0) × (pace' ≡ after_due (new_pace after.shape.rate) at))
     (λ running. (frames ≡ frames_of after) × (pace' ≡ pace))
+
+-- a moment, in whole hundredths of a second
+abbrev pub hundredths_of : ℕ → ℕ
+hundredths_of at = at - at % 10000000
+
+-- While a program runs they are due by it, or by the clock. An encoder goes by the clock throughout: its pace never begins again.
+-- While its program runs it reads the clock in hundredths of a second, so that the program is given pieces of that length.
+abbrev pub DueWhileRuns : Bool → ℕ → ℕ → BetweenState → PaceState → PaceState → Type 0
+DueWhileRuns true at frames after pace pace' =
+    (frames ≡ due_at pace (hundredths_of at)) × (pace' ≡ after_due pace (hundredths_of at))
+DueWhileRuns false at frames after pace pace' = DueByProgram at frames after pace pace'
+
+abbrev pub DueOfKind : CardKind → ℕ → ℕ → BetweenState → PaceState → PaceState → Type 0
+DueOfKind k at frames after pace pace' = DueWhileRuns (goes_by_clock k) at frames after pace pace'
 
 -- By the clock, if no program runs: those of the pace. If none is due, a start is tried, if one may come.
 pub record DueByClock (at frames : ℕ) (before after : BetweenState) (pace pace' : PaceState) : Type 0 where
@@ -93,7 +109,7 @@ EmitsAndStarts at sound words before after acts acts' = HandsNone sound before a
 abbrev pub DueOf : Option ℕ → Option Running → ℕ → ℕ → BetweenState → BetweenState → PaceState → PaceState → Type 0
 DueOf (Some bytes) running at frames before after pace pace' = (frames ≡ 0) × (after ≡ before) × (pace' ≡ pace)
 DueOf None None at frames before after pace pace' = DueByClock at frames before after pace pace'
-DueOf None (Some running) at frames before after pace pace' = DueByProgram at frames after pace pace'
+DueOf None (Some running) at frames before after pace pace' = DueOfKind before.shape.kind at frames after pace pace'
 
 -- Answers
 

@@ -35,16 +35,22 @@ pub record CapturedOf (width : ℕ) (gave : List ℕ) (sounds : List (List ℕ))
   pub given : gave ≡ sound_of sounds ++ left
   pub whole : All (HasWholeFrames width) sounds
 
--- a loudspeaker gives nothing, and captures silence
+-- the program of a loudspeaker gives nothing, and the device captures silence
 pub record CapturedNone (silence : ℕ) (gave : List ℕ) (sounds : List (List ℕ)) (left : List ℕ) : Type 0 where
   pub given : gave ≡ []
   pub silent : All (IsSilent silence) sounds
   pub none : left ≡ []
 
+-- the same of an encoder, in whole frames
+pub record CapturedSilence (width silence : ℕ) (gave : List ℕ) (sounds : List (List ℕ)) (left : List ℕ) : Type 0 where
+  pub silence_alone : CapturedNone silence gave sounds left
+  pub whole : All (HasWholeFrames width) sounds
+
 abbrev pub CapturedBy : CardKind → Shape → List ℕ → List (List ℕ) → List ℕ → Type 0
 CapturedBy kind.Speaker shape gave sounds left = CapturedNone shape.silence gave sounds left
 CapturedBy kind.Microphone shape gave sounds left = CapturedOf shape.frame_bytes gave sounds left
 CapturedBy kind.Card shape gave sounds left = CapturedOf shape.frame_bytes gave sounds left
+CapturedBy kind.Encoder shape gave sounds left = CapturedSilence shape.frame_bytes shape.silence gave sounds left
 
 -- Handed
 
@@ -54,7 +60,8 @@ IsPassed width [] passed = passed ≡ []
 IsPassed width (sound ∷ earlier) passed =
     (before : List ℕ) × (frames : ℕ) × IsPassed width earlier before × (passed ≡ before ++ take (frames * width) sound)
 
--- a card is handed whole frames from the front of each sound, in order, except the part of a frame that it is owed
+-- A card is handed whole frames from the front of each sound, in order, except the part of a frame that it is owed. So is an
+-- encoder.
 pub record HandedPassed (width : ℕ) (sounds : List (List ℕ)) (took owed : List ℕ) : Type 0 where
   pub passed : IsPassed width sounds (took ++ owed)
   pub part : length owed < width
@@ -73,6 +80,7 @@ abbrev pub HandedBy : CardKind → Shape → List (List ℕ) → List ℕ → Li
 HandedBy kind.Speaker shape sounds took owed = HandedAll (piece_of shape) sounds took owed
 HandedBy kind.Microphone shape sounds took owed = HandedNone took owed
 HandedBy kind.Card shape sounds took owed = HandedPassed shape.frame_bytes sounds took owed
+HandedBy kind.Encoder shape sounds took owed = HandedPassed shape.frame_bytes sounds took owed
 
 -- In step
 

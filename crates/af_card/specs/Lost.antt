@@ -1,4 +1,4 @@
--- The frames of sound for which a card had no room: how many there were, by the acts.
+-- The frames of sound for which a card or an encoder had no room: how many there were, by the acts.
 use Rattle.std.specs.Prelude.{◌≡◌, ⊤, ℕ, ◌+◌, ◌-◌, ◌/◌, min, List, [], ◌∷◌, length, MatchOption}
 use Rattle.std.specs.declared.option.Option.{Option}
 use Rattle.std.specs.declared.option.Option.TheVariants.{None, Some}
@@ -16,12 +16,13 @@ use Rattle.af_card.specs.Fed.{sound_of}
 abbrev pub most_lost : ℕ
 most_lost = 18446744073709551615
 
--- While one program ran: how many whole frames were emitted to a card and not handed to its program. A frame that was handed in
--- part counts as handed. A loudspeaker loses none, and a microphone hands nothing.
+-- While one program ran: how many whole frames were emitted to a card, or to an encoder, and not handed to its program. A frame
+-- that was handed in part counts as handed. A loudspeaker loses none, and a microphone hands nothing.
 abbrev pub lost_by : CardKind → ℕ → List (List ℕ) → List ℕ → ℕ
 lost_by kind.Speaker width emitted taken = 0
 lost_by kind.Microphone width emitted taken = 0
 lost_by kind.Card width emitted taken = (length (sound_of emitted) - length taken) / width
+lost_by kind.Encoder width emitted taken = (length (sound_of emitted) - length taken) / width
 
 abbrev pub lost_in : Shape → Run → ℕ
 lost_in shape run = lost_by shape.kind shape.frame_bytes run.emitted run.taken

@@ -154,7 +154,7 @@ IsPart (takes.Bytes n) width sound part = StopsWithin width n sound part
 IsPart takes.NoRoom width sound part = part ≡ []
 IsPart takes.Ended width sound part = part ≡ []
 
--- whether a card is given of the sound: it takes sound, and is owed nothing
+-- whether a card or an encoder is given of the sound: it takes sound, and is owed nothing
 abbrev pub may_pass : BetweenState → Bool
 may_pass b = takes_now b.running && (length b.owed == 0)
 
@@ -177,7 +177,7 @@ passed_between took part sound at b = record b {
 abbrev pub pass_acts : BetweenState → Took → List ℕ → List ToldAct
 pass_acts b took sound = acts_if (may_pass b) (took_acts took sound)
 
--- A card is offered the sound in one give, if it may be. It takes whole frames from the front.
+-- A card or an encoder is offered the sound in one give, if it may be. It takes whole frames from the front.
 pub record PassesSound (at : ℕ) (sound : List ℕ) (before after : BetweenState) (acts acts' : Option (List ToldAct)) : Type 0 where
   pub took : Took
   pub part : List ℕ
@@ -187,8 +187,8 @@ pub record PassesSound (at : ℕ) (sound : List ℕ) (before after : BetweenStat
   pub goes : after ≡ passed_between took part sound at before
   pub told : Appended acts (emitted sound ∷ pass_acts before took sound) acts'
 
--- A card is first offered what it is owed, and then the sound. Frames are lost only where it may not be given the sound, or took
--- less than that.
+-- A card or an encoder is first offered what it is owed, and then the sound. Frames are lost only where it may not be given the
+-- sound, or took less than that.
 pub record HandsFrames (at : ℕ) (sound : List ℕ) (before after : BetweenState) (acts acts' : Option (List ToldAct)) : Type 0 where
   pub first : Took
   pub took : Took
@@ -210,6 +210,7 @@ abbrev pub HandsBy : CardKind → ℕ → List ℕ → BetweenState → BetweenS
 HandsBy kind.Speaker at sound before after acts acts' = HandsAll at sound before after acts acts'
 HandsBy kind.Microphone at sound before after acts acts' = HandsNone sound before after acts acts'
 HandsBy kind.Card at sound before after acts acts' = HandsFrames at sound before after acts acts'
+HandsBy kind.Encoder at sound before after acts acts' = HandsFrames at sound before after acts acts'
 
 -- The sound of a tick is emitted: a program that runs is handed it.
 abbrev pub HandsOf : Option Running → ℕ → List ℕ → BetweenState → BetweenState → Option (List ToldAct) →

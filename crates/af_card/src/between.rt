@@ -10,7 +10,7 @@ ghost use Rattle.af_process.specs.Acts.{words_of};
 ghost use Rattle.af_card.specs.Fed.{IsSilent};
 ghost use Rattle.af_world.specs.Kinds.{most_card_restarts};
 ghost use Rattle.af_program.specs.Waits.{longest_wait, may_come};
-ghost use Rattle.af_card.specs.Between.{Keeps, IsWhole, PassesOn, Accounts, new_between, CanBegin, CanCapture, CanEmit, CanEnd, LeavesLess, gives_sound, is_dead, may_capture, may_emit, frames_of, is_stalled, is_over_of, running_after_look, captured_of, takes_now};
+ghost use Rattle.af_card.specs.Between.{Keeps, IsWhole, PassesOn, Accounts, new_between, CanBegin, CanCapture, CanEmit, CanEnd, LeavesLess, gives_sound, is_dead, may_capture, may_emit, frames_of, is_stalled, is_over_of, running_after_look, captured_of, goes_by_clock, hands_frames, takes_now};
 ghost use Rattle.af_card.specs.Lost.{lost_after};
 ghost use Rattle.af_card.specs.Passing.{GivesOwed, HandsOf, PassesSound, TakesGiven, begun_between, captured_between, ended_between, owing};
 
@@ -39,7 +39,7 @@ pub(crate) struct Between {
     owed: Queue<LONGEST_CAPTURE>,
     // the bytes of a tick that was captured, and is to be emitted
     tick: Option<usize>,
-    // frames for which a card had no room
+    // frames for which a card or an encoder had no room
     lost: u64,
     room: Vec<u8>,
 }
@@ -136,7 +136,7 @@ impl Between {
         self.running.is_none() && !self.starts.is_left()
     }
 
-    /// How many frames a card had no room for, since the first start.
+    /// How many frames a card or an encoder had no room for, since the first start.
     pub(crate) fn lost(&self) -> u64
         ensures { result ≡ self.now.lost }
     {
@@ -179,6 +179,7 @@ impl Between {
             Some(_) if self.shape.gives_sound() => {
                 bytes <= self.input.as_slice().len() && bytes % self.shape.frame_bytes == 0
             }
+            Some(_) if self.shape.hands_frames() => bytes % self.shape.frame_bytes == 0,
             _ => true,
         }
     }
@@ -213,6 +214,7 @@ impl Between {
                 let whole = self.input.as_slice().len() / self.shape.frame_bytes;
                 (whole as u32).min(LONGEST_TICK)
             }
+            CardKind::Encoder => 0,
         }
     }
 
@@ -275,12 +277,21 @@ impl Between {
         match self.running {
             None => false,
             Some(running) => match self.shape.kind {
-                CardKind::Speaker => running.is_closed || is_stalled(running.took, at),
+                CardKind::Speaker | CardKind::Encoder => {
+                    running.is_closed || is_stalled(running.took, at)
+                }
                 CardKind::Microphone | CardKind::Card => {
                     running.is_over || is_stalled(running.gave, at)
                 }
             },
         }
+    }
+
+    /// Whether the device goes by the system's clock, also while its program runs.
+    pub(crate) fn goes_by_clock(&self) -> bool
+        ensures { result ≡ goes_by_clock self.now.shape.kind }
+    {
+        self.shape.goes_by_clock()
     }
 
     /// How many frames a second there are.
@@ -356,7 +367,7 @@ impl Between {
                 self.owe(program, sound);
                 self.give_owed(program, at);
             }
-            Some(_) if self.shape.kind == CardKind::Card => {
+            Some(_) if self.shape.hands_frames() => {
                 self.give_owed(program, at);
                 self.pass(program, sound, at);
             }
@@ -380,12 +391,12 @@ impl Between {
         self.tick = None;
     }
 
-    /// Emits the sound of a tick to a card, as far as it has room, in whole frames. If it took a part of a frame, it is owed the
-    /// rest. What it has no room for is lost and counted. As long as it is owed something, all is lost and counted.
+    /// Emits the sound of a tick to a card or an encoder, as far as it has room, in whole frames. What it has no room for is lost
+    /// and counted. If it took a part of a frame, it is owed the rest. As long as it is owed something, all is lost and counted.
     fn pass<P: Program>(&mut self, program: &mut P, sound: &[u8], at: u64)
         requires some { 0 < length sound.now }
         requires can { CanEmit self.old (length sound.now) }
-        requires kind { self.old.shape.kind ≡ CardKind.Card }
+        requires kind { hands_frames self.old.shape.kind ≡ true }
         requires fits { Accounts self.old (P.acts program.old) }
         ensures fits { Accounts self.new (P.acts program.new) }
         ensures keeps { Keeps None self.old self.new }

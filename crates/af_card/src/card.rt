@@ -8,10 +8,10 @@ ghost use Rattle.af_process.specs.Acts.{words_of};
 ghost use Rattle.af_program.specs.Acts.{captured, launched, TellsNothing};
 ghost use Rattle.af_world.specs.Kinds.{most_card_restarts};
 ghost use Rattle.af_program.specs.Waits.{may_come, next_start};
-ghost use Rattle.af_card.specs.Between.{Accounts, new_between, captured_of, is_over_of, takes_now};
+ghost use Rattle.af_card.specs.Between.{Accounts, new_between, captured_of, frames_of, is_over_of, takes_now};
 ghost use Rattle.af_card.specs.Lost.{CountsLost};
 ghost use Rattle.af_card.specs.Passing.{HandsOf, Meets, begun_between, captured_between};
-ghost use Rattle.af_card.specs.Card.{new_card, begins_now, EmitsAndStarts, SameOrders, StartsOnly, captures, emits, DueByClock, DueByProgram, DueOf, IsFedWhereTold};
+ghost use Rattle.af_card.specs.Card.{new_card, begins_now, EmitsAndStarts, SameOrders, StartsOnly, captures, emits, DueByClock, DueOf, DueOfKind, IsFedWhereTold, hundredths_of};
 
 use crate::between::Between;
 use crate::shape::Shape;
@@ -23,8 +23,11 @@ use af_time::OutOfMemory;
 use std::alloc::Global;
 use std::marker::Model;
 
-/// A device whose sound goes to a program, comes from it, or both. It goes by its program while one runs. Moments are nanoseconds
-/// of a clock, and never go back.
+/// A hundredth of a second, in nanoseconds.
+const HUNDREDTH: u64 = 10_000_000;
+
+/// A device whose sound goes to a program, comes from it, or both. It goes by its program while one runs; an encoder goes by the
+/// system's clock throughout. Moments are nanoseconds of a clock, and never go back.
 ///
 /// At each tick `due` comes first, then `capture` and `emit`, with as many frames.
 #[derive(Drop)]
@@ -122,7 +125,7 @@ impl<P: Program + Drop> Card<P> {
             return 0;
         }
         if self.between.runs() {
-            due_by_program(&mut self.between, &mut self.program, &mut self.pace, at)
+            due_while_it_runs(&mut self.between, &mut self.program, &mut self.pace, at)
         } else {
             due_by_clock(
                 &mut self.between,
@@ -207,8 +210,8 @@ impl<P: Program + Drop> Card<P> {
         self.between.runs()
     }
 
-    /// How many frames of sound its program had no room for, since the first start, 2^64 - 1 at most. Only a card loses any so.
-    /// One that has closed its input loses all.
+    /// How many frames of sound its program had no room for, since the first start, 2^64 - 1 at most. Only a card or an encoder
+    /// loses any so. One that has closed its input loses all.
     pub fn lost(&self) -> u64
         ensures counted { CountsLost self.now.between.shape (P.acts self.now.program) result }
         ensures state { result ≡ self.now.between.lost }
@@ -238,8 +241,9 @@ impl<P: Program + Drop> Card<P> {
     }
 }
 
-/// The frames that are due by a program that runs, at this moment. A program that gives or takes nothing any more is ended.
-fn due_by_program<P: Program>(
+/// The frames that are due while a program runs, at this moment: by the program, or for an encoder by the clock. A program that
+/// gives or takes nothing any more is ended.
+fn due_while_it_runs<P: Program>(
     between: &mut Between,
     program: &mut P,
     pace: &mut Pace,
@@ -249,7 +253,39 @@ fn due_by_program<P: Program>(
     requires tick { between.old.tick ≡ None }
     requires fits { Accounts between.old (P.acts program.old) }
     ensures most { result ≤ longest_tick }
-    ensures due { DueByProgram at result between.new pace.old pace.new }
+    ensures due { DueOfKind between.old.shape.kind at result between.new pace.old pace.new }
+    ensures fits { Accounts between.new (P.acts program.new) }
+    ensures same { (between.new.shape ≡ between.old.shape) × (between.new.starts.restarts ≡ between.old.starts.restarts) }
+    ensures tick { between.new.tick ≡ None }
+    ensures meets { Meets at between.old between.new (P.acts program.old) (P.acts program.new) }
+    ensures over { result ≡ 0 → is_over_of between.new.running between.new.shape.kind at ≡ false }
+{
+    let frames = frames_by_program(between, program, at);
+    if between.goes_by_clock() {
+        return pace.due(hundredths_of(at));
+    }
+    if !between.runs() {
+        *pace = Pace::new(between.rate());
+        return pace.due(at);
+    }
+    frames
+}
+
+/// A moment, in whole hundredths of a second.
+fn hundredths_of(at: u64) -> u64
+    ensures { result ≡ hundredths_of at }
+{
+    at - at % HUNDREDTH
+}
+
+/// The frames that are due by a program that runs, at this moment. A program that gives or takes nothing any more is ended.
+fn frames_by_program<P: Program>(between: &mut Between, program: &mut P, at: u64) -> u32
+    requires runs { is_some between.old.running ≡ true }
+    requires tick { between.old.tick ≡ None }
+    requires fits { Accounts between.old (P.acts program.old) }
+    ensures most { result ≤ longest_tick }
+    ensures frames { is_some between.new.running ≡ true → result ≡ frames_of between.new }
+    ensures ended { is_some between.new.running ≡ false → result ≡ 0 }
     ensures fits { Accounts between.new (P.acts program.new) }
     ensures same { (between.new.shape ≡ between.old.shape) × (between.new.starts.restarts ≡ between.old.starts.restarts) }
     ensures tick { between.new.tick ≡ None }
@@ -262,8 +298,7 @@ fn due_by_program<P: Program>(
     let frames = between.frames();
     if frames == 0 && between.is_over(at) {
         between.end(program, at);
-        *pace = Pace::new(between.rate());
-        return pace.due(at);
+        return 0;
     }
     frames
 }

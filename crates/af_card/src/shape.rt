@@ -1,7 +1,7 @@
 // The kind of a device, and the frames of its sound.
 ghost use Rattle.std.specs.Prelude.{◌≡◌, ◌≤◌};
 ghost use Rattle.af_card.specs.Fed.{piece_frames, piece_of};
-ghost use Rattle.af_card.specs.Between.{gives_sound};
+ghost use Rattle.af_card.specs.Between.{gives_sound, goes_by_clock, hands_frames};
 
 use af_limits::LONGEST_TICK;
 use af_world::CardKind;
@@ -21,8 +21,28 @@ impl Shape {
         ensures { result ≡ gives_sound self.now.kind }
     {
         match self.kind {
-            CardKind::Speaker => false,
+            CardKind::Speaker | CardKind::Encoder => false,
             CardKind::Microphone | CardKind::Card => true,
+        }
+    }
+
+    /// Whether each sound is handed on in whole frames, as far as the program has room, and the rest is lost.
+    pub(crate) fn hands_frames(&self) -> bool
+        ensures { result ≡ hands_frames self.now.kind }
+    {
+        match self.kind {
+            CardKind::Speaker | CardKind::Microphone => false,
+            CardKind::Card | CardKind::Encoder => true,
+        }
+    }
+
+    /// Whether the device goes by the system's clock, also while its program runs.
+    pub(crate) fn goes_by_clock(&self) -> bool
+        ensures { result ≡ goes_by_clock self.now.kind }
+    {
+        match self.kind {
+            CardKind::Speaker | CardKind::Microphone | CardKind::Card => false,
+            CardKind::Encoder => true,
         }
     }
 

@@ -88,11 +88,12 @@ program_of made most longest (restarts ∷ words) =
 abbrev pub codec_of : List (List ℕ) → Option ToldKind
 codec_of words = program_of child_program 100 longest_codec_word words
 
--- and after `speaker`, `microphone` or `card`
+-- and after `speaker`, `microphone`, `card` or `encoder`
 abbrev pub card_of : CardKind → List (List ℕ) → Option ToldKind
 card_of kind words = program_of (card_program kind) most_card_restarts longest_word words
 
--- `silent`, `loop`, `files INPUT OUTPUT`, or one of `codec`, `speaker`, `microphone` and `card` with `RESTARTS WORD ..`
+-- `silent`, `loop`, `files INPUT OUTPUT`, or one of `codec`, `speaker`, `microphone`, `card` and `encoder` with
+-- `RESTARTS WORD ..`
 abbrev pub kind_of : List (List ℕ) → Option ToldKind
 kind_of [] = None
 kind_of (word ∷ names) =
@@ -103,6 +104,7 @@ kind_of (word ∷ names) =
     else if bytes_eq word (codes "speaker") then card_of card_kind.Speaker names
     else if bytes_eq word (codes "microphone") then card_of card_kind.Microphone names
     else if bytes_eq word (codes "card") then card_of card_kind.Card names
+    else if bytes_eq word (codes "encoder") then card_of card_kind.Encoder names
     else None
 
 -- with a telephone line, or with none

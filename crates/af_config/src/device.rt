@@ -122,7 +122,8 @@ fn ending_stated(alloc: Global, arguments: &[u8]) -> Result<Option<Ending>, OutO
     }
 }
 
-/// `silent`, `loop`, `files INPUT OUTPUT`, or one of `codec`, `speaker`, `microphone` and `card` with `RESTARTS WORD ..`
+/// `silent`, `loop`, `files INPUT OUTPUT`, or one of `codec`, `speaker`, `microphone`, `card` and `encoder` with
+/// `RESTARTS WORD ..`
 fn kind_stated(alloc: Global, arguments: &[u8]) -> Result<Option<OwnedKind>, OutOfMemory>
     requires { IsUtf8 arguments.now }
     ensures { IfOk result (λ kind. option_map told_owned_kind kind ≡ kind_of (words arguments.now)) }
@@ -144,6 +145,8 @@ fn kind_stated(alloc: Global, arguments: &[u8]) -> Result<Option<OwnedKind>, Out
         Ok(card_stated(CardKind::Microphone, names))
     } else if is_word(word, b"card") {
         Ok(card_stated(CardKind::Card, names))
+    } else if is_word(word, b"encoder") {
+        Ok(card_stated(CardKind::Encoder, names))
     } else {
         Ok(None)
     }
@@ -194,7 +197,7 @@ fn codec_stated(names: &[u8]) -> Option<OwnedKind>
     Some(OwnedKind::Codec { restarts, words })
 }
 
-/// `RESTARTS WORD ..`, after `speaker`, `microphone` or `card`.
+/// `RESTARTS WORD ..`, after `speaker`, `microphone`, `card` or `encoder`.
 fn card_stated(card: CardKind, names: &[u8]) -> Option<OwnedKind>
     requires { IsUtf8 names.now }
     ensures { option_map told_owned_kind result ≡ card_of card (words names.now) }

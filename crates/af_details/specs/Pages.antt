@@ -10,12 +10,13 @@ use Rattle.af_version.specs.declared.about.About.{About}
 use Rattle.af_version.specs.declared.about.About.TheVariants as about
 use Rattle.af_version.specs.About.{asked_about}
 
--- the tool of a name: the answering machine, the one that tells events, the meter, or one of the others
+-- the tool of a name: the answering machine, the one that tells events, the meter, the logger, or one of the others
 abbrev pub command_named : Text → Option Command
 command_named name =
     if bytes_eq name (codes "answer") then Some command.Answer
     else if bytes_eq name (codes "events") then Some command.Events
     else if bytes_eq name (codes "meter") then Some command.Meter
+    else if bytes_eq name (codes "log") then Some command.Log
     else option_map (λ tool. command.Tool tool) (tool_named name)
 
 -- the page that is asked for; help on a name is that of the tool of this name

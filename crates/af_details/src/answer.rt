@@ -32,15 +32,15 @@ pub fn as_tool_end(end: AnswerEnd) -> Option<ToolEnd>
     })
 }
 
-/// Tells of the end of an answering machine what its line does not. It counts the calls so far, if the machine ended before it
-/// could write that itself.
+/// Tells of the end of an answering machine what its line does not. It counts the calls so far, if they are given, and the
+/// machine ended before it could write that itself.
 pub fn tell_answer(
     rt: &impl Eprint,
     alloc: Global,
     words: &Args,
     end: AnswerEnd,
     seen: &Seen,
-    calls: Calls,
+    calls: Option<Calls>,
     output: Option<Reason>,
 ) {
     if end == AnswerEnd::Usage {
@@ -62,7 +62,9 @@ pub fn tell_answer(
             _ => {}
         }
     }
-    if end != AnswerEnd::Done {
+    if end != AnswerEnd::Done
+        && let Some(calls) = calls
+    {
         let _ = eprintln!(rt; "af: {calls}");
     }
 }

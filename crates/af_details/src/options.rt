@@ -2,9 +2,10 @@
 ghost use Rattle.std.specs.Prelude.{◌≡◌};
 ghost use Rattle.af_details.specs.Pages.{command_named};
 
-use af_answer::answer_arguments;
+use af_attendant::attendant_arguments;
 use af_cli::{Absent, Argument, Tool, tool_named};
 use af_events::events_arguments;
+use af_logger::log_arguments;
 use af_meter::meter_arguments;
 use std::fmt;
 use std::fmt::{Formatter, Write};
@@ -16,6 +17,7 @@ pub enum Command {
     Answer,
     Events,
     Meter,
+    Log,
 }
 
 impl Command {
@@ -32,6 +34,9 @@ impl Command {
         if name == "meter" {
             return Some(Command::Meter);
         }
+        if name == "log" {
+            return Some(Command::Log);
+        }
         let tool = tool_named(name)?;
         Some(Command::Tool(tool))
     }
@@ -43,6 +48,7 @@ impl Command {
             Command::Answer => "answer",
             Command::Events => "events",
             Command::Meter => "meter",
+            Command::Log => "log",
         }
     }
 
@@ -53,6 +59,7 @@ impl Command {
             Command::Answer => "takes calls of a telephone line, greets and records messages",
             Command::Events => "tells what happens on a telephone line, a line for each event",
             Command::Meter => "tells how loud a device is, a line for each interval or change",
+            Command::Log => "records without an end, and hands each piece to a command",
         }
     }
 
@@ -60,9 +67,10 @@ impl Command {
     pub fn arguments<'a>(self) -> &'a [Argument<'a>] {
         match self {
             Command::Tool(tool) => tool.arguments(),
-            Command::Answer => answer_arguments(),
+            Command::Answer => attendant_arguments(),
             Command::Events => events_arguments(),
             Command::Meter => meter_arguments(),
+            Command::Log => log_arguments(),
         }
     }
 

@@ -12,7 +12,7 @@ use std::fmt;
 use std::fmt::{Formatter, Write};
 
 // All tools.
-static COMMANDS: [Command; 8] = [
+static COMMANDS: [Command; 9] = [
     Command::Tool(Tool::Play),
     Command::Tool(Tool::Record),
     Command::Tool(Tool::Set),
@@ -20,6 +20,7 @@ static COMMANDS: [Command; 8] = [
     Command::Answer,
     Command::Events,
     Command::Meter,
+    Command::Log,
     Command::Tool(Tool::List),
 ];
 

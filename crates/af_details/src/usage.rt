@@ -2,7 +2,7 @@
 use crate::options::Command;
 use crate::page::{Page, tell_manual, tell_page};
 use crate::values::Wanted;
-use af_answer::answer_arguments;
+use af_attendant::attendant_arguments;
 use af_cli::{Absent, Argument, DEVICE, Tool, Values, device_at, matches_for, text_of};
 use af_io::Args;
 use af_limits::LONGEST_ADDRESS;
@@ -272,7 +272,7 @@ fn tell_value(rt: &impl Eprint, argument: &Argument<'_>, value: &str) {
 
 /// The device that the arguments of an answering machine name.
 pub fn device_in(alloc: Global, words: &Args) -> u8 {
-    match matches_for(alloc, "answer", answer_arguments(), words.as_slice()) {
+    match matches_for(alloc, "answer", attendant_arguments(), words.as_slice()) {
         Ok(matches) => device_at(&matches, &DEVICE).unwrap_or(0),
         Err(_) => 0,
     }

@@ -28,6 +28,9 @@ microphone = shape_of kind.Microphone
 abbrev pub speaker : Shape
 speaker = shape_of kind.Speaker
 
+abbrev pub encoder : Shape
+encoder = shape_of kind.Encoder
+
 -- a start by the command line cat, which succeeds
 abbrev pub begins : ℕ → ToldAct
 begins at = launched at ((99 ∷ 97 ∷ 116 ∷ []) ∷ []) launch.Runs
@@ -325,3 +328,37 @@ full_ahead fed =
     let long = ap length fed.now.3.handed.all in
     let more = fed.now.3.handed.piece_at_most in
     grind arith
+
+-- Encoder
+
+-- It captures silence, and its program has room for three of six bytes: the frame that was begun is owed, and the third is lost.
+abbrev pub encodes : List ℕ → List ToldAct
+encodes sound = begins 0
+    ∷ captured (0 ∷ 0 ∷ []) ∷ emitted (11 ∷ 12 ∷ []) ∷ took (11 ∷ 12 ∷ [])
+    ∷ captured sound ∷ emitted (13 ∷ 14 ∷ 15 ∷ 16 ∷ 17 ∷ 18 ∷ []) ∷ took (13 ∷ 14 ∷ 15 ∷ []) ∷ []
+
+encodes_fed : IsFed encoder 0 (encodes (0 ∷ 0 ∷ 0 ∷ 0 ∷ 0 ∷ 0 ∷ []))
+encodes_fed = record {
+  past = record { past = All-nil (PastRunFits encoder); idle = All-nil (IsSilent 0) };
+  now = (
+    [],
+    16 ∷ [],
+    None,
+    record {
+      captured = record {
+        silence_alone = record { given = refl; silent = two (IsSilent 0) (0 ∷ 0 ∷ 0 ∷ 0 ∷ 0 ∷ 0 ∷ []) (0 ∷ 0 ∷ []) refl refl; none = refl };
+        whole = two (HasWholeFrames 2) (0 ∷ 0 ∷ 0 ∷ 0 ∷ 0 ∷ 0 ∷ []) (0 ∷ 0 ∷ []) (3, refl) (1, refl);
+      };
+      handed = record { passed = (11 ∷ 12 ∷ [], 2, ([], 1, refl, refl), refl); part = omega arith };
+      in_step = (refl, (refl, tt));
+    },
+  );
+  starts = record { most = omega arith; spaced = (tt, tt) };
+}
+
+-- it captures something else than silence
+encodes_sound : IsFed encoder 0 (encodes (0 ∷ 0 ∷ 0 ∷ 0 ∷ 0 ∷ 1 ∷ [])) → ⊥
+encodes_sound fed =
+    let silent = All-head (IsSilent 0) (0 ∷ 0 ∷ 0 ∷ 0 ∷ 0 ∷ 1 ∷ []) ((0 ∷ 0 ∷ []) ∷ []) fed.now.3.captured.silence_alone.silent in
+    let last = ap (λ bytes. get_or bytes 5 0) silent in
+    omega arith

@@ -2,7 +2,9 @@
 use Rattle.std.specs.Prelude.{◌≡◌, ℕ, Bool, true, false, List, [], ◌∷◌, ◌||◌, if◌then◌else◌, codes, bytes_eq, is_some, Option, Some}
 use Rattle.af_cli.specs.Words.{is_spelled, job}
 use Rattle.af_answer.specs.AnswerWords.{answer_words, is_answer_spelled, names_answer}
+use Rattle.af_attendant.specs.AttendantWords.{attendant_call, is_attendant_spelled, names_attendant}
 use Rattle.af_events.specs.EventsWords.{events_call, is_events_spelled, names_events}
+use Rattle.af_logger.specs.LogWords.{is_log_spelled, log_call, names_log}
 use Rattle.af_meter.specs.MeterWords.{is_meter_spelled, meter_call, names_meter}
 
 -- the tools that have one server
@@ -10,6 +12,7 @@ abbrev pub is_tool_of_one : List ℕ → Bool
 is_tool_of_one name = bytes_eq name (codes "aplay") || bytes_eq name (codes "arecord") || bytes_eq name (codes "aset")
     || bytes_eq name (codes "list") || bytes_eq name (codes "answer") || bytes_eq name (codes "events")
     || bytes_eq name (codes "meter")
+    || bytes_eq name (codes "log")
 
 -- the first word names such a tool
 abbrev pub has_one_server : List (List ℕ) → Bool
@@ -21,21 +24,25 @@ abbrev pub with_server : List ℕ → List (List ℕ) → List (List ℕ)
 with_server server [] = []
 with_server server (name ∷ words) = name ∷ server ∷ words
 
--- the words ask for something: for calls to be answered, for events to be told, for a device to be measured, or for
--- the job of another tool
+-- the words ask for something: for calls to be answered, for events to be told, for a device to be measured or
+-- recorded in pieces, or for the job of another tool
 unfoldable pub asks : List (List ℕ) → Bool
 asks words =
-    if names_answer words then is_some (answer_words words)
+    if names_attendant words then is_some (attendant_call words)
+    else if names_answer words then is_some (answer_words words)
     else if names_events words then is_some (events_call words)
     else if names_meter words then is_some (meter_call words)
+    else if names_log words then is_some (log_call words)
     else is_some (job words)
 
 -- the words are valid, so that they are never Usage
 unfoldable pub is_valid : List (List ℕ) → Bool
 is_valid words =
-    if names_answer words then is_answer_spelled words
+    if names_attendant words then is_attendant_spelled words
+    else if names_answer words then is_answer_spelled words
     else if names_events words then is_events_spelled words
     else if names_meter words then is_meter_spelled words
+    else if names_log words then is_log_spelled words
     else is_spelled words
 
 -- these words were run: the stated ones with the text of the variable put in, and they ask for something

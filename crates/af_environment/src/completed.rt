@@ -19,6 +19,7 @@ fn is_tool_of_one(name: &str) -> bool
         || name == "answer"
         || name == "events"
         || name == "meter"
+        || name == "log"
 }
 
 /// Whether the first word names a tool that has one server.

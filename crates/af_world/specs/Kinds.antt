@@ -22,7 +22,7 @@ its_own_sound = told.Loop
 abbrev pub child_program : ℕ → List (List ℕ) → ToldKind
 child_program restarts words = told.Codec restarts words
 
--- a program with this command line that the device goes by, and that is started again so often
+-- a program with this command line that the device has for itself, and that is started again so often
 abbrev pub card_program : CardKind → ℕ → List (List ℕ) → ToldKind
 card_program card restarts words = told.Card card restarts words
 

@@ -33,8 +33,8 @@ pub enum Kind<'a> {
         restarts: u32,
         words: &'a Words,
     },
-    /// Its time is that of a program, one of these words, which is started again so often. The program gives what it captures, is
-    /// given what it hands out, or both.
+    /// It has a program, one of these words, which is started again so often. The program gives what it captures, is given what
+    /// it hands out, or both. Its time is that of the program, except for an encoder.
     Card {
         card: CardKind,
         restarts: u32,

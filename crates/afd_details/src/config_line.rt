@@ -72,7 +72,8 @@ fn check_phone<'a>(mut words: LineWords<'a>, before: &Stated) -> Result<(), Find
     check_program(words, Slot::CardRestarts, LONGEST_WORD)
 }
 
-/// `silent`, `loop`, `files INPUT OUTPUT`, or one of `codec`, `speaker`, `microphone` and `card` with `RESTARTS WORD ..`
+/// `silent`, `loop`, `files INPUT OUTPUT`, or one of `codec`, `speaker`, `microphone`, `card` and `encoder` with
+/// `RESTARTS WORD ..`
 fn check_kind<'a>(
     mut words: LineWords<'a>,
     slot: Slot,

@@ -102,13 +102,13 @@ fn word_expected(slot: Slot) -> &'static str {
 fn kind_expected(stereo: bool, line: bool) -> &'static str {
     match (stereo, line) {
         (true, _) => {
-            "stereo, line or a kind of device was expected: silent, files, loop, codec, speaker, microphone or card"
+            "stereo, line or a kind of device was expected: silent, files, loop, codec, speaker, microphone, card or encoder"
         }
         (false, true) => {
-            "line or a kind of device was expected: silent, files, loop, codec, speaker, microphone or card"
+            "line or a kind of device was expected: silent, files, loop, codec, speaker, microphone, card or encoder"
         }
         (false, false) => {
-            "a kind of device was expected: silent, files, loop, codec, speaker, microphone or card"
+            "a kind of device was expected: silent, files, loop, codec, speaker, microphone, card or encoder"
         }
     }
 }

@@ -102,6 +102,7 @@ fn names_kind(word: &[u8]) -> bool {
         || is_word(word, b"speaker")
         || is_word(word, b"microphone")
         || is_word(word, b"card")
+        || is_word(word, b"encoder")
 }
 
 /// How many bytes a word in hexadecimal states.

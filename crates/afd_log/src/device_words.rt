@@ -73,6 +73,7 @@ fn card_name(card: CardKind) -> &'static str {
         CardKind::Speaker => "speaker",
         CardKind::Microphone => "microphone",
         CardKind::Card => "card",
+        CardKind::Encoder => "encoder",
     }
 }
 

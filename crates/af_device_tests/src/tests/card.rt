@@ -189,6 +189,37 @@ const FULL: [Call; 8] = [
     Call::Due(31, 1),
 ];
 
+// An encoder goes by the clock. It has room for three of six bytes: the frame that was begun is finished, and the third is lost.
+const ENCODER: [Call; 9] = [
+    Call::Due(0, 0),
+    Call::Due(10, 1),
+    Call::Capture(b"\0\0", Put::Done),
+    Call::Emit(b"AB", Put::Done),
+    Call::Due(40, 3),
+    Call::Capture(b"\0\0\0\0\0\0", Put::Done),
+    Call::Emit(b"CDEFGH", Put::Done),
+    Call::Due(40, 0),
+    Call::Due(41, 0),
+];
+
+// It closes its input and is ended, and comes back a second later. Meanwhile, and all the time, the clock ticks.
+const ENCODER_ENDS: [Call; 13] = [
+    Call::Due(0, 0),
+    Call::Due(10, 1),
+    Call::Capture(b"\0\0", Put::Done),
+    Call::Emit(b"AB", Put::Done),
+    Call::Due(20, 1),
+    Call::Capture(b"\0\0", Put::Done),
+    Call::Emit(b"CD", Put::Done),
+    Call::Due(SECOND + 10, 99),
+    Call::Due(SECOND + 20, 1),
+    // started again, once nothing is due
+    Call::Due(SECOND + 20, 0),
+    Call::Due(SECOND + 30, 1),
+    Call::Capture(b"\0\0", Put::Done),
+    Call::Emit(b"EF", Put::Done),
+];
+
 const NOTHING: Plan<'static> = Plan {
     fails: &[],
     output: b"",
@@ -317,6 +348,34 @@ fn a_device_goes_by_its_program(rt: HostRuntime) -> Result<(), Fail> {
                 calls: &FULL,
                 taken: b"ABCD",
                 lost: 0,
+            },
+        ),
+        (
+            "encoder",
+            Run {
+                kind: CardKind::Encoder,
+                restarts: 0,
+                plan: Plan {
+                    takes: &[Some(3), Some(3)],
+                    ..NOTHING
+                },
+                calls: &ENCODER,
+                taken: b"ABCDEF",
+                lost: 1,
+            },
+        ),
+        (
+            "encoder ends",
+            Run {
+                kind: CardKind::Encoder,
+                restarts: 1,
+                plan: Plan {
+                    takes: &[None],
+                    ..NOTHING
+                },
+                calls: &ENCODER_ENDS,
+                taken: b"EF",
+                lost: 1,
             },
         ),
     ];

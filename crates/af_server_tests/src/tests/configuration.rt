@@ -214,6 +214,15 @@ fn a_program_has_restarts_and_words(rt: HostRuntime) -> Result<(), Fail> {
                 &["python3", "grüße.py"],
             )],
         ),
+        (
+            b"device lin16 44100 0 stereo encoder 1000000 ffmpeg -f s16be -i pipe:0 out.ogg",
+            &[(
+                false,
+                Some(CardKind::Encoder),
+                1000000,
+                &["ffmpeg", "-f", "s16be", "-i", "pipe:0", "out.ogg"],
+            )],
+        ),
         // the words of a program may be words that a configuration uses
         (
             b"device lin32 44100 0 stereo speaker 0001000000 line speaker card codec stereo silent",
@@ -224,15 +233,17 @@ fn a_program_has_restarts_and_words(rt: HostRuntime) -> Result<(), Fail> {
                 &["line", "speaker", "card", "codec", "stereo", "silent"],
             )],
         ),
-        // several cards beside a codec
+        // several cards and encoders beside a codec
         (
-            b"device mu255 8000 0 card 101 a\n device lin16 8000 0 codec 1 b\ndevice alaw 8000 0 card 0 a\n\ndevice mu255 8000 0 line microphone 999999 c\ndevice mu255 8000 0 speaker 5 d\n",
+            b"device mu255 8000 0 card 101 a\n device lin16 8000 0 codec 1 b\ndevice alaw 8000 0 card 0 a\n\ndevice mu255 8000 0 line microphone 999999 c\ndevice mu255 8000 0 speaker 5 d\ndevice mu255 8000 0 encoder 0 e\ndevice alaw 8000 0 line encoder 8 f\n",
             &[
                 (false, Some(CardKind::Card), 101, &["a"]),
                 (false, None, 1, &["b"]),
                 (false, Some(CardKind::Card), 0, &["a"]),
                 (true, Some(CardKind::Microphone), 999999, &["c"]),
                 (false, Some(CardKind::Speaker), 5, &["d"]),
+                (false, Some(CardKind::Encoder), 0, &["e"]),
+                (true, Some(CardKind::Encoder), 8, &["f"]),
             ],
         ),
         // eight cards
@@ -310,6 +321,14 @@ fn the_first_faulty_line_is_numbered(rt: HostRuntime) -> Result<(), Fail> {
             (b"device lin16 8000 0 Card 1 cat", 1),
             (b"device lin16 8000 0 speakers 1 cat", 1),
             (b"device lin16 8000 0 mic 1 cat", 1),
+            // an encoder with no restarts, no words, a ninth word, too many restarts, or another name
+            (b"device lin16 8000 0 encoder", 1),
+            (b"device lin16 8000 0 encoder cat", 1),
+            (b"device lin16 8000 0 encoder 1", 1),
+            (b"device lin16 8000 0 encoder 0 1 2 3 4 5 6 7 8 9", 1),
+            (b"device lin16 8000 0 encoder 1000001 cat", 1),
+            (b"device lin16 8000 0 encoders 1 cat", 1),
+            (b"device lin16 8000 0 encode 1 cat", 1),
             (
                 b"device lin16 8000 0 card 1 cat\ndevice lin16 8000 0 codec 1 cat\ndevice lin16 8000 0 card 1 cat\ndevice lin16 8000 0 codec 1 cat",
                 4,

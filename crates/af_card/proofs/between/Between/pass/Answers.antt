@@ -1,8 +1,7 @@
-use Rattle.std.proofs.Common.{◌≡◌, ℕ, List, length, ap, sym, subst, ◌∙◌}
+use Rattle.std.proofs.Common.{◌≡◌, ℕ, true, List, length, ap, sym, subst, ◌∙◌}
 use Rattle.std.specs.declared.option.Option.TheVariants.{None, Some}
-use Rattle.af_world.specs.declared.card_kind.CardKind.TheVariants as kind
 use Rattle.af_card.specs.contracts.between.Between.{the_view}
-use Rattle.af_card.specs.Between.{BetweenState, Accounts, CanEmit}
+use Rattle.af_card.specs.Between.{BetweenState, Accounts, CanEmit, hands_frames}
 use Rattle.af_card.specs.Lost.{lost_after, without_room}
 use Rattle.af_card.proofs.BetweenLemmas.{Accounts-idles, Accounts-no-room, Accounts-passed, empty-where}
 use Rattle.af_card.specs.Passing.{PassesSound}
@@ -18,7 +17,7 @@ returns-clause-fits g c =
     subst (λ n. Accounts (record (the_view c.self.inside) { running = Some c.after_give.result; owed = c.pass_on-took.new.owed; tick = None; lost = n })
     (g.P.Program.acts c.pass_on-took.new.program)) (sym counted)
     (Accounts-passed (the_view c.self.inside) c.in-Some.running c.after_give.result c.args.sound.now c.pass_on-took.result c.pass_on-took.new.owed _ _ _ c.in-Some.is
-    c.after_give.ensures.began can.0 (subst (λ (b : BetweenState). b.shape.kind ≡ kind.Card) (sym c.self.view_is) c.requires.kind)
+    c.after_give.ensures.began can.0 (subst (λ (b : BetweenState). hands_frames b.shape.kind ≡ true) (sym c.self.view_is) c.requires.kind)
     (empty-where c.self.inside.owed c.as_slice.result.now c.as_slice.ensures.bytes (sym c.is_empty.ensures ∙ c.if-not-is_empty.false)) c.note_emitted.ensures.acts c.pass_on-took.ensures
     (subst (λ b. Accounts b (g.P.Program.acts c.args.program.now)) (sym c.self.view_is) c.requires.fits))
 
@@ -27,7 +26,7 @@ returns-then-running-clause-fits g c =
     let can = subst (λ b. CanEmit b (length c.args.sound.now)) (sym c.self.view_is) c.requires.can in
     subst (λ n. Accounts (record (the_view c.self.inside) { tick = None; lost = n }) (g.P.Program.acts c.note_emitted.new.self)) (sym c.lost_after-self-inside.ensures)
     (Accounts-no-room (the_view c.self.inside) c.in-Some.running c.args.sound.now _ _ c.in-Some.is can.0
-    (subst (λ (b : BetweenState). b.shape.kind ≡ kind.Card) (sym c.self.view_is) c.requires.kind) c.note_emitted.ensures.acts
+    (subst (λ (b : BetweenState). hands_frames b.shape.kind ≡ true) (sym c.self.view_is) c.requires.kind) c.note_emitted.ensures.acts
     (subst (λ b. Accounts b (g.P.Program.acts c.args.program.now)) (sym c.self.view_is) c.requires.fits))
 
 pub returns-in_default-clause-fits : goal.returns-in_default-clause-fits

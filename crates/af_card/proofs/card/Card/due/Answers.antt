@@ -12,5 +12,5 @@ returns-then-is_captured-clause-fed g c =
 
 pub returns-then-runs-clause-meets : goal.returns-then-runs-clause-meets
 returns-then-runs-clause-meets g c = λ tick runs.
-    subst (λ (card : CardState _). Meets c.args.at card.between c.due_by_program.new.between (g.P.Program.acts card.program) (g.P.Program.acts c.due_by_program.new.program)) c.self.view_is
-    (meets-after c.args.at c.self.inside.between c.due_by_program.new.between _ _ _ c.tend.ensures.acts c.due_by_program.ensures.meets)
+    subst (λ (card : CardState _). Meets c.args.at card.between c.due_while_it_runs.new.between (g.P.Program.acts card.program) (g.P.Program.acts c.due_while_it_runs.new.program)) c.self.view_is
+    (meets-after c.args.at c.self.inside.between c.due_while_it_runs.new.between _ _ _ c.tend.ensures.acts c.due_while_it_runs.ensures.meets)

@@ -1,0 +1,10 @@
+pub mod EffectLemmas
+pub mod AttendantPartLemmas
+pub mod AttendantStepLemmas
+pub mod HeldOffLemmas
+pub mod StandingLemmas
+pub mod HearLemmas
+pub mod RuleLemmas
+pub mod MachineRuleLemmas
+pub mod MachineLemmas
+pub mod RunLemmas

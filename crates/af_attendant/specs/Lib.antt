@@ -1,0 +1,10 @@
+pub mod Line
+pub mod Ran
+pub mod AttendantTrace
+pub mod AttendantParts
+pub mod Rules
+pub mod HeldOff
+pub mod Attended
+pub mod AttendantArguments
+pub mod AttendantWords
+pub mod AttendantRun

@@ -1,0 +1,10 @@
+pub mod Plans
+pub mod Sound
+pub mod Commands
+pub mod Pieces
+pub mod Keeping
+pub mod Trace
+pub mod Logged
+pub mod LogArguments
+pub mod LogWords
+pub mod LogRun

@@ -1,11 +1,12 @@
 -- The arguments of a machine that hears its caller: they are one simple command of clap, and they ask what its matches state.
-use Rattle.std.specs.Prelude.{ℕ, ◌&&◌, ◌||◌, nat_le, nat_lt, not, if◌then◌else◌, Bool, true, false, List, [], ◌∷◌, Option, Some, None}
-use Rattle.std.specs.Prelude.{codes, eqb, is_some, length}
+use Rattle.std.specs.Prelude.{ℕ, ◌&&◌, ◌||◌, if◌then◌else◌, Bool, true, false, List, [], ◌∷◌, Option, Some, None}
+use Rattle.std.specs.Prelude.{codes, eqb, is_some}
 use Rattle.std.specs.List.{starts_with}
 use Rattle.std.specs.Option.{option_map_or}
 use Rattle.std.specs.Str.{bytes_eq}
 use Rattle.clap.specs.Words.{App, Row, Text, matches_of, takes}
 use Rattle.af_cli.specs.Arguments.{device, server}
+use Rattle.af_cli.specs.Digits.{states_digits}
 use Rattle.af_cli.specs.Numbers.{◌>>=◌}
 use Rattle.af_cli.specs.Words.{address_at, command_app, device_at, is_set, longest_command, number_at, text_at, value_of, wait_at}
 use Rattle.af_answer.specs.declared.job.AnswerJob.{AnswerJob}
@@ -15,7 +16,6 @@ use Rattle.af_attendant.specs.AttendantArguments.{attendant_arguments}
 use Rattle.af_attendant.specs.AttendantArguments as argument
 use Rattle.af_attendant.specs.declared.job.AttendantJob.{AttendantJob}
 use Rattle.af_attendant.specs.declared.options.AttendantCall.{AttendantCall}
-use Rattle.af_attendant.specs.Line.{all_digits, has_digit}
 
 -- the values of a job of an answering machine
 pub record AnswerValues : Type 0 where
@@ -60,19 +60,10 @@ words_of_call call = words_of_job call.server.now call.job
 unfoldable pub attendant_app : App
 attendant_app = command_app (codes "answer") attendant_arguments
 
--- all of these are digits of telephones
-abbrev pub are_digits : List ℕ → Bool
-are_digits [] = true
-are_digits (code ∷ codes) = if has_digit all_digits code then are_digits codes else false
-
--- a text that states digits: at most 16
-abbrev pub digits_in : Text → Option Text
-digits_in text = if not (are_digits text) || nat_lt 16 (length text) then None else Some text
-
 -- the digits that end a command: none, if none are stated
 abbrev pub until_or_none : Option Text → Option Text
 until_or_none None = Some []
-until_or_none (Some text) = digits_in text
+until_or_none (Some text) = if states_digits text then Some text else None
 
 abbrev pub until_at : List Row → Option Text
 until_at rows = until_or_none (value_of argument.until rows)

@@ -1,9 +1,10 @@
 -- What is heard of a telephone line, event by event.
-use Rattle.std.specs.Prelude.{ℕ, ◌+◌, ◌==◌, ◌&&◌, nat_le, nat_lt, if◌then◌else◌, Bool, true, false, List, [], ◌∷◌, ◌++◌, codes, length}
+use Rattle.std.specs.Prelude.{ℕ, ◌+◌, ◌==◌, ◌&&◌, nat_le, nat_lt, if◌then◌else◌, Bool, true, false, List, [], ◌∷◌, ◌++◌, length}
 use Rattle.std.specs.Prelude.{Option, None, Some, is_some, unwrap_or}
 use Rattle.af_wire.specs.declared.event.Event.{Event}
 use Rattle.af_wire.specs.declared.event.EventKind.{EventKind}
 use Rattle.af_wire.specs.declared.event.EventKind.TheVariants as kind
+use Rattle.af_cli.specs.Digits.{all_digits, has_digit}
 use Rattle.af_attendant.specs.declared.job.AttendantJob.{AttendantJob}
 
 -- how often it has rung in a row; the digits since the last hang-up, or since the start; and the digits of a caller who has hung
@@ -15,15 +16,6 @@ pub record LineState : Type 0 where
 
 abbrev pub fresh_line : LineState
 fresh_line = record { rings = 0; digits = []; gone = None }
-
--- the ASCII codes of the digits of telephones
-abbrev pub all_digits : List ℕ
-all_digits = codes "0123456789*#ABCD"
-
--- a code is among these
-abbrev pub has_digit : List ℕ → (code : ℕ) → Bool
-has_digit [] code = false
-has_digit (digit ∷ digits) code = if digit == code then true else has_digit digits code
 
 -- digits, and one that is dialed after them: 64 are kept
 abbrev pub dialed : List ℕ → (code : ℕ) → List ℕ

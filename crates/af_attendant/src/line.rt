@@ -1,15 +1,13 @@
 // What was heard of a telephone line.
 ghost use Rattle.std.specs.Prelude.{◌≡◌, ◌≤◌, length, is_some};
-ghost use Rattle.af_attendant.specs.Line.{all_digits, asks_end, call_digits, dialed, ends_by, fresh_line, has_digit, heard_by, in_call, is_ring, is_taken, line_after, over_call};
+ghost use Rattle.af_attendant.specs.Line.{asks_end, call_digits, dialed, ends_by, fresh_line, heard_by, in_call, is_ring, is_taken, line_after, over_call};
 
 use crate::job::AttendantJob;
+use af_cli::{has_digit, is_digit};
 use af_wire::{Event, EventKind};
 use arrayvec::ArrayString;
 use std::marker::Model;
 use std::mem;
-
-// The digits of telephones.
-const DIGITS: &str = "0123456789*#ABCD";
 
 // The most rings in a row that are counted.
 const MOST_RINGS: u32 = 1000000;
@@ -36,25 +34,6 @@ impl Model for Line {
     } };
 
     ghost invariant = { λ l. (l.rings ≤ 1000000) × (length l.digits.bytes ≤ 64) };
-}
-
-// Whether a code is that of one of these digits.
-fn has_digit(digits: &[u8], code: u32) -> bool
-    ensures { result ≡ has_digit digits.now code }
-{
-    for digit in digits {
-        if u32::from(*digit) == code {
-            return true;
-        }
-    }
-    false
-}
-
-/// Whether a code is that of a digit of telephones.
-pub fn is_digit(code: u32) -> bool
-    ensures { result ≡ has_digit all_digits code }
-{
-    has_digit(DIGITS.as_bytes(), code)
 }
 
 // Keeps a digit, if it is one of telephones and there is room.

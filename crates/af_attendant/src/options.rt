@@ -12,11 +12,9 @@ ghost use Rattle.af_attendant.specs.AttendantArguments.{attendant_arguments};
 ghost use Rattle.af_attendant.specs.AttendantWords.{
   answer_at,
   answer_values,
-  are_digits,
   attendant_app,
   attendant_call,
   attendant_wait,
-  digits_in,
   is_attendant_spelled,
   is_of_attendant,
   names_attendant,
@@ -27,11 +25,10 @@ ghost use Rattle.af_attendant.specs.AttendantWords.{
 };
 
 use crate::job::AttendantJob;
-use crate::line::is_digit;
 use af_answer::{AnswerJob, names_answer};
 use af_cli::{
     Absent, Argument, DEVICE, LONGEST_COMMAND, OptionsFault, SERVER, Values, WAIT, address_at,
-    device_at, matches_for, number_at, text_at, text_of, value_of, wait_at,
+    device_at, is_set, matches_for, number_at, states_digits, text_at, value_of, wait_at,
 };
 use af_io::Args;
 use arrayvec::ArrayString;
@@ -77,7 +74,7 @@ const RINGS: Argument<'static> = Argument {
 
 const UNTIL: Argument<'static> = Argument {
     name: "until",
-    values: Values::Command,
+    values: Values::Digits,
     absent: Absent::Otherwise("no digit ends a command"),
     what: "which digits end a command that runs, 1 to 16 of 0123456789*#ABCD",
 };
@@ -157,48 +154,18 @@ fn calls_at(matches: &ArgMatches<'_>) -> Option<u32>
     number_at(matches, &CALLS)
 }
 
-// The digits that end a command, which are 1 to 16 of those of telephones.
-fn digits_in(text: &str) -> Option<ArrayString<16>>
-    ensures { option_map (λ digits. digits.bytes) result ≡ digits_in text.now }
-{
-    if !are_digits(text.as_bytes()) || text.len() > 16 {
-        return None;
-    }
-    let mut digits = ArrayString::new();
-    digits.push_str(text);
-    Some(digits)
-}
-
-// Whether all of these are digits of telephones.
-fn are_digits(codes: &[u8]) -> bool
-    ensures { result ≡ are_digits codes.now }
-{
-    for code in codes {
-        if !is_digit(u32::from(*code)) {
-            return false;
-        }
-    }
-    true
-}
-
 // The digits that end a command: none, if none are stated.
 fn until_at(matches: &ArgMatches<'_>) -> Option<ArrayString<16>>
     ensures { option_map (λ digits. digits.bytes) result ≡ until_at (rows_of (found_of matches.now)) }
 {
-    match value_of(matches, &UNTIL) {
-        Some(text) => digits_in(text),
-        None => Some(ArrayString::new()),
+    let mut until = ArrayString::new();
+    if let Some(digits) = value_of(matches, &UNTIL) {
+        if !states_digits(digits.as_bytes()) {
+            return None;
+        }
+        until.push_str(digits);
     }
-}
-
-// Whether a flag was given.
-fn is_set(matches: &ArgMatches<'_>, argument: &Argument<'_>) -> bool
-    ensures { result ≡ is_set (as_listed argument.now) (rows_of (found_of matches.now)) }
-{
-    match text_of(matches, argument.name) {
-        Some(value) => value == "true",
-        None => false,
-    }
+    Some(until)
 }
 
 // What an answering machine is asked to do by the matches.

@@ -6,7 +6,7 @@ use Rattle.af_cli.specs.declared.argument.Absent.{Absent}
 use Rattle.af_cli.specs.declared.argument.Absent.TheVariants as absent
 use Rattle.af_cli.specs.declared.argument.Argument.{Argument}
 use Rattle.af_cli.specs.declared.argument.Values.{Values}
-use Rattle.af_cli.specs.declared.argument.Values.TheVariants.{Address, Device, Number, Decibels, SampleType, Form, Order, Switch, DeviceChoice, EventKinds, Command, Flag}
+use Rattle.af_cli.specs.declared.argument.Values.TheVariants.{Address, Device, Number, Decibels, SampleType, Form, Order, Switch, DeviceChoice, EventKinds, Digits, Command, Flag}
 use Rattle.af_cli.specs.declared.tool.Tool.{Tool}
 use Rattle.af_cli.specs.declared.tool.Tool.TheVariants as tool
 use Rattle.af_cli.specs.Lengths.{most_frames, most_seconds}
@@ -65,6 +65,7 @@ rule_by Order a = option_rule a
 rule_by Switch a = option_rule a
 rule_by DeviceChoice a = option_rule a
 rule_by EventKinds a = option_rule a
+rule_by Digits a = option_rule a
 rule_by Command a = option_rule a
 rule_by Flag a = record (new_rule a.name) { long = Some a.name; action = Some SetTrue }
 

@@ -2,6 +2,7 @@ pub mod Sizes
 pub mod Lengths
 pub mod Numbers
 pub mod Events
+pub mod Digits
 pub mod Arguments
 pub mod Words
 pub mod Ranges

@@ -7,7 +7,7 @@ use Rattle.std.specs.Option.{option_map_or, option_or}
 use Rattle.af_limits.specs.Limits.{longest_address, most_devices}
 use Rattle.clap.specs.Words.{App, Row, Rule, Text, first_of, matches_of, new_app, takes, with_rule}
 use Rattle.af_cli.specs.declared.argument.Values.{Values}
-use Rattle.af_cli.specs.declared.argument.Values.TheVariants.{Address, Device, Number, Decibels, SampleType as NamedType, Form, Order as NamedOrder, Switch, DeviceChoice, EventKinds, Command, Flag}
+use Rattle.af_cli.specs.declared.argument.Values.TheVariants.{Address, Device, Number, Decibels, SampleType as NamedType, Form, Order as NamedOrder, Switch, DeviceChoice, EventKinds, Digits, Command, Flag}
 use Rattle.af_cli.specs.declared.job.PassJob.{PassJob}
 use Rattle.af_cli.specs.declared.job.PlayJob.{PlayJob}
 use Rattle.af_cli.specs.declared.job.RecordJob.{RecordJob}
@@ -23,6 +23,7 @@ use Rattle.af_text.specs.Sound.{type_of}
 use Rattle.af_wire.specs.declared.order.Order.{Order}
 use Rattle.af_cli.specs.Arguments.{Listed, rule_for, tool_arguments}
 use Rattle.af_cli.specs.Arguments as argument
+use Rattle.af_cli.specs.Digits.{states_digits}
 use Rattle.af_cli.specs.Events.{choice_in, kinds_in}
 use Rattle.af_cli.specs.Numbers.{◌>>=◌, form_in, gain_in, if_there, number_in, order_in, switch_in}
 
@@ -51,6 +52,7 @@ number_by NamedOrder text = None
 number_by Switch text = None
 number_by DeviceChoice text = None
 number_by EventKinds text = None
+number_by Digits text = None
 number_by Command text = None
 number_by Flag text = None
 
@@ -70,6 +72,7 @@ has_value NamedOrder text = is_some (order_in text)
 has_value Switch text = is_some (switch_in (codes "on") (codes "off") text)
 has_value DeviceChoice text = is_some (choice_in text)
 has_value EventKinds text = is_some (kinds_in text)
+has_value Digits text = states_digits text
 has_value Command text = nat_le 1 (length text) && nat_le (length text) longest_command
 has_value Flag text = true
 

@@ -25,6 +25,8 @@ pub enum Values {
     DeviceChoice,
     /// Names of kinds of events.
     EventKinds,
+    /// Digits of telephones.
+    Digits,
     /// A text for a shell.
     Command,
     /// There is none: the argument is a flag.

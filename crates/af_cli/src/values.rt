@@ -3,6 +3,7 @@ ghost use Rattle.std.specs.Prelude.{◌≡◌};
 ghost use Rattle.af_cli.specs.Words.{has_value, number_by};
 
 use crate::argument::{Argument, Values};
+use crate::digits::states_digits;
 use crate::events::{choice_in, kinds_in};
 use crate::number::{form_in, gain_in, number_in, order_in, switch_in};
 use af_limits::{LONGEST_ADDRESS, MOST_DEVICES};
@@ -40,6 +41,7 @@ impl Values {
             Values::Switch => switch_in("on", "off", text).is_some(),
             Values::DeviceChoice => choice_in(text).is_some(),
             Values::EventKinds => kinds_in(text).is_some(),
+            Values::Digits => states_digits(bytes),
             Values::Command => 1 <= text.len() && text.len() <= LONGEST_COMMAND,
             Values::Flag => true,
         }
@@ -65,6 +67,7 @@ impl fmt::Display for Values {
                 write!(f, "0..{last}|all")
             }
             Values::EventKinds => f.write_str("ring,digit,loop,hook"),
+            Values::Digits => f.write_str("DIGITS"),
             Values::Command => f.write_str("COMMAND"),
             Values::Flag => Ok(()),
         }

@@ -40,8 +40,8 @@ pub fn number_at<'a>(matches: &ArgMatches<'a>, argument: &Argument<'a>) -> Optio
     argument.values.number(value_of(matches, argument)?)
 }
 
-// The frames of a block.
-fn block_at(matches: &ArgMatches<'_>) -> Option<u32>
+/// The frames of a block.
+pub fn block_at(matches: &ArgMatches<'_>) -> Option<u32>
     ensures value { result ≡ block_at (rows_of (found_of matches.now)) }
     ensures range { IfSome result (λ block. (1 ≤ block) × (block ≤ 4000)) }
 {
@@ -109,8 +109,8 @@ pub fn stated_number_at<'a>(
     }
 }
 
-// A sample type, if one was given.
-fn type_at(matches: &ArgMatches<'_>) -> Option<Option<SampleType>>
+/// A sample type, if one was given.
+pub fn type_at(matches: &ArgMatches<'_>) -> Option<Option<SampleType>>
     ensures { result ≡ type_at (rows_of (found_of matches.now)) }
 {
     match value_of(matches, &TYPE) {
@@ -133,8 +133,8 @@ fn gain_at(matches: &ArgMatches<'_>) -> Option<Gain>
     gain_in(value_of(matches, &GAIN)?.as_bytes())
 }
 
-// Whether a flag was given.
-fn is_set(matches: &ArgMatches<'_>, argument: &Argument<'_>) -> bool
+/// Whether a flag was given.
+pub fn is_set(matches: &ArgMatches<'_>, argument: &Argument<'_>) -> bool
     ensures { result ≡ is_set (as_listed argument.now) (rows_of (found_of matches.now)) }
 {
     match text_of(matches, argument.name) {

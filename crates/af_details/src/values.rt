@@ -1,5 +1,5 @@
 // The values that an option takes, in words.
-use af_cli::{LONGEST_COMMAND, Values};
+use af_cli::{LONGEST_COMMAND, MOST_DIGITS, Values};
 use std::fmt;
 use std::fmt::{Formatter, Write};
 
@@ -12,6 +12,7 @@ impl fmt::Display for Wanted {
         let values = self.0;
         match values {
             Values::Command => write!(f, "a command of 1 to {LONGEST_COMMAND} bytes"),
+            Values::Digits => write!(f, "1 to {MOST_DIGITS} digits of 0123456789*#ABCD"),
             Values::EventKinds => write!(f, "one or more of {values}"),
             _ => write!(f, "{values}"),
         }

@@ -5,8 +5,8 @@
 ghost use Rattle.std.specs.Prelude.{◌≡◌};
 ghost use Rattle.af.specs.Statuses.{answer_status, events_status, tool_status};
 
-use af_answer::{AnswerEnd, answer_run, names_answer};
-use af_attendant::{attendant_run, names_attendant};
+use af_answer::{AnswerEnd, answer_run};
+use af_attendant::attendant_run;
 use af_cli::{Call, true_form_of};
 use af_command::SystemRunner;
 use af_details::{
@@ -14,14 +14,14 @@ use af_details::{
     states_option, tell_answer, tell_events, tell_log, tell_meter, tell_no_text, tell_output,
     tell_tool, tell_typed,
 };
-use af_environment::{completed_words, server_variable, tell_server_variable};
-use af_events::{EventsEnd, events_run, names_events};
+use af_environment::{Named, completed_words, named, server_variable, tell_server_variable};
+use af_events::{EventsEnd, events_run};
 use af_io::{
     Args, StdSink, StdSource, TcpDial, WordsFault, open_standard_streams, program_words,
     wants_details,
 };
-use af_logger::{StdCommands, log_run, names_log};
-use af_meter::{meter_run, names_meter};
+use af_logger::{StdCommands, log_run};
+use af_meter::meter_run;
 use af_patience::{NetFaults, PatientDial, ToolNet};
 use af_process::StdSpawner;
 use af_sound::SoundForm;
@@ -187,69 +187,69 @@ fn run_with_server(rt: &HostRuntime, stated: Args, details: bool) -> u8 {
 
 // Runs the tool that the arguments name. It answers the exit status, and the end of a tool that means the same.
 fn run_tool(rt: &HostRuntime, words: &Args, details: bool) -> (u8, Option<ToolEnd>) {
-    if names_attendant(words) {
-        let end = attend_hearing(rt, words, details);
-        (answer_status_of(end), as_tool_end(end))
-    } else if names_answer(words) {
-        let end = attend(rt, words, details);
-        (answer_status_of(end), as_tool_end(end))
-    } else if names_events(words) {
-        let end = tell_lines(rt, words, details);
-        match end {
-            EventsEnd::Tool(ended) => (events_status_of(end), Some(ended)),
-            EventsEnd::NoLine { device: _ } => (events_status_of(end), None),
+    match named(words) {
+        Named::Attendant => {
+            let end = attend_hearing(rt, words, details);
+            (answer_status_of(end), as_tool_end(end))
         }
-    } else if names_meter(words) {
-        let end = measure(rt, words, details);
-        (status_of(end), Some(end))
-    } else if names_log(words) {
-        let end = record_pieces(rt, words, details);
-        (status_of(end), Some(end))
-    } else {
-        if details {
-            tell_typed(rt, rt.alloc(), words);
+        Named::Answer => {
+            let end = attend(rt, words, details);
+            (answer_status_of(end), as_tool_end(end))
         }
-        let end = run(rt, words, details);
-        (status_of(end), Some(end))
+        Named::Events => {
+            let end = tell_lines(rt, words, details);
+            let ended = match end {
+                EventsEnd::Tool(ended) => Some(ended),
+                EventsEnd::NoLine { device: _ } => None,
+            };
+            (events_status_of(end), ended)
+        }
+        Named::Meter => {
+            let end = measure(rt, words, details);
+            (status_of(end), Some(end))
+        }
+        Named::Log => {
+            let end = record_pieces(rt, words, details);
+            (status_of(end), Some(end))
+        }
+        Named::Other => {
+            if details {
+                tell_typed(rt, rt.alloc(), words);
+            }
+            let end = run(rt, words, details);
+            (status_of(end), Some(end))
+        }
     }
 }
 
 // For how many seconds the arguments have a refused dial tried again. Those that ask for nothing dial nobody.
 fn wait_of(rt: &HostRuntime, words: &Args) -> u32 {
-    if names_attendant(words) {
-        return match af_attendant::call_of(rt.alloc(), words) {
+    match named(words) {
+        Named::Attendant => match af_attendant::call_of(rt.alloc(), words) {
             Ok(call) => call.wait,
             Err(_) => 0,
-        };
-    }
-    if names_answer(words) {
-        return match af_answer::call_of(rt.alloc(), words) {
+        },
+        Named::Answer => match af_answer::call_of(rt.alloc(), words) {
             Ok(call) => call.wait,
             Err(_) => 0,
-        };
-    }
-    if names_events(words) {
-        return match af_events::call_of(rt.alloc(), words) {
+        },
+        Named::Events => match af_events::call_of(rt.alloc(), words) {
             Ok(call) => call.wait,
             Err(_) => 0,
-        };
-    }
-    if names_meter(words) {
-        return match af_meter::call_of(rt.alloc(), words) {
+        },
+        Named::Meter => match af_meter::call_of(rt.alloc(), words) {
             Ok(call) => call.wait,
             Err(_) => 0,
-        };
-    }
-    if names_log(words) {
-        return match af_logger::call_of(rt.alloc(), words) {
+        },
+        Named::Log => match af_logger::call_of(rt.alloc(), words) {
             Ok(call) => call.wait,
             Err(_) => 0,
-        };
-    }
-    match af_cli::call_of(rt.alloc(), words) {
-        Ok(Call::One(call)) => call.wait,
-        Ok(Call::Relay(call)) => call.wait,
-        Err(_) => 0,
+        },
+        Named::Other => match af_cli::call_of(rt.alloc(), words) {
+            Ok(Call::One(call)) => call.wait,
+            Ok(Call::Relay(call)) => call.wait,
+            Err(_) => 0,
+        },
     }
 }
 

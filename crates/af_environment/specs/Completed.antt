@@ -6,6 +6,8 @@ use Rattle.af_attendant.specs.AttendantWords.{attendant_call, is_attendant_spell
 use Rattle.af_events.specs.EventsWords.{events_call, is_events_spelled, names_events}
 use Rattle.af_logger.specs.LogWords.{is_log_spelled, log_call, names_log}
 use Rattle.af_meter.specs.MeterWords.{is_meter_spelled, meter_call, names_meter}
+use Rattle.af_environment.specs.declared.named.Named.{Named}
+use Rattle.af_environment.specs.declared.named.Named.TheVariants as tool
 
 -- the tools that have one server
 abbrev pub is_tool_of_one : List ℕ → Bool
@@ -24,26 +26,40 @@ abbrev pub with_server : List ℕ → List (List ℕ) → List (List ℕ)
 with_server server [] = []
 with_server server (name ∷ words) = name ∷ server ∷ words
 
+-- what the words name
+abbrev pub named : List (List ℕ) → Named
+named words =
+    if names_attendant words then tool.Attendant
+    else if names_answer words then tool.Answer
+    else if names_events words then tool.Events
+    else if names_meter words then tool.Meter
+    else if names_log words then tool.Log
+    else tool.Other
+
 -- the words ask for something: for calls to be answered, for events to be told, for a device to be measured or
 -- recorded in pieces, or for the job of another tool
+abbrev pub asks_as : Named → List (List ℕ) → Bool
+asks_as tool.Attendant words = is_some (attendant_call words)
+asks_as tool.Answer words = is_some (answer_words words)
+asks_as tool.Events words = is_some (events_call words)
+asks_as tool.Meter words = is_some (meter_call words)
+asks_as tool.Log words = is_some (log_call words)
+asks_as tool.Other words = is_some (job words)
+
 unfoldable pub asks : List (List ℕ) → Bool
-asks words =
-    if names_attendant words then is_some (attendant_call words)
-    else if names_answer words then is_some (answer_words words)
-    else if names_events words then is_some (events_call words)
-    else if names_meter words then is_some (meter_call words)
-    else if names_log words then is_some (log_call words)
-    else is_some (job words)
+asks words = asks_as (named words) words
 
 -- the words are valid, so that they are never Usage
+abbrev pub is_valid_as : Named → List (List ℕ) → Bool
+is_valid_as tool.Attendant words = is_attendant_spelled words
+is_valid_as tool.Answer words = is_answer_spelled words
+is_valid_as tool.Events words = is_events_spelled words
+is_valid_as tool.Meter words = is_meter_spelled words
+is_valid_as tool.Log words = is_log_spelled words
+is_valid_as tool.Other words = is_spelled words
+
 unfoldable pub is_valid : List (List ℕ) → Bool
-is_valid words =
-    if names_attendant words then is_attendant_spelled words
-    else if names_answer words then is_answer_spelled words
-    else if names_events words then is_events_spelled words
-    else if names_meter words then is_meter_spelled words
-    else if names_log words then is_log_spelled words
-    else is_spelled words
+is_valid words = is_valid_as (named words) words
 
 -- these words were run: the stated ones with the text of the variable put in, and they ask for something
 pub record IsPutIn (server : Option (List ℕ)) (words run : List (List ℕ)) : Type 0 where

@@ -3,7 +3,9 @@
 
 mod completed;
 mod judged;
+mod named;
 mod variable;
 
 pub use completed::completed_words;
+pub use named::{Named, named};
 pub use variable::{ServerVariable, server_variable, tell_server_variable};

@@ -10,7 +10,7 @@ ghost use Rattle.af_toolkit.specs.Ends.{is_of_link_or_sink, KeepsConnection};
 ghost use Rattle.af_toolkit.specs.Talk.{creates};
 ghost use Rattle.af_toolkit.specs.ToolParts.{GoesOver};
 ghost use Rattle.af_logger.specs.Commands.{IfSeen, NoneRuns};
-ghost use Rattle.af_logger.specs.Logged.{is_of_log, RunsLogger, RunsSent};
+ghost use Rattle.af_logger.specs.Logged.{is_of_log, RunsSent};
 ghost use Rattle.af_logger.specs.Keeping.{IsDeskOf, IsLogger, IsWhole, LeavesLogger};
 ghost use Rattle.af_logger.specs.Plans.{count_of, plan_of, IsLogJob, IsPlan};
 ghost use Rattle.af_logger.specs.Trace.{log_context, logs_all, logs_on, start_of};
@@ -127,11 +127,6 @@ pub fn log<L: Link + Drop, C: Commands, K: Sink>(
 
     // on its link it does as its trace
     ensures sent { RunsSent L.left L.sent job.now result conn.old conn.new }
-
-    // what was sent, which pieces came, what each command was started with and took, which lines were written, and when it is
-    // done
-    ensures ran { RunsLogger L.left L.sent C.desk K.held job.now result conn.old conn.new
-        commands.old commands.new sink.old sink.new }
 
     // each end has its cause: NoDevice, with the number of devices, exactly if the device is missing
     ensures end { is_of_log result ≡ true }

@@ -3,9 +3,8 @@ ghost use Rattle.std.specs.Prelude.{◌≡◌, ◌<◌, ◌≤◌, true, false, 
 ghost use Rattle.std.specs.declared.option.Option.TheVariants.{Some};
 ghost use Rattle.clap.specs.Words.{found_of, kind_of, matches_of, rows_of, takes};
 ghost use Rattle.af_cli.specs.Ranges.{IsAddress};
-ghost use Rattle.af_cli.specs.Arguments.{as_listed, block};
-ghost use Rattle.af_cli.specs.Numbers.{form_in};
-ghost use Rattle.af_cli.specs.Words.{longest_command, number_at, stated_number_at, text_at, type_at, wait_at};
+ghost use Rattle.af_cli.specs.Arguments.{as_listed};
+ghost use Rattle.af_cli.specs.Words.{longest_command, number_at, stated_number_at, text_at, wait_at};
 ghost use Rattle.af_logger.specs.Plans.{IsLogJob};
 ghost use Rattle.af_logger.specs.LogArguments.{count, every, log_arguments};
 ghost use Rattle.af_logger.specs.LogWords.{form_at, log_app, log_call, log_in, log_wait, is_log_spelled, names_log, words_of_call};
@@ -13,13 +12,11 @@ ghost use Rattle.af_logger.specs.LogWords.{form_at, log_app, log_call, log_in, l
 use crate::job::LogJob;
 use af_cli::{
     Absent, Argument, DEVICE, LONGEST_COMMAND, ORDER, OptionsFault, SERVER, Values, WAIT,
-    address_at, device_at, matches_for, number_at, order_at, stated_number_at, text_at, value_of,
-    wait_at,
+    address_at, block_at, device_at, form_in, matches_for, number_at, order_at, stated_number_at,
+    text_at, type_at, value_of, wait_at,
 };
 use af_io::Args;
-use af_sample::SampleType;
 use af_sound::SoundForm;
-use af_text::sample_type;
 use af_wire::Order;
 use arrayvec::ArrayString;
 use clap::error::ErrorKind;
@@ -117,44 +114,11 @@ fn command_at(matches: &ArgMatches<'_>) -> Option<ArrayString<200>>
     Some(copy)
 }
 
-// The form of a sound file by its name, or none where the name says that a piece is samples.
-fn form_of(text: &str) -> Option<Option<SoundForm>>
-    ensures { result ≡ form_in text.now }
-{
-    if text == "raw" {
-        Some(None)
-    } else if text == "au" {
-        Some(Some(SoundForm::Au))
-    } else if text == "wave" {
-        Some(Some(SoundForm::Wave))
-    } else {
-        None
-    }
-}
-
 // What a piece is.
 fn form_at(matches: &ArgMatches<'_>) -> Option<Option<SoundForm>>
     ensures { result ≡ form_at (rows_of (found_of matches.now)) }
 {
-    form_of(value_of(matches, &FILE)?)
-}
-
-// The type of the samples, if one is stated.
-fn type_at(matches: &ArgMatches<'_>) -> Option<Option<SampleType>>
-    ensures { result ≡ type_at (rows_of (found_of matches.now)) }
-{
-    match value_of(matches, &TYPE) {
-        Some(text) => Some(Some(sample_type(text.as_bytes())?)),
-        None => Some(None),
-    }
-}
-
-// The frames of a block.
-fn block_at(matches: &ArgMatches<'_>) -> Option<u32>
-    ensures value { result ≡ number_at block (rows_of (found_of matches.now)) }
-    ensures range { IfSome result (λ block. (1 ≤ block) × (block ≤ 4000)) }
-{
-    number_at(matches, &BLOCK)
+    form_in(value_of(matches, &FILE)?)
 }
 
 // The seconds of a piece.

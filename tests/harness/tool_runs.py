@@ -14,10 +14,12 @@ from worked_links import items_of
 
 RUNS = os.path.join(ROOT, "tests", "tools")
 FILES = {
-    "words", "variable", "source", "server.gives", "server.sent", "other.gives", "other.sent", "resets", "fails", "output",
-    "output.text", "status", "text"}
+    "words", "variable", "path", "source", "server.gives", "server.sent", "other.gives", "other.sent", "resets", "fails", "output",
+    "output.text", "errors", "status", "text"}
 # the variable that names a server
 VARIABLE = "AUDIOFILE_SERVER"
+# and the one that says where commands are looked up
+PATH = "PATH"
 # where the reply to a setup states the channels of the first device
 CHANNELS_AT = 17
 # tools that write while they still ask; the others write when they are done
@@ -37,19 +39,22 @@ class BadRun(Exception):
 @dataclass
 class Peer:
     """A server: what it gives; what it is to be sent, or None if it is not to be dialled; and whether it resets its link then. If
-    turns are stated, a list of pairs, it gives each its answer, and ends or resets its link after the last."""
+    turns are stated, a list of pairs, it gives each its answer, and ends or resets its link after the last. If commands are looked
+    at, it may be asked for the time more often than that."""
 
     gives: bytes = b""
     sent: bytes | None = None
     resets: bool = False
     turns: list | None = None
+    looks: bool = False
 
 
 @dataclass
 class Run:
     """A run of the program, and what it is to come to. Where it is cut off, servers may be sent less. Where a number of kibibytes
     is stated, it may take only so much memory. Its output may be a file with room for so many bytes, and its source may break
-    off. The variable AUDIOFILE_SERVER has this text, or is not set."""
+    off. The variable AUDIOFILE_SERVER has this text, or is not set. Its commands are looked up in this path, and write these lines
+    to standard error."""
 
     name: str
     words: list
@@ -65,11 +70,22 @@ class Run:
     room: int | None = None
     breaks: bool = False
     variable: str | None = None
+    path: str | None = None
+    errors: str = ""
 
     def environment(self, addresses):
         """The environment of the run, where SERVER and OTHER stand for these addresses."""
         environ = {name: it for name, it in os.environ.items() if name != VARIABLE}
+        if self.path is not None:
+            environ[PATH] = self.path
         return environ if self.variable is None else {**environ, VARIABLE: addresses.get(self.variable, self.variable)}
+
+    def said(self, addresses):
+        """What stands on standard error."""
+        commands = self.errors
+        for name, address in addresses.items():
+            commands = commands.replace("{%s}" % name, address)
+        return commands + ("af: %s\n" % self.text if self.text else "")
 
 
 def bytes_in(text, where):
@@ -117,15 +133,28 @@ def read_runs(name, runs=RUNS, more=frozenset()):
     if not lists:
         raise BadRun("words has no list")
     names = [name] if len(lists) == 1 else ["%s (%s)" % (name, " ".join(words)) for words in lists]
-    variable = texts["variable"].rstrip("\n") if "variable" in texts else None
+    variable, path = (texts[file].rstrip("\n") if file in texts else None for file in ("variable", "path"))
     runs = [
-        Run(called, words, stated("source") or b"", peers, output, status, text, variable=variable)
+        Run(called, words, stated("source") or b"", looking(words, peers), output, status, text, variable=variable, path=path,
+            errors=texts.get("errors", ""))
         for called, words in zip(names, lists)
     ]
     fails = texts.get("fails", "").split()
     if not set(fails) <= FAILING.keys():
         raise BadRun("fails has words out of %s" % ", ".join(FAILING))
     return runs + [failing for each in fails for failing in FAILING[each](runs[0])]
+
+
+def hears_its_caller(words):
+    """Whether these are the words of an answering machine that hears its caller."""
+    return words[:1] == ["answer"] and any(word == "--hang-up" or word.startswith("--until") for word in words)
+
+
+def looking(words, peers):
+    """The servers of a run: one of a machine that hears its caller goes by turns."""
+    if not hears_its_caller(words):
+        return peers
+    return {word: replace(peer, turns=pieces(talk_of(peer)), looks=True) if peer.sent else peer for word, peer in peers.items()}
 
 
 def requests_of(peer):
@@ -142,11 +171,14 @@ def joined(items):
 
 def asks_on(run):
     """Whether it writes while it still asks: events do for a time."""
-    return run.words[0] in ASKING_ON or any(word.startswith("--for=") for word in run.words)
+    return run.words[0] in ASKING_ON or any(word.startswith("--for=") for word in run.words) or hears_its_caller(run.words)
 
 
-def turns_of(peer):
-    """Each request with what answers it: a reply, and before it events."""
+def turns_of(run, peer):
+    """Each request with what answers it: a reply, and before it events. A machine that hears its caller waits for events without a
+    request, so there they follow the reply."""
+    if hears_its_caller(run.words):
+        return talk_of(peer)
     answers, events = [], []
     for item in replies_of(peer):
         events.append(item)
@@ -154,6 +186,36 @@ def turns_of(peer):
             answers.append(events)
             events = []
     return list(zip(requests_of(peer), answers))
+
+
+def talk_of(peer):
+    """Each request with what is given from its reply on, up to the next one: the reply, and then events. What is given to no request
+    comes after the last one."""
+    answers = []
+    for item in replies_of(peer):
+        if item.kind == "event" and answers:
+            answers[-1].append(item)
+        else:
+            answers.append([item])
+    asked = requests_of(peer)
+    if len(answers) > len(asked):
+        raise BadRun("more is given than is asked for")
+    return list(zip(asked, answers + [[]] * (len(asked) - len(answers))))
+
+
+def pieces(talk):
+    """The same as bytes."""
+    return [(request.octets, joined(answer)) for request, answer in talk]
+
+
+def later(messages, more):
+    """Messages whose sequence numbers are greater by so much."""
+    moved, at = bytearray(messages), 0
+    while at + 8 <= len(moved):
+        number, words = struct.unpack_from(">HI", moved, at + 2)
+        struct.pack_into(">H", moved, at + 2, (number + more) % 65536)
+        at += 8 + 4 * words
+    return bytes(moved)
 
 
 def recorded(replies):
@@ -164,7 +226,11 @@ def recorded(replies):
 def written(run, replies):
     """How many bytes are written after these replies. A list has a line for each device once its time is known, and a meter one
     for each interval once that was recorded. Events for a time have theirs after the reply that they came before, if that tells the
-    time. A sound file has a header, which is written once the time is known, and may have a pad byte after the last block."""
+    time. A machine has one for each call once the hook is on again. A sound file has a header, which is written once the time is
+    known, and may have a pad byte after the last block."""
+    if hears_its_caller(run.words):
+        calls = sum(reply.name == "HookSwitch" for reply in replies) // 2
+        return sum(len(line) for line in run.output.splitlines(keepends=True)[:calls])
     if run.words[0] in LINES:
         told = sum(reply.name == LINES[run.words[0]] for reply in replies)
         return sum(len(line) for line in run.output.splitlines(keepends=True)[:told])
@@ -185,9 +251,11 @@ def failing_links(run):
     """The runs in which each write to a link in turn fails, and each read of it fails or meets the end, at once or in the middle
     of a reply. A write fails at the latest when its reply is read."""
     for word, peer in run.peers.items():
-        turns = [(request.octets, joined(answer)) for request, answer in turns_of(peer)] if peer.sent else []
+        talk = turns_of(run, peer) if peer.sent else []
+        turns = pieces(talk)
         for at, (request, reply) in enumerate(turns):
-            before, half = turns[:at], reply[: len(reply) // 2]
+            first = len(talk[at][1][0].octets) if peer.looks else len(reply)
+            before, half = turns[:at], reply[: first // 2]
             yield failing_link(run, word, before, True, "write %d to %s fails" % (at, word))
             for resets, how in ((True, "fails"), (False, "meets the end")):
                 yield failing_link(run, word, [*before, (request, b"")], resets, "read %d of %s %s" % (at, word, how))
@@ -199,7 +267,7 @@ def failing_link(run, word, turns, resets, how):
     up, it is not dialled."""
     sent, given = (b"".join(each) for each in zip(*turns)) if turns else (b"", b"")
     whole = items_of(sent, given)[1]
-    peers = {**run.peers, word: Peer(given, sent, resets, turns)}
+    peers = {**run.peers, word: Peer(given, sent, resets, turns, run.peers[word].looks)}
     if word == "SERVER" and not whole:
         peers["OTHER"] = Peer()
     output = run.output[: written(run, whole)] if asks_on(run) else b""
@@ -228,9 +296,11 @@ def failing_sink(run):
     for room in range(len(run.output)):
         peers = run.peers
         if asks_on(run):
-            turns = turns_of(peers["SERVER"])
-            asked = next(at for at in range(len(turns)) if written(run, sum((answer for _, answer in turns[: at + 1]), [])) > room)
-            peers = {**peers, "SERVER": replace(peers["SERVER"], sent=joined(request for request, _ in turns[: asked + 1]))}
+            turns = turns_of(run, peers["SERVER"])
+            told = (at for at in range(len(turns)) if written(run, sum((answer for _, answer in turns[: at + 1]), [])) > room)
+            turns = turns[: next(told, len(turns)) + 1]
+            peer = replace(peers["SERVER"], sent=joined(request for request, _ in turns))
+            peers = {**peers, "SERVER": replace(peer, turns=pieces(turns)) if peer.looks else peer}
         yield replace(
             run, name="%s, its sink fails after %d bytes" % (run.name, room), peers=peers, output=run.output[:room], room=room, status=6,
             text="write failed")

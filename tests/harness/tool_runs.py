@@ -247,6 +247,24 @@ def written(run, replies):
     return len(run.output) - pad - recorded(whole) + recorded(replies)
 
 
+def output_after(run, replies):
+    """What is written where a link is cut after these replies."""
+    if run.words[0] == "log":
+        return log_line(run, recorded(replies))
+    return run.output[: written(run, replies)] if asks_on(run) else b""
+
+
+def log_line(run, size):
+    """The line of a log of one piece that is cut after so many bytes. What it lost is to have been lost in its first block."""
+    if not size:
+        return b""
+    whole = sum(request.fields["count"] for request in requests_of(run.peers["SERVER"]) if request.name == "Record")
+    words = run.output.split(b" ")
+    at = words.index(b"frames") + 1
+    words[at] = b"%d" % (int(words[at]) * size // whole)
+    return b" ".join(words)
+
+
 def failing_links(run):
     """The runs in which each write to a link in turn fails, and each read of it fails or meets the end, at once or in the middle
     of a reply. A write fails at the latest when its reply is read."""
@@ -270,7 +288,7 @@ def failing_link(run, word, turns, resets, how):
     peers = {**run.peers, word: Peer(given, sent, resets, turns, run.peers[word].looks)}
     if word == "SERVER" and not whole:
         peers["OTHER"] = Peer()
-    output = run.output[: written(run, whole)] if asks_on(run) else b""
+    output = output_after(run, whole)
     status, text = (13, "link failed") if resets else (14, "link ended")
     return replace(run, name="%s, %s" % (run.name, how), peers=peers, output=output, status=status, text=text, cut=True)
 

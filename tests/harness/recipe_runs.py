@@ -26,10 +26,11 @@ CONTRIBUTED = [
     "audiofile-meter"]
 # programs that a machine may lack, and where a shell finds the name of one
 OPTIONAL = [
-    "aplay", "arecord", "curl", "espeak-ng", "ffmpeg", "make", "nc", "pacat", "parec", "pv", "pw-cat", "rt", "sox", "tshark"]
+    "aplay", "arecord", "curl", "espeak-ng", "ffmpeg", "icecast2", "make", "nc", "pacat", "parec", "pv", "pw-cat", "rt", "sox",
+    "tshark"]
 CALLED = r"(?:^|[|;&(])\s*(?:[A-Z_]+=[^\s(]*\s+)*(?:exec\s+)?(%s)\b" % "|".join(map(re.escape, OPTIONAL))
-# an address of a page
-ADDRESS = re.compile(r"(127\.0\.0\.1[: ])(\d{4,5})\b")
+# an address of a page, or the port in a configuration of icecast
+ADDRESS = re.compile(r"(127\.0\.0\.1[: ]|<port>)(\d{4,5})\b")
 # what differs from run to run: device times, counts of what was late and by how much, ports of clients, process numbers
 DIFFERS = [
     (r"\b(at|from|now) \d+\b", r"\1 *"), (r"^(\d (?:mu255|alaw|lin16|lin32) \d+ [12]) \d+ ", r"\1 * "), (r"\d+ frames in \d+ blocks?", "* frames in * blocks"), (r"resynced \d+", "resynced *"),

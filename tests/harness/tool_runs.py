@@ -14,8 +14,8 @@ from worked_links import items_of
 
 RUNS = os.path.join(ROOT, "tests", "tools")
 FILES = {
-    "words", "variable", "path", "source", "server.gives", "server.sent", "other.gives", "other.sent", "resets", "fails", "output",
-    "output.text", "errors", "status", "text"}
+    "words", "variable", "path", "source", "server.gives", "server.sent", "other.gives", "other.sent", "resets", "fails",
+    "output", "output.text", "errors", "status", "text"}
 # the variable that names a server
 VARIABLE = "AUDIOFILE_SERVER"
 # and the one that says where commands are looked up
@@ -39,8 +39,8 @@ class BadRun(Exception):
 @dataclass
 class Peer:
     """A server: what it gives; what it is to be sent, or None if it is not to be dialled; and whether it resets its link then. If
-    turns are stated, a list of pairs, it gives each its answer, and ends or resets its link after the last. If commands are looked
-    at, it may be asked for the time more often than that."""
+    turns are stated, a list of pairs, it gives each its answer, and ends or resets its link after the last. If commands are
+    looked at, it may be asked for the time more often than that."""
 
     gives: bytes = b""
     sent: bytes | None = None
@@ -53,8 +53,8 @@ class Peer:
 class Run:
     """A run of the program, and what it is to come to. Where it is cut off, servers may be sent less. Where a number of kibibytes
     is stated, it may take only so much memory. Its output may be a file with room for so many bytes, and its source may break
-    off. The variable AUDIOFILE_SERVER has this text, or is not set. Its commands are looked up in this path, and write these lines
-    to standard error."""
+    off. The variable AUDIOFILE_SERVER has this text, or is not set. Its commands are looked up in this path, and write these
+    lines to standard error."""
 
     name: str
     words: list
@@ -175,8 +175,8 @@ def asks_on(run):
 
 
 def turns_of(run, peer):
-    """Each request with what answers it: a reply, and before it events. A machine that hears its caller waits for events without a
-    request, so there they follow the reply."""
+    """Each request with what answers it: a reply, and before it events. A machine that hears its caller waits for events without
+    a request, so there they follow the reply."""
     if hears_its_caller(run.words):
         return talk_of(peer)
     answers, events = [], []
@@ -189,8 +189,7 @@ def turns_of(run, peer):
 
 
 def talk_of(peer):
-    """Each request with what is given from its reply on, up to the next one: the reply, and then events. What is given to no request
-    comes after the last one."""
+    """Each request with what is given from its reply on, up to the next one: the reply, and then events."""
     answers = []
     for item in replies_of(peer):
         if item.kind == "event" and answers:

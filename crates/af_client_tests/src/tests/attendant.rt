@@ -164,7 +164,7 @@ static ROWS: [Row<'static>; 8] = [
     },
 ];
 
-// A start, by the words of its command line.
+// A start, by its command line.
 fn as_begun(words: &Words) -> Seen<'_> {
     match words.as_slice() {
         [env, server, device, call, digits, shell, flag, text]
@@ -224,8 +224,8 @@ fn a_machine_hears_its_caller(rt: HostRuntime) -> Result<(), Fail> {
     Ok(())
 }
 
-// The calls of the link up to the first command, of which each in turn fails. A request is one write. A message is two reads of its
-// header, and one read for each 7 bytes of its body.
+// The calls of the link up to the first command, of which each in turn fails. A request is one write. A message is two reads of
+// its header, and one read for each 7 bytes of its body.
 const CALLS_BEFORE: u64 = 20;
 
 #[test]

@@ -9,8 +9,9 @@ use std::alloc::Global;
 use std::process::Abort;
 use std::test::Fail;
 
-// What a log is given: two of its options, what its commands do, the times that the replies to its blocks tell, whether the context
-// is freed, and which writes of the sink fail. Then what comes of it: how it ends, how many bytes its commands took, and its lines.
+// What a log is given: two of its options, what its commands do, the times that the replies to its blocks tell, whether the
+// context is freed, and which writes of the sink fail. Then what comes of it: how it ends, how many bytes its commands took, and
+// its lines.
 #[derive(Clone, Copy)]
 struct Row<'a> {
     what: &'a str,

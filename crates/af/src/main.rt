@@ -14,7 +14,7 @@ use af_details::{
     states_option, tell_answer, tell_events, tell_log, tell_meter, tell_no_text, tell_output,
     tell_tool, tell_typed,
 };
-use af_environment::{Named, completed_words, named, server_variable, tell_server_variable};
+use af_environment::{Named, completed_words, named_tool, server_variable, tell_server_variable};
 use af_events::{EventsEnd, events_run};
 use af_io::{
     Args, StdSink, StdSource, TcpDial, WordsFault, open_standard_streams, program_words,
@@ -187,7 +187,7 @@ fn run_with_server(rt: &HostRuntime, stated: Args, details: bool) -> u8 {
 
 // Runs the tool that the arguments name. It answers the exit status, and the end of a tool that means the same.
 fn run_tool(rt: &HostRuntime, words: &Args, details: bool) -> (u8, Option<ToolEnd>) {
-    match named(words) {
+    match named_tool(words) {
         Named::Attendant => {
             let end = attend_hearing(rt, words, details);
             (answer_status_of(end), as_tool_end(end))
@@ -224,7 +224,7 @@ fn run_tool(rt: &HostRuntime, words: &Args, details: bool) -> (u8, Option<ToolEn
 
 // For how many seconds the arguments have a refused dial tried again. Those that ask for nothing dial nobody.
 fn wait_of(rt: &HostRuntime, words: &Args) -> u32 {
-    match named(words) {
+    match named_tool(words) {
         Named::Attendant => match af_attendant::call_of(rt.alloc(), words) {
             Ok(call) => call.wait,
             Err(_) => 0,

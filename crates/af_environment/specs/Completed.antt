@@ -27,8 +27,8 @@ with_server server [] = []
 with_server server (name ∷ words) = name ∷ server ∷ words
 
 -- what the words name
-abbrev pub named : List (List ℕ) → Named
-named words =
+abbrev pub named_tool : List (List ℕ) → Named
+named_tool words =
     if names_attendant words then tool.Attendant
     else if names_answer words then tool.Answer
     else if names_events words then tool.Events
@@ -47,7 +47,7 @@ asks_as tool.Log words = is_some (log_call words)
 asks_as tool.Other words = is_some (job words)
 
 unfoldable pub asks : List (List ℕ) → Bool
-asks words = asks_as (named words) words
+asks words = asks_as (named_tool words) words
 
 -- the words are valid, so that they are never Usage
 abbrev pub is_valid_as : Named → List (List ℕ) → Bool
@@ -59,7 +59,7 @@ is_valid_as tool.Log words = is_log_spelled words
 is_valid_as tool.Other words = is_spelled words
 
 unfoldable pub is_valid : List (List ℕ) → Bool
-is_valid words = is_valid_as (named words) words
+is_valid words = is_valid_as (named_tool words) words
 
 -- these words were run: the stated ones with the text of the variable put in, and they ask for something
 pub record IsPutIn (server : Option (List ℕ)) (words run : List (List ℕ)) : Type 0 where

@@ -2,7 +2,7 @@
 ghost use Rattle.std.specs.Prelude.{◌≡◌, true, false, Err, IfOk};
 ghost use Rattle.af_environment.specs.Completed.{asks, is_valid};
 
-use crate::named::{Named, named};
+use crate::named::{Named, named_tool};
 use af_cli::OptionsFault;
 use af_io::Args;
 use std::alloc::Global;
@@ -13,7 +13,7 @@ pub(crate) fn judged(alloc: Global, words: &Args) -> Result<(), OptionsFault>
     ensures asks { IfOk result (λ _. asks words.now ≡ true) }
     ensures usage { result ≡ Err OptionsFault.Usage → is_valid words.now ≡ false }
 {
-    match named(words) {
+    match named_tool(words) {
         Named::Attendant => match af_attendant::call_of(alloc, words) {
             Ok(_) => Ok(()),
             Err(fault) => Err(fault),

@@ -7,5 +7,5 @@ mod named;
 mod variable;
 
 pub use completed::completed_words;
-pub use named::{Named, named};
+pub use named::{Named, named_tool};
 pub use variable::{ServerVariable, server_variable, tell_server_variable};

@@ -1,6 +1,6 @@
 // Which tool words name.
 ghost use Rattle.std.specs.Prelude.{◌≡◌};
-ghost use Rattle.af_environment.specs.Completed.{named};
+ghost use Rattle.af_environment.specs.Completed.{named_tool};
 
 use af_answer::names_answer;
 use af_attendant::names_attendant;
@@ -24,8 +24,8 @@ pub enum Named {
 }
 
 /// What these words name.
-pub fn named(words: &Args) -> Named
-    ensures { result ≡ named words.now }
+pub fn named_tool(words: &Args) -> Named
+    ensures { result ≡ named_tool words.now }
 {
     if names_attendant(words) {
         Named::Attendant

@@ -45,7 +45,7 @@ _audiofile() {
         words='--blocks=1..1000000 --from-device=0..7 --to-device=0..7 --type=mu255|alaw|lin16|lin32 --gain=-30..30 --block=1..4000 --delay=0..3000 --slack=0..3000 --follow --order=big|little --wait=0..3600'
         ;;
     "af answer")
-        words='--calls=1..1000 --greeting=COMMAND --message=COMMAND --device=0..7 --rings=1..20 --until=COMMAND --hang-up --wait=0..3600'
+        words='--calls=1..1000 --greeting=COMMAND --message=COMMAND --device=0..7 --rings=1..20 --until=DIGITS --hang-up --wait=0..3600'
         ;;
     "af events")
         words='--device=0..7|all --kinds=ring,digit,loop,hook --count=1..1000000 --for=1..86400000 --order=big|little --wait=0..3600'

@@ -185,25 +185,33 @@ fn replies(alloc: Global, row: &Row<'_>) -> Result<Vec<u8>, Fail> {
     Ok(bytes)
 }
 
-// A command was started for the piece after so many, and took so many bytes.
-fn was_handed(rt: &impl Abort, what: &str, command: &MemCommand, before: usize, took: usize) {
-    let before = before as u64;
-    let time = DevTime(16u32.wrapping_add(8000u32.wrapping_mul(before as u32)));
+// A command was started for the piece with a number and a time, and took so many bytes.
+fn was_handed(
+    rt: &impl Abort,
+    what: &str,
+    command: &MemCommand,
+    (number, time): (u64, DevTime),
+    took: usize,
+) {
     holds(rt, what, command.text.as_str() == "c");
-    holds(rt, what, command.terms.number == before.wrapping_add(1));
+    holds(rt, what, command.terms.number == number);
     holds(rt, what, command.terms.time == time);
     holds(rt, what, command.terms.frames == 8000);
     holds(rt, what, command.taken.len() == took);
     holds(rt, what, command.closed);
 }
 
-// So many commands were started, and all have ended.
+// So many commands were started, each for the piece after that of the one before, and all have ended.
 fn were_handed(rt: &impl Abort, what: &str, commands: &MemCommands, took: &[usize]) {
     let started = commands.commands();
     holds(rt, what, started.len() == took.len());
     holds(rt, what, commands.ended() == took.len());
-    for (before, (command, took)) in started.iter().zip(took).enumerate() {
-        was_handed(rt, what, command, before, *took);
+    let mut number = 1u64;
+    let mut time = DevTime(16);
+    for (command, took) in started.iter().zip(took) {
+        was_handed(rt, what, command, (number, time), *took);
+        number = number.wrapping_add(1);
+        time = time.after(8000);
     }
 }
 

@@ -3,4 +3,8 @@ pub mod SoundLemmas
 pub mod PumpLemmas
 pub mod RunLemmas
 pub mod LoopLemmas
+pub mod DraftLemmas
+pub mod StoryLemmas
+pub mod RecordLemmas
+pub mod LoggedLemmas
 pub mod SentLemmas

@@ -18,6 +18,7 @@ pub record IsLeft (plan : Plan) (start : ℕ) (logger : Logger) (left : ℕ) : T
   pub within : left ≤ plan.frames
   pub some : 0 < left → HasLeft plan logger.last left
   pub whole : left ≡ 0 → IsWhole plan logger.last
+  pub begins : left ≡ plan.frames → IsWhole plan logger.last
   pub first : left ≡ plan.frames → logger.at.0 ≡ start
   pub later : left < plan.frames → logger.at.0 ≡ (start + (plan.frames - left)) % 2 ^ 32
 
@@ -31,6 +32,7 @@ left_begin {plan} {logger} some whole = record {
   within = omega arith;
   some = λ any. whole_left plan logger.last whole;
   whole = λ none. absurd (omega (arith, some, none));
+  begins = λ all. whole;
   first = λ all. refl;
   later = λ less. absurd (omega (arith, less));
 }
@@ -45,6 +47,7 @@ left_on {plan} {start} {old} {new} {left} {n} {piece} l any few last is at =
       within = omega (arith, w);
       some = λ more. subst (λ (o : Option Progress). HasLeft plan o (left - n)) (sym last) (more_left plan piece n left few is more);
       whole = λ none. subst (λ (o : Option Progress). IsWhole plan o) (sym last) (let all : piece.recorded ≡ plan.frames = omega (arith, none, few, is) in all);
+      begins = λ all. absurd (omega (arith, all, w, any, few));
       first = λ all. absurd (omega (arith, all, w, any, few));
       later = λ less. elim (cases_lt left plan.frames) [
         | inl before ↦

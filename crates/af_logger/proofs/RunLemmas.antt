@@ -15,7 +15,7 @@ use Rattle.af_toolkit.specs.Ends.{client_of}
 use Rattle.af_toolkit.specs.ToolParts.{LinkSight}
 use Rattle.af_toolkit.proofs.ToolPartLemmas.{client_begun, on_link, setup_known}
 use Rattle.af_logger.specs.declared.job.LogJob.{LogJob}
-use Rattle.af_logger.specs.Logged.{SentBy, device_of}
+use Rattle.af_logger.specs.Logged.{RanBy, device_of}
 use Rattle.af_logger.specs.LogWords.{LogWords, log_call, words_of_job}
 use Rattle.af_logger.specs.LogRun.{IsNotSetUp, RanAsked, RanOver, Seen}
 
@@ -33,7 +33,7 @@ starved order input sent = inl (refl, record { front = []; rest = setup_bytes or
 -- one that was
 pub set_up_ran : {L : Type 0} {order : Order} {left sent : L → Option (List ℕ)} {faults : L → ℕ} (job : LogJob) {input : List ℕ} {far : L} (conn : ConnState L) {how : ToolEnd} (s' : Option (List ℕ)) {seen seen' : Seen} →
     conn.order ≡ order → conn.sequence ≡ 0 → IsSetUp order left sent faults far conn.link conn.ring (Ok conn.devices) → left far ≡ Some input →
-    ((i : List ℕ) → left conn.link ≡ Some i → SentBy (device_of job conn.devices) job (client_of conn i) how (sent conn.link) s') → RanOver order job input how (sent far) s' seen seen'
+    ((i : List ℕ) → left conn.link ≡ Some i → RanBy (device_of job conn.devices) job (client_of conn i) how (sent conn.link) s' seen.desk seen'.desk seen.held seen'.held) → RanOver order job input how (sent far) s' seen seen'
 set_up_ran {order = order} {left} {sent} {faults} job {input} {far} conn {how} s' {seen} {seen'} same first is told ran =
     let k = setup_known order left sent faults far conn.link conn.ring input (Ok conn.devices) is told (λ e. cc e) in
     let place : client_of conn k.0 ≡ client_after_setup order input = client_begun order conn k.0 same first ∙ k.3 in
@@ -42,7 +42,7 @@ set_up_ran {order = order} {left} {sent} {faults} job {input} {far} conn {how} s
       sent conn.link,
       sym k.2,
       is.sends.whole (λ e. cc e),
-      subst (λ (w : ClientState). SentBy (device_of job conn.devices) job w how (sent conn.link) s') place (ran k.0 k.1),
+      subst (λ (w : ClientState). RanBy (device_of job conn.devices) job w how (sent conn.link) s' seen.desk seen'.desk seen.held seen'.held) place (ran k.0 k.1),
     )
 
 -- the first link of a dial

@@ -9,17 +9,21 @@ use Rattle.af_toolkit.specs.Trace.{ClientState, done, ends}
 use Rattle.af_toolkit.specs.Ends.{ObservedTrace, ToolRan, is_of_link_or_sink}
 use Rattle.af_toolkit.proofs.ToolEndLemmas.{part_finish, tool_ran}
 use Rattle.af_logger.specs.declared.job.LogJob.{LogJob}
-use Rattle.af_logger.specs.Logged.{SentBy, is_of_log}
+use Rattle.af_logger.specs.Commands.{Desk}
+use Rattle.af_logger.specs.Logged.{RanBy, SentBy, is_of_log}
 use Rattle.af_logger.specs.Trace.{log_trace, logs_on}
 
 -- the tool ran, by its trace
-log_ran : (job : LogJob) (device : DeviceInfo) (w : ClientState) {how : ToolEnd} {s s' : Option (List ℕ)} → ObservedTrace (log_trace job device w) how s s' None None → ToolRan ⊤ (log_trace job device w) how s s' None None
+pub log_ran : (job : LogJob) (device : DeviceInfo) (w : ClientState) {how : ToolEnd} {s s' : Option (List ℕ)} → ObservedTrace (log_trace job device w) how s s' None None → ToolRan ⊤ (log_trace job device w) how s s' None None
 unfolding log_trace tool_ran
 log_ran job device w f = tool_ran f (λ _. part_finish (logs_on job device w).end (λ _. ends done) (λ _. inl refl))
 
 -- the device is missing
 pub missing_sent : {r : Result DeviceInfo ToolEnd} (job : LogJob) (w : ClientState) {how : ToolEnd} (s : Option (List ℕ)) → r ≡ Err how → SentBy r job w how s s
 missing_sent job w s is = rw is (refl, refl)
+
+pub missing_ran : {r : Result DeviceInfo ToolEnd} (job : LogJob) (w : ClientState) {how : ToolEnd} (s : Option (List ℕ)) (d : Option Desk) (h : Option (List ℕ)) → r ≡ Err how → RanBy r job w how s s d d h h
+missing_ran job w s d h is = rw is (refl, refl, refl, refl)
 
 -- or it is there
 pub there_sent : {r : Result DeviceInfo ToolEnd} (job : LogJob) {device : DeviceInfo} (w : ClientState) {how : ToolEnd} {s s' : Option (List ℕ)} → r ≡ Ok device → ObservedTrace (log_trace job device w) how s s' None None → SentBy r job w how s s'

@@ -1,12 +1,14 @@
 -- What a logger keeps between two blocks.
-use Rattle.std.specs.Prelude.{◌<◌, Result, Err, ◌≡◌, ◌≤◌, ◌⊎◌, ⊤, ℕ, ◌+◌, ◌==◌, Bool, true, is_some, IsSome, IfSome, Option, None, Some}
-use Rattle.af_io.specs.Observed.{FaultCounted}
+use Rattle.std.specs.Prelude.{◌<◌, Result, Err, ◌≡◌, ◌≤◌, ◌⊎◌, ⊤, ℕ, ◌+◌, ◌-◌, ◌==◌, Bool, true, false, is_some, IsSome, IfSome, Option, None, Some, List}
+use Rattle.af_io.specs.Flow.{AppendedPrefix}
+use Rattle.af_io.specs.Observed.{Appended, FaultCounted}
 use Rattle.af_logger.specs.declared.logger.Logger.{Logger}
 use Rattle.af_logger.specs.declared.plan.Plan.{Plan}
 use Rattle.af_logger.specs.declared.progress.Progress.{Progress}
 use Rattle.af_toolkit.specs.declared.end.ToolEnd.{ToolEnd}
 use Rattle.af_toolkit.specs.declared.end.ToolEnd.TheVariants as tool
-use Rattle.af_logger.specs.Commands.{Command, Desk, IfSeen, IsClosed}
+use Rattle.af_logger.specs.Commands.{Changed, Command, Desk, IfSeen, IsClosed, ended}
+use Rattle.af_logger.specs.Pieces.{line_text}
 use Rattle.af_logger.specs.Plans.{IsPlan}
 
 -- no more was handed than recorded, no more lost than handed, and no more recorded than a piece has
@@ -80,3 +82,29 @@ pub record LeavesLogger {C K X : Type 0} (desk : C → Option Desk) (faults : K 
   pub plan : new.plan ≡ old.plan
   pub fails : FailsBy old.failed new.failed (faults sink) (faults sink')
   pub failed : result ≡ Err tool.SinkFault → new.failed ≡ true
+
+-- the line of a piece whose command has ended with a status
+abbrev pub progress_line : Progress → (status : ℕ) → List ℕ
+progress_line piece status =
+    line_text piece.number piece.at.0 piece.handed piece.lost (piece.recorded - piece.handed) status
+
+-- A line was written, or the first of it before the sink failed. None is written after one that could not be.
+abbrev pub Tells : (before after : Bool) → List ℕ → (held held' : Option (List ℕ)) → Type 0
+Tells true after line held held' = (after ≡ true) × (held' ≡ held)
+Tells false true line held held' = AppendedPrefix held line held'
+Tells false false line held held' = Appended held line held'
+
+-- nothing has changed
+pub record Stays (old new : Logger) (desk desk' : Option Desk) (held held' : Option (List ℕ)) : Type 0 where
+  pub logger : new ≡ old
+  pub desk_of : Changed (λ d. d) desk desk'
+  pub sink : held' ≡ held
+
+-- the command that was waited for has ended, and its line was told
+pub record HasEnded (old new : Logger) (desk desk' : Option Desk) (held held' : Option (List ℕ)) : Type 0 where
+  pub piece : Progress
+  pub status : ℕ
+  pub waited : old.waiting ≡ Some piece
+  pub over : new.waiting ≡ None
+  pub desk_of : Changed (ended status) desk desk'
+  pub tells : Tells old.failed new.failed (progress_line piece status) held held'

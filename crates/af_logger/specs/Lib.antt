@@ -2,6 +2,8 @@ pub mod Plans
 pub mod Sound
 pub mod Commands
 pub mod Pieces
+pub mod Drafts
+pub mod Story
 pub mod Keeping
 pub mod Trace
 pub mod Logged

@@ -13,7 +13,7 @@ use Rattle.af_toolkit.specs.Trace.{client_after_setup, fault_end, setup_answer}
 use Rattle.af_toolkit.specs.Ends.{is_outer}
 use Rattle.af_logger.specs.declared.job.LogJob.{LogJob}
 use Rattle.af_logger.specs.Commands.{Desk}
-use Rattle.af_logger.specs.Logged.{SentBy, device_of}
+use Rattle.af_logger.specs.Logged.{RanBy, device_of}
 use Rattle.af_logger.specs.LogWords.{LogWords, words_of_job}
 
 -- what is observable of a tool beside its link: its commands, and what its sink holds
@@ -37,7 +37,8 @@ RanOver order job input how sent sent' seen seen' =
     (IsNotSetUp order input how sent sent' × (seen' ≡ seen))
     ⊎ ((devices : List DeviceInfo) × (begun : Option (List ℕ)) × (setup_answer order input ≡ Ok devices)
     × Appended sent (setup_bytes order) begun
-    × SentBy (device_of job devices) job (client_after_setup order input) how begun sent')
+    × RanBy (device_of job devices) job (client_after_setup order input) how begun sent'
+    seen.desk seen'.desk seen.held seen'.held)
 
 -- the server could not be dialled, or there was no memory for that
 abbrev pub IsUndialled : ToolEnd → Type 0

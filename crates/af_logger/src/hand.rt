@@ -1,10 +1,12 @@
 // A piece goes to its command: the header, blocks, and what makes it even.
-ghost use Rattle.std.specs.Prelude.{◌≡◌, ◌≤◌, ◌<◌, ◌+◌, ◌*◌, ℕ, length};
+ghost use Rattle.std.specs.Prelude.{◌≡◌, ◌≤◌, ◌<◌, ◌+◌, ◌*◌, ◌-◌, ◌%◌, ◌^◌, ◌==◌, ◌++◌, min, ◌∷◌, ℕ, List, [], true, length, take};
 ghost use Rattle.std.specs.declared.option.Option.TheVariants.{Some};
-ghost use Rattle.af_logger.specs.Commands.{IfSeen, IsOpen};
+ghost use Rattle.af_logger.specs.Commands.{handed, Changed, IfSeen, IsOpen};
+ghost use Rattle.af_logger.specs.Drafts.{came_as, draft, took_by, with_block, Draft, IsDraft, IsTold, StandsFor};
 ghost use Rattle.af_logger.specs.Keeping.{FailsBy, HasLeft, IsDeskOf, IsLastClosed, IsLogger, IsOf, IsProgress, IsWhole, KeepsWaiting};
 ghost use Rattle.af_logger.specs.declared.progress.Progress.{Progress as AProgress};
 ghost use Rattle.af_logger.specs.Plans.{frame_size, IsPlan};
+ghost use Rattle.af_logger.specs.Story.{Continues, IsPlaced, NextBegun};
 
 use crate::block::Came;
 use crate::commands::{Commands, PieceTerms};
@@ -39,10 +41,13 @@ pub fn patience(plan: &Plan, behind: u32) -> u32
 // Hands the header to a command.
 fn hand_head<C: Commands>(plan: &Plan, piece: Progress, patience: u32, commands: &mut C) -> Progress
     requires plan { IsPlan plan.now }
+    requires begins { (piece.recorded ≡ 0) × (piece.handed ≡ 0) × (piece.lost ≡ 0) }
     requires desk { IfSeen IsOpen (C.desk commands.old) }
     ensures same { result ≡ record piece { cut = result.cut } }
     ensures waits { KeepsWaiting (C.desk commands.old) (C.desk commands.new) }
     ensures desk { IfSeen IsOpen (C.desk commands.new) }
+    ensures taken { (bytes : List ℕ) × Changed (handed bytes) (C.desk commands.old) (C.desk commands.new)
+        × IsDraft plan.now result (draft [] bytes) }
 {
     let mut room = [0; HEAD_ROOM];
     let size = write_head(plan, &mut room);
@@ -69,6 +74,10 @@ fn begin_piece<C: Commands, K: Sink>(
     ensures desk { IfSeen (λ desk. IsDeskOf logger.new desk) (C.desk commands.new) }
     ensures same { (logger.new.plan ≡ logger.old.plan) × (logger.new.at ≡ logger.old.at) }
     ensures last { (logger.new.last ≡ Some result) × (result.recorded ≡ 0) }
+    ensures at { result.at ≡ logger.old.at }
+    ensures begun { logger.new.begun ≡ min (logger.old.begun + 1) (2 ^ 64 - 1) }
+    ensures story { Continues task.now.job.now [] logger.old logger.new (C.desk commands.old) (C.desk commands.new)
+        (K.held sink.old) (K.held sink.new) }
     ensures fails { FailsBy logger.old.failed logger.new.failed (K.faults sink.old) (K.faults sink.new) }
 {
     logger.finish(Some(patience), commands, sink);
@@ -101,6 +110,11 @@ fn open_piece<C: Commands, K: Sink>(
     ensures same { (logger.new.plan ≡ logger.old.plan) × (logger.new.at ≡ logger.old.at) }
     ensures last { (logger.new.last ≡ Some result) × (result.recorded < logger.old.plan.frames) }
     ensures left { (left : ℕ) → HasLeft logger.old.plan logger.old.last left → result.recorded + left ≡ logger.old.plan.frames }
+    ensures placed { (start : ℕ) → IsPlaced start logger.old.at.0 logger.old.last → (n : ℕ) →
+        (result.at.0 + result.recorded + n) % 2 ^ 32 ≡ (logger.old.at.0 + n) % 2 ^ 32 }
+    ensures begun { NextBegun logger.old.plan logger.old.last logger.old.begun logger.new.begun }
+    ensures story { Continues task.now.job.now [] logger.old logger.new (C.desk commands.old) (C.desk commands.new)
+        (K.held sink.old) (K.held sink.new) }
     ensures fails { FailsBy logger.old.failed logger.new.failed (K.faults sink.old) (K.faults sink.new) }
 {
     match logger.last {
@@ -109,7 +123,22 @@ fn open_piece<C: Commands, K: Sink>(
     }
 }
 
-// Hands the frames of a block to the command of their piece, unless that has taken no more.
+// Hands bytes to the command of a piece, unless that has taken no more, and answers how many it took.
+fn hand_more<C: Commands>(piece: Progress, bytes: &[u8], patience: u32, commands: &mut C) -> usize
+    requires desk { IfSeen IsOpen (C.desk commands.old) }
+    ensures bound { result ≤ length bytes.now }
+    ensures cut { piece.cut ≡ true → result ≡ 0 }
+    ensures waits { KeepsWaiting (C.desk commands.old) (C.desk commands.new) }
+    ensures desk { IfSeen IsOpen (C.desk commands.new) }
+    ensures taken { Changed (handed (take result bytes.now)) (C.desk commands.old) (C.desk commands.new) }
+{
+    if piece.cut {
+        return 0;
+    }
+    commands.hand(bytes, patience)
+}
+
+// Hands the frames of a block to the command of their piece.
 fn hand_frames<C: Commands>(
     plan: &Plan,
     piece: Progress,
@@ -120,19 +149,19 @@ fn hand_frames<C: Commands>(
     requires plan { IsPlan plan.now }
     requires piece { IsProgress plan.now piece }
     requires fits { piece.recorded + came.frames ≤ plan.now.frames }
+    requires some { 1 ≤ came.frames }
     requires lost { came.lost ≤ came.frames }
     requires samples { length samples.now ≡ came.frames * frame_size plan.now }
     requires desk { IfSeen IsOpen (C.desk commands.old) }
     ensures piece { IsProgress plan.now result }
+    ensures same { (result.number ≡ piece.number) × (result.at ≡ piece.at) }
     ensures recorded { result.recorded ≡ piece.recorded + came.frames }
     ensures waits { KeepsWaiting (C.desk commands.old) (C.desk commands.new) }
     ensures desk { IfSeen IsOpen (C.desk commands.new) }
+    ensures taken { (bytes : List ℕ) × Changed (handed bytes) (C.desk commands.old) (C.desk commands.new)
+        × ((d : Draft) → IsDraft plan.now piece d → IsDraft plan.now result (with_block d (came_as came samples.now) bytes)) }
 {
-    let took = if piece.cut {
-        0
-    } else {
-        commands.hand(samples, patience(plan, came.behind))
-    };
+    let took = hand_more(piece, samples, patience(plan, came.behind), commands);
     let handed = (took / plan.frame_bytes()) as u32;
     Progress {
         recorded: piece.recorded + came.frames,
@@ -149,11 +178,10 @@ fn close_piece<C: Commands>(plan: &Plan, piece: Progress, patience: u32, command
     requires desk { IfSeen IsOpen (C.desk commands.old) }
     ensures waits { KeepsWaiting (C.desk commands.old) (C.desk commands.new) }
     ensures closed { IfSeen IsLastClosed (C.desk commands.new) }
+    ensures taken { (bytes : List ℕ) × Changed (took_by bytes true) (C.desk commands.old) (C.desk commands.new)
+        × ((d : Draft) → IsDraft plan.now piece d → IsTold plan.now piece (draft d.blocks (d.taken ++ bytes))) }
 {
-    let pad = pad_of(plan);
-    if !piece.cut && !pad.is_empty() {
-        commands.hand(pad, patience);
-    }
+    hand_more(piece, pad_of(plan), patience, commands);
     commands.close();
 }
 
@@ -168,13 +196,18 @@ fn hand_block<C: Commands>(
     requires plan { IsPlan plan.now }
     requires piece { IsProgress plan.now piece }
     requires fits { piece.recorded + came.frames ≤ plan.now.frames }
+    requires some { 1 ≤ came.frames }
     requires lost { came.lost ≤ came.frames }
     requires samples { length samples.now ≡ came.frames * frame_size plan.now }
     requires desk { IfSeen IsOpen (C.desk commands.old) }
     ensures piece { IsProgress plan.now result }
+    ensures same { (result.number ≡ piece.number) × (result.at ≡ piece.at) }
     ensures recorded { result.recorded ≡ piece.recorded + came.frames }
     ensures waits { KeepsWaiting (C.desk commands.old) (C.desk commands.new) }
     ensures desk { IfSeen (λ desk. IsOf plan.now (Some result) desk.last) (C.desk commands.new) }
+    ensures taken { (bytes : List ℕ)
+        × Changed (took_by bytes (result.recorded == plan.now.frames)) (C.desk commands.old) (C.desk commands.new)
+        × ((d : Draft) → IsDraft plan.now piece d → StandsFor plan.now result (with_block d (came_as came samples.now) bytes)) }
 {
     let piece = hand_frames(plan, piece, came, samples, commands);
     if piece.recorded == plan.frames {
@@ -195,6 +228,7 @@ pub fn hand_on<C: Commands, K: Sink>(
     requires logger { IsLogger logger.old }
     requires desk { IfSeen (λ desk. IsDeskOf logger.old desk) (C.desk commands.old) }
     requires left { (left : ℕ) × HasLeft logger.old.plan logger.old.last left × (came.frames ≤ left) }
+    requires some { 1 ≤ came.frames }
     requires lost { came.lost ≤ came.frames }
     requires samples { length samples.now ≡ came.frames * frame_size logger.old.plan }
     ensures logger { IsLogger logger.new }
@@ -202,6 +236,11 @@ pub fn hand_on<C: Commands, K: Sink>(
     ensures same { (logger.new.plan ≡ logger.old.plan) × (logger.new.at ≡ logger.old.at) }
     ensures last { (p : AProgress) × (logger.new.last ≡ Some p)
         × ((left : ℕ) → HasLeft logger.old.plan logger.old.last left → p.recorded + left ≡ logger.old.plan.frames + came.frames) }
+    ensures placed { (start : ℕ) → IsPlaced start logger.old.at.0 logger.old.last →
+        IsPlaced start ((logger.old.at.0 + came.frames) % 2 ^ 32) logger.new.last }
+    ensures begun { NextBegun logger.old.plan logger.old.last logger.old.begun logger.new.begun }
+    ensures story { Continues task.now.job.now (came_as came samples.now ∷ []) logger.old logger.new
+        (C.desk commands.old) (C.desk commands.new) (K.held sink.old) (K.held sink.new) }
     ensures fails { FailsBy logger.old.failed logger.new.failed (K.faults sink.old) (K.faults sink.new) }
 {
     let plan = logger.plan;

@@ -1,9 +1,12 @@
 // What a logger knows between two blocks, and the lines that it writes.
-ghost use Rattle.std.specs.Prelude.{◌≡◌, ◌≤◌, false, true};
+ghost use Rattle.std.specs.Prelude.{◌≡◌, ◌≤◌, ◌⊎◌, false, true, List};
 ghost use Rattle.std.specs.declared.option.Option.TheVariants.{None};
 ghost use Rattle.af_logger.specs.Commands.{IfSeen};
-ghost use Rattle.af_logger.specs.Keeping.{AwaitsNone, AwaitsOf, FailsBy, IsDeskOf, IsLogger};
+ghost use Rattle.af_logger.specs.Keeping.{progress_line, AwaitsNone, AwaitsOf, FailsBy, HasEnded, IsDeskOf, IsLogger, Stays, Tells};
+ghost use Rattle.af_logger.specs.Pieces.{Block};
 ghost use Rattle.af_logger.specs.Plans.{IsPlan};
+ghost use Rattle.af_logger.specs.Story.{HasGone, HasStory, Origin};
+ghost use Rattle.af_logger.specs.declared.job.LogJob.{LogJob as AJob};
 
 use crate::commands::Commands;
 use crate::line::{LINE_ROOM, write_line};
@@ -49,6 +52,7 @@ impl Logger {
         ensures same { self.new ≡ record (self.old) { failed = self.new.failed } }
         ensures stays { self.old.failed ≡ true → self.new.failed ≡ true }
         ensures fails { FailsBy self.old.failed self.new.failed (K.faults sink.old) (K.faults sink.new) }
+        ensures line { Tells self.old.failed self.new.failed (progress_line piece status) (K.held sink.old) (K.held sink.new) }
     {
         if self.failed {
             return;
@@ -69,6 +73,8 @@ impl Logger {
         ensures same { self.new ≡ record (self.old) { waiting = self.new.waiting; failed = self.new.failed } }
         ensures stays { self.old.failed ≡ true → self.new.failed ≡ true }
         ensures fails { FailsBy self.old.failed self.new.failed (K.faults sink.old) (K.faults sink.new) }
+        ensures ended { Stays self.old self.new (C.desk commands.old) (C.desk commands.new) (K.held sink.old) (K.held sink.new)
+            ⊎ HasEnded self.old self.new (C.desk commands.old) (C.desk commands.new) (K.held sink.old) (K.held sink.new) }
     {
         let Some(piece) = self.waiting else {
             return;
@@ -93,6 +99,8 @@ impl Logger {
         ensures same { self.new ≡ record (self.old) { waiting = None; failed = self.new.failed } }
         ensures stays { self.old.failed ≡ true → self.new.failed ≡ true }
         ensures fails { FailsBy self.old.failed self.new.failed (K.faults sink.old) (K.faults sink.new) }
+        ensures ended { Stays self.old self.new (C.desk commands.old) (C.desk commands.new) (K.held sink.old) (K.held sink.new)
+            ⊎ HasEnded self.old self.new (C.desk commands.old) (C.desk commands.new) (K.held sink.old) (K.held sink.new) }
     {
         let Some(piece) = self.waiting else {
             return;
@@ -108,6 +116,9 @@ impl Logger {
         requires desk { IfSeen (λ desk. IsDeskOf self.old desk) (C.desk commands.old) }
         ensures stays { self.old.failed ≡ true → self.new.failed ≡ true }
         ensures fails { FailsBy self.old.failed self.new.failed (K.faults sink.old) (K.faults sink.new) }
+        ensures gone { (job : AJob) → (o : Origin) → (blocks : List Block) →
+            HasStory false job o blocks self.old (C.desk commands.old) (K.held sink.old) →
+            HasGone job o blocks self.old self.new.failed (C.desk commands.new) (K.held sink.new) }
     {
         let Some(piece) = self.last else {
             return;

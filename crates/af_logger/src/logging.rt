@@ -1,18 +1,19 @@
 // log: a device is recorded in pieces, and each is handed to a command.
-ghost use Rattle.std.specs.Prelude.{◌≡◌, ◌≤◌, ◌↔◌, ℕ, length, slice_get, true, Err, IfErr};
-ghost use Rattle.std.specs.declared.option.Option.TheVariants.{None};
+ghost use Rattle.std.specs.Prelude.{◌≡◌, ◌≤◌, ◌↔◌, ℕ, length, slice_get, true, Err, IfErr, IsOk, List};
+ghost use Rattle.std.specs.declared.option.Option.TheVariants.{None, Some};
 ghost use Rattle.af_io.specs.Observed.{CountsFault};
 ghost use Rattle.af_cli.specs.Sizes.{greatest_block};
 ghost use Rattle.af_request.specs.Replies.{IsDeviceInfo};
 ghost use Rattle.af_request.specs.declared.reply.DeviceInfo.{DeviceInfo};
 ghost use Rattle.af_lib.specs.Calls.{device_channels};
-ghost use Rattle.af_toolkit.specs.Ends.{is_of_link_or_sink, KeepsConnection};
+ghost use Rattle.af_toolkit.specs.Ends.{client_of, is_of_link_or_sink, KeepsConnection};
 ghost use Rattle.af_toolkit.specs.Talk.{creates};
-ghost use Rattle.af_toolkit.specs.ToolParts.{GoesOver};
+ghost use Rattle.af_toolkit.specs.ToolParts.{GoesOver, link_sight};
 ghost use Rattle.af_logger.specs.Commands.{IfSeen, NoneRuns};
-ghost use Rattle.af_logger.specs.Logged.{is_of_log, RunsSent};
+ghost use Rattle.af_logger.specs.Logged.{is_of_log, RunsLogger, RunsSent};
 ghost use Rattle.af_logger.specs.Keeping.{IsDeskOf, IsLogger, IsWhole, LeavesLogger};
 ghost use Rattle.af_logger.specs.Plans.{count_of, plan_of, IsLogJob, IsPlan};
+ghost use Rattle.af_logger.specs.Story.{HasLogged, Records};
 ghost use Rattle.af_logger.specs.Trace.{log_context, logs_all, logs_on, start_of};
 
 use crate::commands::Commands;
@@ -73,6 +74,11 @@ fn log_all<L: Link + Drop, C: Commands, K: Sink>(
     ensures holds { KeepsConnection L.left L.faults conn.old conn.new result }
     ensures end { IfErr result (λ how. is_of_link_or_sink how ≡ true) }
     ensures leaves { LeavesLogger C.desk K.faults logger.old logger.new commands.new sink.old sink.new result }
+    ensures records { Records (logger.old.begun ≡ 0) ⊥ task.now.job.now logger.old logger.new
+        (link_sight L.left L.sent conn.old) (link_sight L.left L.sent conn.new) (C.desk commands.old) (C.desk commands.new)
+        (K.held sink.old) (K.held sink.new) }
+    ensures whole { IsOk result → IsWhole logger.new.plan logger.new.last }
+    ensures begun { IsOk result → logger.old.begun ≡ 0 → logger.new.begun ≡ count_of task.now.job.now }
 {
     log_pieces(task, logger, conn, commands, sink, room)?;
     finish(conn)
@@ -97,6 +103,9 @@ fn log_on<L: Link + Drop, C: Commands, K: Sink>(
     ensures holds { KeepsConnection L.left L.faults conn.old conn.new result }
     ensures end { IfErr result (λ how. is_of_link_or_sink how ≡ true) }
     ensures fault { CountsFault (result ≡ Err ToolEnd.SinkFault) (K.faults sink.old) (K.faults sink.new) }
+    ensures logged { (input : List ℕ) → L.left conn.old.link ≡ Some input →
+        HasLogged task.now.job.now device (client_of conn.old input) result (C.desk commands.old) (C.desk commands.new)
+        (K.held sink.old) (K.held sink.new) }
 {
     let plan = plan_of(task.job, device);
     let now = begin(conn, context_of(task.job, &plan))?;
@@ -127,6 +136,11 @@ pub fn log<L: Link + Drop, C: Commands, K: Sink>(
 
     // on its link it does as its trace
     ensures sent { RunsSent L.left L.sent job.now result conn.old conn.new }
+
+    // what was sent, which pieces came, what each command was started with and took, which lines were written, and when it is
+    // done
+    ensures ran { RunsLogger L.left L.sent C.desk K.held job.now result conn.old conn.new
+        commands.old commands.new sink.old sink.new }
 
     // each end has its cause: NoDevice, with the number of devices, exactly if the device is missing
     ensures end { is_of_log result ≡ true }

@@ -1,13 +1,14 @@
 // Blocks are recorded, one after another, and handed on in pieces.
-ghost use Rattle.std.specs.Prelude.{◌≡◌, ◌≤◌, ◌<◌, ◌+◌, ◌*◌, ◌%◌, ◌^◌, ℕ, length, true, Err, IfErr, IsOk};
+ghost use Rattle.std.specs.Prelude.{◌≡◌, ◌≤◌, ◌<◌, ◌+◌, ◌-◌, ◌*◌, ◌%◌, ◌^◌, ℕ, min, length, true, Err, IfErr, IsOk};
 ghost use Rattle.std.specs.declared.option.Option.TheVariants.{None, Some};
 ghost use Rattle.af_cli.specs.Sizes.{greatest_block};
 ghost use Rattle.af_toolkit.specs.Ends.{is_of_link_or_sink, KeepsConnection};
-ghost use Rattle.af_toolkit.specs.ToolParts.{GoesOver};
+ghost use Rattle.af_toolkit.specs.ToolParts.{GoesOver, link_sight};
 ghost use Rattle.af_logger.specs.Commands.{IfSeen};
 ghost use Rattle.af_logger.specs.Keeping.{HasLeft, IsDeskOf, IsLogger, IsWhole, LeavesLogger};
 ghost use Rattle.af_logger.specs.declared.progress.Progress.{Progress as AProgress};
 ghost use Rattle.af_logger.specs.Plans.{count_of, frame_size};
+ghost use Rattle.af_logger.specs.Story.{CanBegin, NextBegun, Records};
 ghost use Rattle.af_logger.specs.Trace.{block_lengths, takes_blocks, takes_one, takes_pieces};
 
 use crate::block::record_block;
@@ -31,6 +32,7 @@ fn log_block<L: Link + Drop, C: Commands, K: Sink>(
     requires usable { conn.old.cause ≡ None }
     requires logger { IsLogger logger.old }
     requires desk { IfSeen (λ desk. IsDeskOf logger.old desk) (C.desk commands.old) }
+    requires some { 1 ≤ frames }
     requires left { (left : ℕ) × HasLeft logger.old.plan logger.old.last left × (frames ≤ left) }
     requires size { (length room.old ≡ frames * frame_size logger.old.plan) × (length room.old ≤ greatest_block) }
     ensures goes { GoesOver L.left L.sent conn.old conn.new (takes_one logger.old.plan logger.old.at.0 frames) result }
@@ -40,6 +42,10 @@ fn log_block<L: Link + Drop, C: Commands, K: Sink>(
     ensures next { IsOk result → (logger.new.at.0 ≡ (logger.old.at.0 + frames) % 2 ^ 32)
         × (p : AProgress) × (logger.new.last ≡ Some p)
         × ((left : ℕ) → HasLeft logger.old.plan logger.old.last left → p.recorded + left ≡ logger.old.plan.frames + frames) }
+    ensures records { Records (CanBegin logger.old) (IsOk result) task.now.job.now logger.old logger.new
+        (link_sight L.left L.sent conn.old) (link_sight L.left L.sent conn.new) (C.desk commands.old) (C.desk commands.new)
+        (K.held sink.old) (K.held sink.new) }
+    ensures begun { IsOk result → NextBegun logger.old.plan logger.old.last logger.old.begun logger.new.begun }
     ensures room { length room.new ≡ length room.old }
 {
     let plan = logger.plan;
@@ -74,6 +80,10 @@ fn log_piece<L: Link + Drop, C: Commands, K: Sink>(
     ensures leaves { LeavesLogger C.desk K.faults logger.old logger.new commands.new sink.old sink.new result }
     ensures next { IsOk result → (logger.new.at.0 ≡ (logger.old.at.0 + logger.old.plan.frames) % 2 ^ 32)
         × IsWhole logger.new.plan logger.new.last }
+    ensures records { Records (logger.old.begun < 2 ^ 64 - 1) (IsOk result) task.now.job.now logger.old logger.new
+        (link_sight L.left L.sent conn.old) (link_sight L.left L.sent conn.new) (C.desk commands.old) (C.desk commands.new)
+        (K.held sink.old) (K.held sink.new) }
+    ensures begun { IsOk result → logger.new.begun ≡ min (logger.old.begun + 1) (2 ^ 64 - 1) }
     ensures room { length room.new ≡ length room.old }
 {
     let plan = logger.plan;
@@ -115,6 +125,11 @@ pub fn log_pieces<L: Link + Drop, C: Commands, K: Sink>(
     ensures holds { KeepsConnection L.left L.faults conn.old conn.new result }
     ensures end { IfErr result (λ how. is_of_link_or_sink how ≡ true) }
     ensures leaves { LeavesLogger C.desk K.faults logger.old logger.new commands.new sink.old sink.new result }
+    ensures records { Records (logger.old.begun ≡ 0) (IsOk result) task.now.job.now logger.old logger.new
+        (link_sight L.left L.sent conn.old) (link_sight L.left L.sent conn.new) (C.desk commands.old) (C.desk commands.new)
+        (K.held sink.old) (K.held sink.new) }
+    ensures whole { IsOk result → IsWhole logger.new.plan logger.new.last }
+    ensures begun { IsOk result → logger.old.begun ≡ 0 → logger.new.begun ≡ count_of task.now.job.now }
 {
     let mut left = task.job.count();
     while left > 0 {

@@ -7,7 +7,7 @@ pub returns-in-Ok-clause-ran : goal.returns-in-Ok-clause-ran
 returns-in-Ok-clause-ran g c input told =
     let e = c.in-Ok.ensures in
     let same : c.into_link.result ≡ c.log-end.new.conn.link = c.into_link.ensures in
-    rw same (set_up_ran c.args.job.now c.in-Ok.conn _ e.0 e.1 e.3 told (λ i t. c.log-end.ensures.sent i t))
+    rw same (set_up_ran c.args.job.now c.in-Ok.conn _ e.0 e.1 e.3 told (λ i t. c.log-end.ensures.ran i t))
 
 pub returns-in-Err-clause-ran : goal.returns-in-Err-clause-ran
 returns-in-Err-clause-ran g c input told =

@@ -17,6 +17,8 @@ It gives frames that are counted, by its own clock, and keeps what it is handed.
     stays                     it neither obeys SIGTERM nor goes at its end
     closes                    it closes its input
     floods                    it gives as fast as it can, or takes so, if it gives nothing
+    notes                     it notes when it took what it was handed, in NAME.notes.K
+    echoes=MS                 it gives what it was handed, so much later, as a cable from its output to its input does
 
 It leaves files in the folder in which it runs. NAME.heard.K has what the start K was handed; the first start is 0. NAME.told.K
 has when it began and ended. NAME.count.K has how many frames it was about to give, how many it had given, and how many bytes it
@@ -74,6 +76,7 @@ class Card:
         self.speed = float(self.options.get("speed", 1))
         self.period, self.jitter = (float(self.options.get(it, least)) / 1000 for it, least in (("period", 10), ("jitter", 0)))
         self.is_coded = "coded" in self.options
+        self.kept = bytes(self.width * (self.rate * int(self.options.get("echoes", 0)) // 1000))
         self.gives, self.takes = self.options.get("gives") != "no", self.options.get("takes", "all")
         self.promised = self.given = self.taken = 0
         self.ended = False
@@ -96,6 +99,8 @@ class Card:
                 self.start += 1
         self.heard, self.count = (
             os.open("%s.%s.%d" % (self.name, it, self.start), os.O_CREAT | os.O_WRONLY) for it in ("heard", "count"))
+        if "notes" in self.options:
+            self.notes = os.open("%s.notes.%d" % (self.name, self.start), os.O_CREAT | os.O_WRONLY)
         self.note()
         self.tell("process %d" % os.getpid(), started())
 
@@ -121,10 +126,20 @@ class Card:
             piece = min(count, MOST // self.width)
             self.promised += piece
             self.note()
-            self.hand_out(sound(self.width, self.start, self.given, piece, self.is_coded))
+            self.hand_out(self.made(piece))
             self.given += piece
             self.note()
             count -= piece
+
+    def made(self, frames):
+        """The frames that it gives next. An echo that has too few is silent for the rest, and tells so."""
+        if "echoes" not in self.options:
+            return sound(self.width, self.start, self.given, frames, self.is_coded)
+        size = frames * self.width
+        octets, self.kept = self.kept[:size], self.kept[size:]
+        if len(octets) < size:
+            self.tell("echo lacks %d" % (size - len(octets)))
+        return octets.ljust(size, b"\0")
 
     def hand_out(self, octets):
         try:
@@ -137,6 +152,7 @@ class Card:
     def take(self):
         """Takes what has come, or what its clock has counted, unless it is deaf."""
         while self.input and not self.ended and not self.is_deaf():
+            moment = time.monotonic()
             size = MOST if self.takes == "all" else min(self.width * self.due() - self.taken, MOST)
             try:
                 piece = self.input.recv(size, 0 if "floods" in self.options else socket.MSG_DONTWAIT) if size > 0 else None
@@ -149,6 +165,10 @@ class Card:
                 self.ended = True
             os.write(self.heard, piece)
             self.taken += len(piece)
+            if "notes" in self.options:
+                os.write(self.notes, struct.pack("<dQ", moment, self.taken))
+            if "echoes" in self.options:
+                self.kept += piece
             self.note()
 
     def stand_still(self):

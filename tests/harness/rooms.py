@@ -1,5 +1,6 @@
-"""Trials of tools/try-cards: one source in several rooms, each by a relay that follows the clock, and relays in a row. Each frame of
-the source has a number of its own. So it is found again in what a room was handed, with the moment at which it left."""
+"""Trials of tools/try-cards: one source in several rooms, each by a relay that follows the clock, and relays in a row.
+Each frame of the source has a number of its own. So it is found again in what a room was handed, with the moment at which it
+left."""
 
 import os
 import re
@@ -14,7 +15,7 @@ ROOMS, RELAYED, SETTLED = 8, 16, 6
 # the words of examples/rooms.conf
 WORDS = ("--follow", "--block=480", "--delay=500", "--slack=400")
 # how far apart rooms play a frame, in seconds: in the middle, and at most, which is the slack
-MIDDLE_APART, MOST_APART = 0.1, 0.4
+MIDDLE_APART, MOST_APART = 0.05, 0.4
 # how long relays in a row run, in seconds, and by how many frames what they make up for may differ from the drift
 ROW, MOST_DIFFERENT = int(os.environ.get("SECONDS_IN_A_ROW", 12)), 250
 
@@ -79,33 +80,43 @@ def rooms(trial):
 
 def in_a_row(trial):
     """Three relays in a row. The clocks of the four servers are slow and fast in turn."""
-    cards = [Card("hop%d" % at, "lin16", 48000, 2, speed=(0.999, 1.001)[at % 2], period=5, **({"echoes": 200} if at in (1, 2) else {}))
-             for at in range(4)]
+    speeds, echoes = (0.999, 1.001, 0.999, 1.001), ({}, {"echoes": 200}, {"echoes": 200}, {})
+    cards = [Card("hop%d" % at, "lin16", 48000, 2, speed=speeds[at], period=5, **echoes[at]) for at in range(4)]
     servers = [trial.serve(it) for it in cards]
     try:
         time.sleep(0.5)
-        relays = [relayed(trial, near, far, ROW, 48000) for near, far in zip(servers, servers[1:])]
+        relays = [relayed(trial, near, far, ROW, cards[0].rate) for near, far in zip(servers, servers[1:])]
         ends = [it.communicate(timeout=ROW + 20) for it in relays]
         time.sleep(1.5)
-        starved, net = waited(*(it.process.pid for it in servers)), 0
+        starved = waited(*(it.process.pid for it in servers))
         for at, (line, details) in enumerate(ends):
-            found = re.search(rb"played (\d+) frames? twice to follow the clock, left (\d+) frames? out", details)
-            doubled, without = map(int, found.groups()) if found else (-1, -1)
-            # what is recorded at 0.999 and played at 1.001 is too short
-            drift = ROW * 96 * (1 if at % 2 == 0 else -1)
-            told = "hop %d: %s: %d twice, %d left out, a drift of %d, starved for %.2f s" % (
-                at, line.decode().strip(), doubled, without, drift, starved)
-            trial.holds("it never starts afresh: " + told, line.decode().strip() == "passed %d resynced 0" % (ROW * 100))
-            trial.holds("it makes up for the drift: " + told, abs(doubled - without - drift) <= MOST_DIFFERENT + starved * 48000)
-        frames = numbers(cards[-1])
-        first = next((place for place, it in enumerate(frames) if it), 0)
-        last = max((place for place, it in enumerate(frames) if it), default=0)
-        holes = frames[first:last].count(0)
-        steps = [later - one for one, later in zip(frames[first:last], frames[first + 1:last])]
-        lacks = [it for card in cards for _, it in card.told() if "lacks" in it]
-        told = "%d frames, %d silent, steps from %s to %s, echoes that lacked some: %s" % (
-            last - first, holes, min(steps, default=None), max(steps, default=None), lacks[:3])
-        trial.holds("there is no hole: " + told, steps and holes == 0 and 0 <= min(steps) and max(steps) <= 4)
+            drift = round(ROW * cards[0].rate * (speeds[at + 1] / speeds[at] - 1))
+            is_in_step(trial, at, line.decode().strip(), details, drift, starved)
+        is_whole(trial, cards)
     finally:
         for it in servers:
             trial.ends(it)
+
+
+def is_in_step(trial, at, line, details, drift, starved):
+    """Whether a relay never started afresh, so that its delay stayed within the slack, and made up for the drift."""
+    found = re.search(rb"played (\d+) frames? twice to follow the clock, left (\d+) frames? out", details)
+    doubled, without = map(int, found.groups()) if found else (-1, -1)
+    told = "hop %d: %s: %d frames twice, %d left out, a drift of %d, starved for %.2f s" % (
+        at, line, doubled, without, drift, starved)
+    trial.holds("it never starts afresh: " + told, line == "passed %d resynced 0" % (ROW * 100))
+    some = MOST_DIFFERENT + starved * 48000
+    trial.holds("it makes up for the drift: " + told, found and abs(doubled - without - drift) <= some)
+
+
+def is_whole(trial, cards):
+    """Whether the last card was handed every frame of the first one, but those that each of the relays left out."""
+    frames = numbers(cards[-1])
+    heard = [place for place, it in enumerate(frames) if it]
+    frames = frames[heard[0]:heard[-1] + 1] if heard else ()
+    steps = [later - one for one, later in zip(frames, frames[1:])]
+    lacks = [what for card in cards for _, what in card.told() if "lacks" in what]
+    told = "%d frames, %d of them silent, steps from %s to %s, what echoes lacked: %s" % (
+        len(frames), frames.count(0), min(steps, default=None), max(steps, default=None), lacks[:3])
+    # each of the three relays leaves out one frame at most at a place
+    trial.holds("there is no hole: " + told, steps and frames.count(0) == 0 and 0 <= min(steps) and max(steps) <= 4)
